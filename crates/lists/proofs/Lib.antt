@@ -1,0 +1,6 @@
+-- The laws of `specs/`, one file a topic.
+pub mod First
+pub mod Every
+pub mod Storing
+pub mod Count
+pub mod Table
