@@ -1,0 +1,4 @@
+-- Letters, words and their codes: what the contracts of `words` and of every room above cite.
+pub mod Letter
+pub mod Word
+pub mod Turned

@@ -1,0 +1,41 @@
+// Letters and words: which byte is which letter, a word's code, its reverse complement.
+pub mod inner;
+
+ghost use mathlib.Core.Path.{_≡_};
+ghost use Rattle.lists.specs.Every.{every};
+ghost use Rattle.words.specs.Letter.{isLetter, twoBits};
+ghost use Rattle.words.specs.Turned.{turnedCode, turnsFour};
+
+// Whether a byte is a letter. No branch, so that a loop over a table becomes vector code.
+pub fn is_letter(b: u8) -> bool
+    ensures { λ r. ⌜ r ≡ isLetter b ⌝ }
+{
+    (b == b'A') | (b == b'C') | (b == b'G') | (b == b'T')
+}
+
+// Whether all bytes are letters. It looks at each of them, since leaving early costs more than it saves.
+pub fn all_letters(bytes: &[u8]) -> bool
+    ensures { λ r. ⌜ r ≡ every isLetter (now (bytes .entry)) ⌝ }
+{
+    let mut good = true;
+    let mut i = 0;
+    while i < bytes.len() {
+        good = good & is_letter(bytes[i]);
+        i += 1;
+    }
+    good
+}
+
+// The code of a letter, without a branch; of another byte some number below 4.
+pub fn letter_code(b: u8) -> u64
+    ensures { λ r. ⌜ r ≡ twoBits b ⌝ }
+{
+    (((b >> 1) & 3) ^ ((b >> 2) & 1)) as u64
+}
+
+// Four packed letters turned.
+pub fn turned_four(b: u8) -> u8
+    ensures { λ r. ⌜ r ≡ turnedCode 4 b ⌝ }
+{
+    inner::looked_up(&inner::TURNED, b)
+}
