@@ -5,10 +5,11 @@ use mathlib.Core.List.{List, [], _∷_, _++_, map}
 use Prim.Native.Nat.{ℕ, zero, suc, _+_, _<_, _≤_}
 use native.Mathlib.Nat.{not-suc-le-zero, le-of-suc-le-suc}
 use native.Mathlib.Omega.{arith}
-use lib.ListN.{length, getD, take, drop}
+use lib.ListN.{length, getD, take, drop, drop-of-length-le}
 use lib.Dec.{eqb}
 use borrow.Author.Tests.{eqb-true, eq-eqb}
 use Rattle.lists.specs.Every.{All, every, same}
+use Rattle.lists.proofs.Storing.{drop-next}
 
 -- ─── tests joined by `&&` ────────────────────────────────────────────────────
 
@@ -22,6 +23,14 @@ and-right false t e = absurd (false≢true e)
 
 pub and-both : {s t : Bool} → s ≡ true → t ≡ true → (s && t) ≡ true
 and-both e f = ap₂ (λ (a b : Bool). a && b) e f
+
+pub and-assoc : (s t u : Bool) → (s && (t && u)) ≡ ((s && t) && u)
+and-assoc true t u = refl
+and-assoc false t u = refl
+
+pub and-true : (s : Bool) → (s && true) ≡ s
+and-true true = refl
+and-true false = refl
 
 -- ─── of every element ────────────────────────────────────────────────────────
 
@@ -68,6 +77,19 @@ module _ {A : Type 0} where
   unfolding every
   all-every test [] h = refl
   all-every test (x ∷ xs) h = and-both (h .0) (all-every test xs (h .1))
+
+-- a loop that tests one element after the other: `good` is the test of those that passed
+module _ {A : Type 0} (test : A → Bool) (xs : List A) (i : ℕ) (d : A) (good : Bool) where
+  pub every-next : i < length xs → (t : Bool) → t ≡ test (getD xs i d) → every test xs ≡ (good && every test (drop i xs)) → every test xs ≡ ((good && t) && every test (drop (i + 1) xs))
+  unfolding every
+  every-next l t e q =
+      q
+      ∙ (ap (λ (ys : List A). good && every test ys) (drop-next xs i d l)
+      ∙ (and-assoc good (test (getD xs i d)) (every test (drop (i + 1) xs)) ∙ ap (λ (b : Bool). (good && b) && every test (drop (i + 1) xs)) (sym e)))
+
+  pub every-end : length xs ≤ i → every test xs ≡ (good && every test (drop i xs)) → good ≡ every test xs
+  unfolding every
+  every-end l q = sym (q ∙ (ap (λ (ys : List A). good && every test ys) (drop-of-length-le xs l) ∙ and-true good))
 
 -- ─── equal lists of numbers ──────────────────────────────────────────────────
 

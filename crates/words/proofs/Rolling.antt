@@ -13,8 +13,8 @@ use lib.ListN.{length, getD, take, drop, length-drop, length-map}
 use lib.Pow.{shl-exact}
 use lib.Seq.{take-suc, drop-cons, getD-drop, length-take-le}
 use Rattle.lists.proofs.Every.{all-take, all-drop, all-at}
-use Rattle.words.specs.Letter.{twoBits}
-use Rattle.words.specs.Word.{Letters, codeFrom, code, turn, paired}
+use Rattle.words.specs.Letter.{letter, twoBits}
+use Rattle.words.specs.Word.{Letters, code, turn, paired, spell, wordAt}
 use Rattle.words.specs.Turned.{rolled, rolledTurned}
 use Rattle.words.proofs.Codes.{code-snoc, code-cons, code-lt, code-room}
 use Rattle.words.proofs.Letters.{bits-lt}
@@ -90,6 +90,20 @@ module _ (xs : List ℕ) where
       ap (λ (v : List ℕ). code (turn v)) (take-more j (suc a) (omega arith) ∙ ap (λ (i : ℕ). w ++ (getD xs i 0 ∷ [])) p)
       ∙ (turned-roll (getD xs a 0) w (getD xs (a + suc j) 0) (all-at (λ x. x < 4) xs h a 0 (omega arith))
       ∙ ap₂ (λ (m : ℕ) (v : List ℕ). rolledTurned (suc m) (code (turn v)) (getD xs (a + suc j) 0)) n (sym (take-tail j a (omega arith))))
+
+-- the word at a position is a part of the word that all letters spell
+pub word-part : (k : ℕ) (letters : List ℕ) (a : ℕ) → wordAt k letters a ≡ take k (drop a (spell letters))
+word-part k letters a = map-take letter k (drop a letters) ∙ ap (take k) (map-drop letter a letters)
+  where
+    map-take : (f : ℕ → ℕ) (n : ℕ) (xs : List ℕ) → map f (take n xs) ≡ take n (map f xs)
+    map-take f zero xs = refl
+    map-take f (suc n) [] = refl
+    map-take f (suc n) (x ∷ xs) = ap (λ (l : List ℕ). f x ∷ l) (map-take f n xs)
+
+    map-drop : (f : ℕ → ℕ) (n : ℕ) (xs : List ℕ) → map f (drop n xs) ≡ drop n (map f xs)
+    map-drop f zero xs = refl
+    map-drop f (suc n) [] = refl
+    map-drop f (suc n) (x ∷ xs) = map-drop f n xs
 
 -- ─── masks and shifts ────────────────────────────────────────────────────────
 

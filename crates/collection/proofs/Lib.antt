@@ -1,0 +1,4 @@
+-- Laws of verdicts, of judged collections, of k-mers and of strings.
+pub mod Verdicts
+pub mod Judged
+pub mod Kmers

@@ -1,0 +1,82 @@
+-- Laws of verdicts, for every call that judges. Assumes nothing.
+use mathlib.Core.Path.{_≡_, refl, sym, ap, _∙_}
+use mathlib.Core.Bool.{Bool, true, false}
+use Prim.Native.Nat.{ℕ, zero, suc, _≤_}
+use native.Mathlib.Omega.{arith}
+use borrow.Author.Tests.{ltb-false}
+use lib.Dec.{ltb}
+use Rattle.lists.specs.Choose.{choose}
+use Rattle.collection.specs.declared.Verdict.{Verdict}
+use Rattle.collection.specs.declared.Verdict.the-variants.{Good, Bad}
+use Rattle.collection.specs.Verdict.{atPlace, andThen, settle, roomVerdict}
+
+pub bad-good : {number place : ℕ} → Bad number place ≡ Good → ⊥
+bad-good h = let z : _≡_ {A = ℕ} 0 1 = cc in omega arith
+
+-- ─── a row of judgements, as a call goes through it ──────────────────────────
+
+-- `verdict` is what a judgement answered, `first` what it should answer
+module _ {first verdict : Verdict} (next : Verdict) where
+  -- a refusal ends the row
+  pub stops : {number place : ℕ} → verdict ≡ first → verdict ≡ Bad number place → verdict ≡ andThen first next
+  unfolding andThen
+  stops e f = f ∙ ap (λ (v : Verdict). andThen v next) (sym f ∙ e)
+
+  -- a good verdict hands on to the next
+  pub goes-on : {answer : Verdict} → verdict ≡ first → verdict ≡ Good → answer ≡ next → answer ≡ andThen first next
+  unfolding andThen
+  goes-on e f g = g ∙ ap (λ (v : Verdict). andThen v next) (sym f ∙ e)
+
+-- the same of the row itself
+pub then-bad : {first : Verdict} {number place : ℕ} (next : Verdict) → first ≡ Bad number place → andThen first next ≡ Bad number place
+unfolding andThen
+then-bad next e = ap (λ (v : Verdict). andThen v next) e
+
+pub then-good : {first answer : Verdict} (next : Verdict) → first ≡ Good → next ≡ answer → andThen first next ≡ answer
+unfolding andThen
+then-good next e f = ap (λ (v : Verdict). andThen v next) e ∙ f
+
+-- where a row is good, each judgement of it is
+pub both-good : (first next : Verdict) → andThen first next ≡ Good → (first ≡ Good) × (next ≡ Good)
+unfolding andThen
+both-good Good next h = (refl, h)
+both-good (Bad number place) next h = absurd (bad-good h)
+
+-- ─── a judgement by a test ───────────────────────────────────────────────────
+
+pub test-good : (test : Bool) (number place : ℕ) (next : Verdict) → choose test next (Bad number place) ≡ Good → (test ≡ true) × (next ≡ Good)
+test-good true number place next h = (refl, h)
+test-good false number place next h = absurd (bad-good h)
+
+pub place-good : (number place : ℕ) → atPlace number place ≡ Good → place ≡ 0
+unfolding atPlace
+place-good number zero h = refl
+place-good number (suc place) h = absurd (bad-good h)
+
+pub place-none : (number : ℕ) {place : ℕ} → place ≡ 0 → Good ≡ atPlace number place
+unfolding atPlace
+place-none number e = sym (ap (atPlace number) e)
+
+pub place-some : (number place : ℕ) → (place ≡ 0 → ⊥) → Bad number place ≡ atPlace number place
+unfolding atPlace
+place-some number zero h = absurd (h refl)
+place-some number (suc place) h = refl
+
+pub room-good : (have need : ℕ) → roomVerdict have need ≡ Good → need ≤ have
+unfolding roomVerdict
+room-good have need h = go (ltb have need) refl h
+  where
+    go : (t : Bool) → ltb have need ≡ t → choose t (Bad 1 0) Good ≡ Good → need ≤ have
+    go true e g = absurd (bad-good g)
+    go false e g = ltb-false have need e
+
+-- ─── what a call comes to ────────────────────────────────────────────────────
+
+module _ {Out : Type 0} {verdict : Verdict} (refuse : ℕ → ℕ → Out) where
+  pub refused : {number place : ℕ} (done : Out) → verdict ≡ Bad number place → refuse number place ≡ settle verdict refuse done
+  unfolding settle
+  refused done e = sym (ap (λ (v : Verdict). settle v refuse done) e)
+
+  pub settled : {done answer : Out} → answer ≡ done → verdict ≡ Good → answer ≡ settle verdict refuse done
+  unfolding settle
+  settled {done = done} d e = d ∙ sym (ap (λ (v : Verdict). settle v refuse done) e)

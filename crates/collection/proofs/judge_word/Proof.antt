@@ -1,0 +1,23 @@
+-- `judge_word` meets its contract: the test picks the case. Assumes nothing.
+use mathlib.Core.Path.{_≡_, ap, sym, _∙_}
+use mathlib.Core.Bool.{Bool, _&&_}
+use lib.Dec.{eqb}
+use lib.ListN.{length}
+use Rattle.collection.specs.Judge.{wordVerdict}
+use borrow.Author.Needs.{needs}
+use Rattle.collection.proofs.judge_word.Statement.{statement}
+use Rattle.collection.proofs.judge_word.Tie as tie
+
+all-letters-requires : tie.Need-all-letters-requires
+all-letters-requires c κs = search needs
+
+returns : tie.Need-returns
+unfolding wordVerdict
+returns c = rw (sym (c .before .all-letters .ensures), c .if1 .taken)
+
+returns-2 : tie.Need-returns-2
+unfolding wordVerdict
+returns-2 c = rw (sym (c .before .all-letters .ensures), c .if1 .left)
+
+pub judge-word-spec : {M : Type 1} → statement M
+judge-word-spec = tie.close (tie.spec all-letters-requires returns returns-2)

@@ -1,0 +1,82 @@
+-- The refusals 2 to 6 of a collection and 9 of a question, in the words and the order of the table of refusals.
+use mathlib.Core.Bool.{Bool, not, _&&_}
+use mathlib.Core.List.{List, [], _∷_}
+use mathlib.Core.Path.{_≡_}
+use Prim.Native.Nat.{ℕ, suc, _+_, _-_, _*_}
+use lib.Dec.{leb, ltb, eqb}
+use lib.ListN.{length}
+use Rattle.lists.specs.Choose.{choose}
+use Rattle.lists.specs.Every.{every}
+use Rattle.lists.specs.First.{firstThat, firstFrom}
+use Rattle.words.specs.Letter.{isLetter}
+use Rattle.collection.specs.declared.Verdict.{Verdict}
+use Rattle.collection.specs.declared.Verdict.the-variants.{Good, Bad}
+use Rattle.collection.specs.Verdict.{andThen, atPlace}
+
+-- ─── 2 and 3 ─────────────────────────────────────────────────────────────────
+
+-- 2: k is 3 to 31
+unfoldable pub kVerdict : ℕ → Verdict
+kVerdict k = choose (leb 3 k && leb k 31) Good (Bad 2 0)
+
+-- 3: N is at most 1,048,576, m at most 65,536
+unfoldable pub sizeVerdict : ℕ → ℕ → Verdict
+sizeVerdict N m = choose (leb N 1048576 && leb m 65536) Good (Bad 3 0)
+
+-- ─── 4 ───────────────────────────────────────────────────────────────────────
+
+-- the number of the first string shorter than k, where i strings stand before and the last of them ends at `before`; 0 where none is.
+-- A string has its end less the end before letters, so an end that falls makes a short string.
+unfoldable pub firstShort : ℕ → ℕ → ℕ → List ℕ → ℕ
+firstShort k i before [] = 0
+firstShort k i before (e ∷ ends) = choose (ltb e (before + k)) (suc i) (firstShort k (suc i) e ends)
+
+-- the last end, or `before` where there is none
+unfoldable pub lastEnd : ℕ → List ℕ → ℕ
+lastEnd before [] = before
+lastEnd before (e ∷ ends) = lastEnd e ends
+
+-- 4: a string shorter than k, at its number; else a last end that is not N, at m + 1
+unfoldable pub endsVerdict : ℕ → ℕ → List ℕ → Verdict
+endsVerdict k N ends = andThen (atPlace 4 (firstShort k 0 0 ends)) (choose (eqb (lastEnd 0 ends) N) Good (Bad 4 (length ends + 1)))
+
+-- 2, 3, 4: the strings have their places
+unfoldable pub shapeVerdict : ℕ → List ℕ → List ℕ → Verdict
+shapeVerdict k letters ends = andThen (kVerdict k) (andThen (sizeVerdict (length letters) (length ends)) (endsVerdict k (length letters) ends))
+
+-- n = N - m(k-1): how many k-mers there are
+abbrev pub kmerCount : ℕ → ℕ → ℕ → ℕ
+kmerCount k N m = N - m * (k - 1)
+
+-- ─── 5 and 6 ─────────────────────────────────────────────────────────────────
+
+-- 5: the first byte that is no letter, from 1
+unfoldable pub lettersVerdict : List ℕ → Verdict
+lettersVerdict letters = atPlace 5 (firstThat (λ b. not (isLetter b)) letters)
+
+-- a weight is 1 to 16,777,215
+abbrev pub isWeight : ℕ → Bool
+isWeight w = leb 1 w && leb w 16777215
+
+-- 6: the number of weights is not n, at 0; else the first weight out of range, from 1
+unfoldable pub weightsVerdict : ℕ → List ℕ → Verdict
+weightsVerdict n weights = choose (eqb (length weights) n) (atPlace 6 (firstThat (λ w. not (isWeight w)) weights)) (Bad 6 0)
+
+-- 2 to 6
+unfoldable pub collectionVerdict : ℕ → List ℕ → List ℕ → List ℕ → Verdict
+collectionVerdict k letters ends weights =
+    andThen (shapeVerdict k letters ends) (andThen (lettersVerdict letters) (weightsVerdict (kmerCount k (length letters) (length ends)) weights))
+
+-- a collection passes 2 to 6
+abbrev pub Passes : ℕ → List ℕ → List ℕ → List ℕ → Type 0
+Passes k letters ends weights = collectionVerdict k letters ends weights ≡ Good
+
+-- ─── 9 ───────────────────────────────────────────────────────────────────────
+
+-- 9: a handle is 1 to n
+unfoldable pub handleVerdict : ℕ → ℕ → Verdict
+handleVerdict n handle = choose (leb 1 handle && leb handle n) Good (Bad 9 0)
+
+-- 9: an asked word is k letters
+unfoldable pub wordVerdict : ℕ → List ℕ → Verdict
+wordVerdict k word = choose (eqb (length word) k && every isLetter word) Good (Bad 9 0)

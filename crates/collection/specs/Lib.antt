@@ -1,0 +1,6 @@
+-- What the four tables of a collection mean, and when a call refuses them.
+pub mod Verdict
+pub mod Judge
+pub mod Kmers
+pub mod Strings
+pub mod Long

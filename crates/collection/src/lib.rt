@@ -1,0 +1,96 @@
+// A collection: k, letters end to end, string ends and weights, as lent tables. This crate says what they mean and judges
+// them: every public call above refuses by these verdicts.
+pub mod inner;
+mod judging;
+
+ghost use mathlib.Core.Path.{_≡_};
+ghost use Rattle.collection.specs.Verdict.{roomVerdict};
+ghost use Rattle.collection.specs.Judge.{shapeVerdict, collectionVerdict, handleVerdict, wordVerdict};
+
+// What judging finds: nothing to refuse, or the first refusal in document 01's order.
+pub enum Verdict {
+    Good,
+    Bad { number: u32, place: usize },
+}
+
+// The number and the place of a refusal; 0 and 0 where nothing is refused.
+pub struct Told {
+    pub number: u32,
+    pub place: usize,
+}
+
+// As it was asked (+), or as its reverse complement (-).
+pub enum Side {
+    Asked,
+    Turned,
+}
+
+// 2, 3, 4: the strings have their places.
+pub fn judge_shape(k: usize, letters: &[u8], ends: &[u32]) -> Verdict
+    ensures { λ r. ⌜ r ≡ shapeVerdict k (now (letters .entry)) (now (ends .entry)) ⌝ }
+{
+    let a = judging::judge_k(k);
+    let Verdict::Good = a else {
+        return a;
+    };
+    let b = judging::judge_size(letters.len(), ends.len());
+    let Verdict::Good = b else {
+        return b;
+    };
+    judging::judge_ends(k, letters.len(), ends)
+}
+
+// 2 to 6, in order.
+pub fn judge_collection(k: usize, letters: &[u8], ends: &[u32], weights: &[u32]) -> Verdict
+    ensures { λ r. ⌜ r ≡ collectionVerdict k (now (letters .entry)) (now (ends .entry)) (now (weights .entry)) ⌝ }
+{
+    let a = judge_shape(k, letters, ends);
+    let Verdict::Good = a else {
+        return a;
+    };
+    let b = judging::judge_letters(letters);
+    let Verdict::Good = b else {
+        return b;
+    };
+    let n = inner::kmer_count(k, letters.len(), ends.len());
+    judging::judge_weights(n, weights)
+}
+
+// 1: a lent table of `have` entries where `need` are needed.
+pub fn judge_room(have: usize, need: usize) -> Verdict
+    ensures { λ r. ⌜ r ≡ roomVerdict have need ⌝ }
+{
+    if have < need {
+        return Verdict::Bad {
+            number: 1,
+            place: 0,
+        };
+    }
+    Verdict::Good
+}
+
+// 9: a handle that is not 1 to n.
+pub fn judge_handle(n: usize, handle: usize) -> Verdict
+    ensures { λ r. ⌜ r ≡ handleVerdict n handle ⌝ }
+{
+    if (1 <= handle) & (handle <= n) {
+        return Verdict::Good;
+    }
+    Verdict::Bad {
+        number: 9,
+        place: 0,
+    }
+}
+
+// 9: an asked word that is not k letters.
+pub fn judge_word(k: usize, word: &[u8]) -> Verdict
+    ensures { λ r. ⌜ r ≡ wordVerdict k (now (word .entry)) ⌝ }
+{
+    if (word.len() == k) & words::all_letters(word) {
+        return Verdict::Good;
+    }
+    Verdict::Bad {
+        number: 9,
+        place: 0,
+    }
+}
