@@ -1,0 +1,150 @@
+-- Laws of counts and of sums below a bound. Assumes nothing.
+use mathlib.Core.Path.{_≡_, refl, ap, sym, _∙_}
+use mathlib.Core.Logic.{_⊎_, inl, inr}
+use mathlib.Core.Bool.{Bool, true, false}
+use mathlib.Core.List.{List, [], _∷_, _++_, map}
+use Prim.Native.Nat.{ℕ, zero, suc, _+_, _%_, _≤_, _<_, max}
+use native.Mathlib.Omega.{arith}
+use native.Mathlib.Decide.{ℕ-discrete, decLt}
+use lib.Dec.{eqb}
+use lib.ListN.{length, getD}
+use borrow.Author.Tests.{eq-eqb, ne-eqb}
+use Rattle.lists.specs.Choose.{choose}
+use Rattle.lists.specs.Every.{All}
+use Rattle.lists.proofs.Every.{all-map}
+use Rattle.trails.specs.Counting.{agree, occurs, oddly, sumBelow, above}
+
+-- ─── equal or not ────────────────────────────────────────────────────────────
+
+pub agree-same : (a b : ℕ) → a ≡ b → agree a b ≡ 1
+unfolding agree
+agree-same a b e = rw (eq-eqb a b e)
+
+pub agree-other : (a b : ℕ) → (a ≡ b → ⊥) → agree a b ≡ 0
+unfolding agree
+agree-other a b h = rw (ne-eqb a b h)
+
+-- which of the two it is
+abbrev pub Agreeing : ℕ → ℕ → Type 0
+Agreeing a b = ((a ≡ b) × (agree a b ≡ 1)) ⊎ ((a ≡ b → ⊥) × (agree a b ≡ 0))
+
+pub agree-cases : (a b : ℕ) → Agreeing a b
+agree-cases a b = go (ℕ-discrete a b)
+  where
+    go : Dec (a ≡ b) → Agreeing a b
+    go (yes e) = inl (e, agree-same a b e)
+    go (no h) = inr (h, agree-other a b h)
+
+pub agree-le : (a b : ℕ) → agree a b ≤ 1
+unfolding agree
+agree-le a b = go (eqb a b)
+  where
+    go : (t : Bool) → choose t 1 0 ≤ 1
+    go true = omega arith
+    go false = omega arith
+
+-- ─── sums below a bound ──────────────────────────────────────────────────────
+
+module _ (f : ℕ → ℕ) where
+  pub sum-zero : (n : ℕ) → ((w : ℕ) → w < n → f w ≡ 0) → sumBelow n f ≡ 0
+  unfolding sumBelow
+  sum-zero zero h = refl
+  sum-zero (suc n) h = omega (arith, h n (omega arith), sum-zero n (λ w l. h w (omega arith)))
+
+  -- one part of a sum is not above the whole
+  pub sum-part : (n x : ℕ) → x < n → f x ≤ sumBelow n f
+  unfolding sumBelow
+  sum-part zero x l = omega arith
+  sum-part (suc n) x l = go (ℕ-discrete x n) (sum-part n x)
+    where
+      go : Dec (x ≡ n) → (x < n → f x ≤ sumBelow n f) → f x ≤ f n + sumBelow n f
+      go (yes e) ih = omega (arith, ap f e)
+      go (no q) ih = omega (arith, ih (omega arith))
+
+module _ (f g : ℕ → ℕ) where
+  pub sum-mono : (n : ℕ) → ((w : ℕ) → w < n → f w ≤ g w) → sumBelow n f ≤ sumBelow n g
+  unfolding sumBelow
+  sum-mono zero h = omega arith
+  sum-mono (suc n) h = omega (arith, h n (omega arith), sum-mono n (λ w l. h w (omega arith)))
+
+  -- where f exceeds g at most at x, the sums differ by no more than f and g do at x
+  pub sum-at : (n x : ℕ) → x < n → ((w : ℕ) → (w ≡ x → ⊥) → f w ≤ g w) → sumBelow n f + g x ≤ sumBelow n g + f x
+  unfolding sumBelow
+  sum-at zero x l h = omega arith
+  sum-at (suc n) x l h = go (ℕ-discrete x n) (λ k. sum-at n x k h)
+    where
+      go : Dec (x ≡ n) → (x < n → sumBelow n f + g x ≤ sumBelow n g + f x) → f n + sumBelow n f + g x ≤ g n + sumBelow n g + f x
+      go (yes e) ih = omega (arith, ap f e, ap g e, sum-mono n (λ w k. h w (λ q. omega arith)))
+      go (no q) ih = omega (arith, ih (omega arith), h n (λ p. q (sym p)))
+
+  -- the same where x need not be below the bound
+  pub sum-off : (n x k : ℕ) → ((w : ℕ) → (w ≡ x → ⊥) → f w ≤ g w) → f x ≤ g x + k → sumBelow n f ≤ sumBelow n g + k
+  sum-off n x k h l = go (decLt x n)
+    where
+      go : Dec (x < n) → sumBelow n f ≤ sumBelow n g + k
+      go (yes p) = omega (arith, sum-at n x p h)
+      go (no q) = omega (arith, sum-mono n (λ w r. h w (λ e. q (omega arith))))
+
+-- ─── occurrences ─────────────────────────────────────────────────────────────
+
+pub occurs-append : (w : ℕ) (xs ys : List ℕ) → occurs w (xs ++ ys) ≡ occurs w xs + occurs w ys
+unfolding occurs
+occurs-append w [] ys = omega arith
+occurs-append w (x ∷ xs) ys = omega (arith, occurs-append w xs ys)
+
+pub occurs-at : (w : ℕ) (xs : List ℕ) (i : ℕ) → i < length xs → getD xs i 0 ≡ w → 1 ≤ occurs w xs
+unfolding occurs
+occurs-at w [] i l e = omega arith
+occurs-at w (x ∷ xs) zero l e = omega (arith, agree-same w x (sym e))
+occurs-at w (x ∷ xs) (suc i) l e = omega (arith, occurs-at w xs i (omega arith) e)
+
+-- a name that a weight of xs has occurs among their names
+pub occurs-map : (c : ℕ → ℕ) (w : ℕ) (xs : List ℕ) → 1 ≤ occurs w xs → 1 ≤ occurs (c w) (map c xs)
+unfolding occurs
+occurs-map c w [] h = omega arith
+occurs-map c w (x ∷ xs) h = go (agree-cases w x) (occurs-map c w xs)
+  where
+    go : Agreeing w x → (1 ≤ occurs w xs → 1 ≤ occurs (c w) (map c xs)) → 1 ≤ agree (c w) (c x) + occurs (c w) (map c xs)
+    go (inl a) ih = omega (arith, agree-same (c w) (c x) (ap c (a .0)))
+    go (inr a) ih = omega (arith, ih (omega (arith, a .1)))
+
+-- and one that none of them has does not
+pub occurs-map-not : (c : ℕ → ℕ) (l : ℕ) (xs : List ℕ) → ((v : ℕ) → 1 ≤ occurs v xs → l ≡ c v → ⊥) → occurs l (map c xs) ≡ 0
+unfolding occurs
+occurs-map-not c l [] h = refl
+occurs-map-not c l (x ∷ xs) h =
+    omega (
+      arith,
+      agree-other l (c x) (h x (omega (arith, agree-same x x refl))),
+      occurs-map-not c l xs (λ v p. h v (omega arith)),
+    )
+
+-- ─── odd or even ─────────────────────────────────────────────────────────────
+
+pub oddly-le : (ws : List ℕ) (w : ℕ) → oddly ws w ≤ 1
+unfolding oddly
+oddly-le ws w = omega arith
+
+-- one weight more changes the parity there, and nowhere else
+pub oddly-same : (ws : List ℕ) (w : ℕ) → oddly (w ∷ ws) w + oddly ws w ≡ 1
+unfolding oddly occurs
+oddly-same ws w = omega (arith, agree-same w w refl)
+
+pub oddly-other : (ws : List ℕ) (x w : ℕ) → (w ≡ x → ⊥) → oddly (x ∷ ws) w ≡ oddly ws w
+unfolding oddly occurs
+oddly-other ws x w h = omega (arith, agree-other w x h)
+
+-- ─── a bound ─────────────────────────────────────────────────────────────────
+
+abbrev pub Below : ℕ → List ℕ → Type 0
+Below n ws = All (λ w. w < n) ws
+
+pub above-all : (ws : List ℕ) → Below (above ws) ws
+unfolding above
+above-all [] = tt
+above-all (w ∷ ws) = (omega arith, all-map (λ x l. omega arith) ws (above-all ws))
+
+pub occurs-beyond : (n v : ℕ) (ws : List ℕ) → Below n ws → n ≤ v → occurs v ws ≡ 0
+unfolding occurs
+occurs-beyond n v [] h l = refl
+occurs-beyond n v (x ∷ ws) h l = omega (arith, agree-other v x (λ e. omega (arith, h .0)), occurs-beyond n v ws (h .1) l)

@@ -1,0 +1,273 @@
+-- The hub: one fresh weight, with a string from it to each weight that occurs oddly often. With these spokes each weight has an even number of ends.
+-- A chain that comes back to the hub, without its spokes, is cut into one path for two spokes.
+use mathlib.Core.Path.{_≡_, refl, ap, sym, _∙_, subst}
+use mathlib.Core.Logic.{inl, inr}
+use mathlib.Core.List.{List, [], _∷_, _++_}
+use Prim.Native.Nat.{ℕ, zero, suc, _+_, _-_, _*_, _%_, _≤_, _<_}
+use native.Mathlib.Omega.{arith}
+use native.Mathlib.Decide.{ℕ-discrete, decLt}
+use lib.ListN.{length}
+use Rattle.trails.specs.Counting.{agree, occurs, oddly, sumBelow, above}
+use Rattle.trails.specs.Strings.{Ends, front, back, weights}
+use Rattle.trails.specs.Paths.{pathCount}
+use Rattle.trails.specs.Groups.{countOdd, oddWeights}
+use Rattle.trails.proofs.Counting.{agree-same, agree-other, Agreeing, agree-cases, agree-le, sum-at, oddly-le, oddly-same, oddly-other, Below, above-all, occurs-beyond}
+use Rattle.trails.proofs.Orders.{Reordered, none, keep, turn, swap, both, unmoved, occurs-both, length-weights}
+use Rattle.trails.proofs.Paths.{breaks, count-breaks, count-none, Chain}
+use Rattle.trails.proofs.Groups.{Carried}
+use Rattle.trails.proofs.Lower.{no-odd}
+use Rattle.trails.proofs.Walk.{AllEven}
+
+-- ─── the spokes ──────────────────────────────────────────────────────────────
+
+abbrev spokeIf : ℕ → Ends → List Ends → List Ends
+spokeIf zero s L = L
+spokeIf (suc j) s L = s ∷ L
+
+-- a string from the hub h to each weight below n that occurs oddly often in ws
+unfoldable pub spokes : ℕ → List ℕ → ℕ → List Ends
+spokes h ws zero = []
+spokes h ws (suc n) = spokeIf (oddly ws n) (h, n) (spokes h ws n)
+
+-- the hub of the strings: a weight above all of theirs
+abbrev pub hub : List Ends → ℕ
+hub strings = above (weights strings)
+
+-- the strings with the spokes
+abbrev pub spoked : List Ends → List Ends
+spoked strings = spokes (hub strings) (weights strings) (hub strings) ++ strings
+
+-- ─── with them, all weights are even ─────────────────────────────────────────
+
+spoke-off : (v h n o : ℕ) (L : List Ends) → agree v h + agree v n ≡ 0 → occurs v (weights (spokeIf o (h, n) L)) ≡ occurs v (weights L)
+unfolding occurs weights
+spoke-off v h n zero L e = refl
+spoke-off v h n (suc o) L e = omega arith
+
+spoke-on : (v h n o : ℕ) (L : List Ends) → agree v h + agree v n ≡ 1 → o ≤ 1 → occurs v (weights (spokeIf o (h, n) L)) ≡ o + occurs v (weights L)
+unfolding occurs weights
+spoke-on v h n zero L e l = omega arith
+spoke-on v h n (suc o) L e l = omega arith
+
+module _ (h : ℕ) (ws : List ℕ) where
+  spokes-beyond : (v n : ℕ) → (v ≡ h → ⊥) → n ≤ v → occurs v (weights (spokes h ws n)) ≡ 0
+  unfolding spokes occurs weights
+  spokes-beyond v zero q l = refl
+  spokes-beyond v (suc n) q l =
+      spoke-off v h n (oddly ws n) (spokes h ws n) (omega (arith, agree-other v h q, agree-other v n (λ e. omega arith))) ∙ spokes-beyond v n q (omega arith)
+
+  spokes-at : (v n : ℕ) → (v ≡ h → ⊥) → v < n → occurs v (weights (spokes h ws n)) ≡ oddly ws v
+  unfolding spokes
+  spokes-at v zero q l = absurd (omega arith)
+  spokes-at v (suc n) q l = go (ℕ-discrete v n) (spokes-at v n q)
+    where
+      go : Dec (v ≡ n) → (v < n → occurs v (weights (spokes h ws n)) ≡ oddly ws v) → occurs v (weights (spokeIf (oddly ws n) (h, n) (spokes h ws n))) ≡ oddly ws v
+      go (yes e) ih =
+          omega (
+            arith,
+            spoke-on v h n (oddly ws n) (spokes h ws n) (omega (arith, agree-other v h q, agree-same v n e)) (oddly-le ws n),
+            spokes-beyond v n q (omega arith),
+            ap (oddly ws) e,
+          )
+      go (no d) ih = spoke-off v h n (oddly ws n) (spokes h ws n) (omega (arith, agree-other v h q, agree-other v n d)) ∙ ih (omega arith)
+
+  spokes-hub : (n : ℕ) → n ≤ h → occurs h (weights (spokes h ws n)) ≡ sumBelow n (oddly ws)
+  unfolding spokes sumBelow occurs weights
+  spokes-hub zero l = refl
+  spokes-hub (suc n) l =
+      omega (
+        arith,
+        spoke-on h h n (oddly ws n) (spokes h ws n) (omega (arith, agree-same h h refl, agree-other h n (λ e. omega arith))) (oddly-le ws n),
+        spokes-hub n (omega arith),
+      )
+
+-- as many weights occur oddly often as there are occurrences, but for an even number
+odd-parity : (n : ℕ) (ws : List ℕ) → Below n ws → (countOdd n ws + length ws) % 2 ≡ 0
+unfolding countOdd
+odd-parity n [] h = omega (arith, no-odd n)
+odd-parity n (x ∷ ws) h =
+    omega (
+      arith,
+      odd-parity n ws (h .1),
+      sum-at (oddly (x ∷ ws)) (oddly ws) n x (h .0) (λ w q. omega (arith, oddly-other ws x w q)),
+      sum-at (oddly ws) (oddly (x ∷ ws)) n x (h .0) (λ w q. omega (arith, oddly-other ws x w q)),
+      oddly-same ws x,
+    )
+
+module _ (strings : List Ends) where
+  -- O is even: each string gives two end weights
+  pub odd-weights-even : oddWeights strings % 2 ≡ 0
+  unfolding oddWeights
+  odd-weights-even = omega (arith, odd-parity (hub strings) (weights strings) (above-all (weights strings)), length-weights strings)
+
+  pub hub-fresh : (v : ℕ) → hub strings ≤ v → occurs v (weights strings) ≡ 0
+  hub-fresh v l = occurs-beyond (hub strings) v (weights strings) (above-all (weights strings)) l
+
+  -- the hub has O ends
+  pub spoked-hub : occurs (hub strings) (weights (spoked strings)) ≡ oddWeights strings
+  unfolding oddWeights countOdd
+  spoked-hub =
+      omega (
+        arith,
+        occurs-both (hub strings) (spokes (hub strings) (weights strings) (hub strings)) strings,
+        spokes-hub (hub strings) (weights strings) (hub strings) (omega arith),
+        hub-fresh (hub strings) (omega arith),
+      )
+
+  pub spoked-below : (v : ℕ) → v < hub strings → occurs v (weights (spoked strings)) ≡ oddly (weights strings) v + occurs v (weights strings)
+  spoked-below v l =
+      omega (
+        arith,
+        occurs-both v (spokes (hub strings) (weights strings) (hub strings)) strings,
+        spokes-at (hub strings) (weights strings) v (hub strings) (λ e. omega arith) l,
+      )
+
+  pub spoked-beyond : (v : ℕ) → hub strings < v → occurs v (weights (spoked strings)) ≡ 0
+  spoked-beyond v l =
+      omega (
+        arith,
+        occurs-both v (spokes (hub strings) (weights strings) (hub strings)) strings,
+        spokes-beyond (hub strings) (weights strings) v (hub strings) (λ e. omega arith) (omega arith),
+        hub-fresh v (omega arith),
+      )
+
+  pub spoked-even : AllEven (spoked strings)
+  spoked-even v = go (ℕ-discrete v (hub strings)) (decLt v (hub strings))
+    where
+      own : oddly (weights strings) v ≡ occurs v (weights strings) % 2
+      own = unfold oddly in refl
+
+      go : Dec (v ≡ hub strings) → Dec (v < hub strings) → occurs v (weights (spoked strings)) % 2 ≡ 0
+      go (yes e) d = omega (arith, ap (λ (x : ℕ). occurs x (weights (spoked strings))) e, spoked-hub, odd-weights-even)
+      go (no q) (yes l) = omega (arith, spoked-below v l, own)
+      go (no q) (no l) = omega (arith, spoked-beyond v (omega arith))
+
+-- what each string carries reaches from the hub to each odd weight
+pub carried-spokes : (P : ℕ → Type 0) (h : ℕ) (ws : List ℕ) (n : ℕ) → Carried P (spokes h ws n) → P h → (w : ℕ) → w < n → oddly ws w ≡ 1 → P w
+unfolding spokes
+carried-spokes P h ws zero k p w l o = absurd (omega arith)
+carried-spokes P h ws (suc n) k p w l o = go (oddly ws n) refl k (ℕ-discrete w n) (λ k. carried-spokes P h ws n k p w)
+  where
+    go : (j : ℕ) → oddly ws n ≡ j → Carried P (spokeIf j (h, n) (spokes h ws n)) → Dec (w ≡ n) → (Carried P (spokes h ws n) → w < n → oddly ws w ≡ 1 → P w) → P w
+    go zero e k (yes q) ih = absurd (omega (arith, ap (oddly ws) q))
+    go zero e k (no q) ih = ih k (omega arith) o
+    go (suc j) e k (yes q) ih = subst P (sym q) (k .0 .0 p)
+    go (suc j) e k (no q) ih = ih (k .1) (omega arith) o
+
+-- ─── without the spokes ──────────────────────────────────────────────────────
+
+abbrev keepIf : ℕ → ℕ → Ends → List Ends → List Ends
+keepIf zero zero s L = s ∷ L
+keepIf zero (suc j) s L = L
+keepIf (suc i) j s L = L
+
+-- the strings that do not touch the hub h
+unfoldable pub unspoked : ℕ → List Ends → List Ends
+unspoked h [] = []
+unspoked h (s ∷ L) = keepIf (agree h (front s)) (agree h (back s)) s (unspoked h L)
+
+pub unspoked-append : (h : ℕ) (A B : List Ends) → unspoked h (A ++ B) ≡ unspoked h A ++ unspoked h B
+unfolding unspoked
+unspoked-append h [] B = refl
+unspoked-append h (s ∷ A) B = go (agree h (front s)) (agree h (back s)) (unspoked-append h A B)
+  where
+    go : (i j : ℕ) → unspoked h (A ++ B) ≡ unspoked h A ++ unspoked h B → keepIf i j s (unspoked h (A ++ B)) ≡ keepIf i j s (unspoked h A) ++ unspoked h B
+    go zero zero ih = ap (λ (L : List Ends). s ∷ L) ih
+    go zero (suc j) ih = ih
+    go (suc i) j ih = ih
+
+pub unspoked-reordered : (h : ℕ) {L M : List Ends} → Reordered L M → Reordered (unspoked h L) (unspoked h M)
+unfolding unspoked
+unspoked-reordered h none = none
+unspoked-reordered h (keep {s = s} r) = go (agree h (front s)) (agree h (back s)) (unspoked-reordered h r)
+  where
+    go : (i j : ℕ) {A B : List Ends} → Reordered A B → Reordered (keepIf i j s A) (keepIf i j s B)
+    go zero zero q = keep q
+    go zero (suc j) q = q
+    go (suc i) j q = q
+unspoked-reordered h (turn {a = x} {b = y} r) = go (agree h x) (agree h y) (unspoked-reordered h r)
+  where
+    go : (i j : ℕ) {A B : List Ends} → Reordered A B → Reordered (keepIf i j (x, y) A) (keepIf j i (y, x) B)
+    go zero zero q = turn q
+    go zero (suc j) q = q
+    go (suc i) zero q = q
+    go (suc i) (suc j) q = q
+unspoked-reordered h (swap {s = s} {t = t} {L = L}) = go (agree h (front s)) (agree h (back s)) (agree h (front t)) (agree h (back t)) (unspoked h L)
+  where
+    go : (i j k l : ℕ) (A : List Ends) → Reordered (keepIf i j s (keepIf k l t A)) (keepIf k l t (keepIf i j s A))
+    go zero zero zero zero A = swap
+    go zero zero zero (suc l) A = unmoved (s ∷ A)
+    go zero zero (suc k) l A = unmoved (s ∷ A)
+    go zero (suc j) k l A = unmoved (keepIf k l t A)
+    go (suc i) j k l A = unmoved (keepIf k l t A)
+unspoked-reordered h (both r q) = both (unspoked-reordered h r) (unspoked-reordered h q)
+
+-- strings that do not touch the hub all stay
+pub unspoked-own : (h : ℕ) (L : List Ends) → occurs h (weights L) ≡ 0 → unspoked h L ≡ L
+unfolding unspoked occurs weights
+unspoked-own h [] e = refl
+unspoked-own h (s ∷ L) e = go (agree h (front s)) (agree h (back s)) (omega arith) (omega arith) (unspoked-own h L (omega arith))
+  where
+    go : (i j : ℕ) → i ≡ 0 → j ≡ 0 → unspoked h L ≡ L → keepIf i j s (unspoked h L) ≡ s ∷ L
+    go zero zero p q ih = ap (λ (M : List Ends). s ∷ M) ih
+    go zero (suc j) p q ih = absurd (omega arith)
+    go (suc i) j p q ih = absurd (omega arith)
+
+unspoked-spokes : (h : ℕ) (ws : List ℕ) (n : ℕ) → unspoked h (spokes h ws n) ≡ []
+unfolding unspoked spokes
+unspoked-spokes h ws zero = refl
+unspoked-spokes h ws (suc n) = go (oddly ws n) (unspoked-spokes h ws n)
+  where
+    go : (o : ℕ) → unspoked h (spokes h ws n) ≡ [] → unspoked h (spokeIf o (h, n) (spokes h ws n)) ≡ []
+    go zero ih = ih
+    go (suc o) ih = rw (agree-same h h refl) ih
+
+-- the strings come back
+pub unspoked-spoked : (strings : List Ends) → unspoked (hub strings) (spoked strings) ≡ strings
+unspoked-spoked strings =
+    unspoked-append (hub strings) (spokes (hub strings) (weights strings) (hub strings)) strings
+    ∙ ap (λ (L : List Ends). L ++ unspoked (hub strings) strings) (unspoked-spokes (hub strings) (weights strings) (hub strings))
+    ∙ unspoked-own (hub strings) strings (hub-fresh strings (hub strings) (omega arith))
+
+-- ─── a chain cut at the hub ──────────────────────────────────────────────────
+
+-- behind a string s that does not end at the hub
+cut-behind : (h : ℕ) (s : Ends) → (back s ≡ h → ⊥) → (x : ℕ) (Z : List Ends) → Chain x Z h
+    → 2 * breaks s (unspoked h Z) + 2 * agree (back s) x + agree h x ≤ occurs h (weights Z) + 1
+unfolding unspoked breaks occurs weights
+cut-behind h s q x [] c = omega (arith, agree-same h x (sym c), agree-other (back s) x (λ p. q (p ∙ c)))
+cut-behind h s q x (t ∷ Z) c = go (agree-cases h (front t)) (agree-cases h (back t)) (λ g r. cut-behind h g r (back t) Z (c .1))
+  where
+    go : Agreeing h (front t) → Agreeing h (back t)
+        → ((g : Ends) → (back g ≡ h → ⊥) → 2 * breaks g (unspoked h Z) + 2 * agree (back g) (back t) + agree h (back t) ≤ occurs h (weights Z) + 1)
+        → 2 * breaks s (keepIf (agree h (front t)) (agree h (back t)) t (unspoked h Z)) + 2 * agree (back s) x + agree h x
+        ≤ agree h (front t) + (agree h (back t) + occurs h (weights Z)) + 1
+    go (inl a) b ih =
+        rw (a .1) (omega (arith, ih s q, ap (agree h) (c .0), a .1, agree-other (back s) x (λ p. q (p ∙ c .0 ∙ sym (a .0)))))
+    go (inr a) (inl b) ih = rw (a .1, b .1) (omega (arith, ih s q, ap (agree h) (c .0), a .1, agree-le (back s) x, b .1))
+    go (inr a) (inr b) ih =
+        rw (a .1, b .1)
+        (omega (
+          arith,
+          ih t (λ p. b .0 (sym p)),
+          ap (agree h) (c .0),
+          ap (agree (back s)) (c .0),
+          a .1,
+          agree-same (back t) (back t) refl,
+          agree-le (back s) (front t),
+        ))
+
+-- A chain to the hub, without its spokes: two spokes for each path, but for a part at the start that the hub does not open.
+pub cut-chain : (h x : ℕ) (Z : List Ends) → Chain x Z h → 2 * pathCount (unspoked h Z) + agree h x ≤ occurs h (weights Z) + 1
+unfolding unspoked occurs weights
+cut-chain h x [] c = omega (arith, agree-le h x, count-none)
+cut-chain h x (t ∷ Z) c = go (agree-cases h (front t)) (agree-cases h (back t)) (cut-chain h (back t) Z (c .1)) (λ r. cut-behind h t r (back t) Z (c .1))
+  where
+    go : Agreeing h (front t) → Agreeing h (back t) → 2 * pathCount (unspoked h Z) + agree h (back t) ≤ occurs h (weights Z) + 1
+        → ((back t ≡ h → ⊥) → 2 * breaks t (unspoked h Z) + 2 * agree (back t) (back t) + agree h (back t) ≤ occurs h (weights Z) + 1)
+        → 2 * pathCount (keepIf (agree h (front t)) (agree h (back t)) t (unspoked h Z)) + agree h x ≤ agree h (front t) + (agree h (back t) + occurs h (weights Z)) + 1
+    go (inl a) b ih k = rw (a .1) (omega (arith, ap (agree h) (c .0), a .1))
+    go (inr a) (inl b) ih k = rw (a .1, b .1) (omega (arith, ap (agree h) (c .0), a .1))
+    go (inr a) (inr b) ih k =
+        rw (a .1, b .1)
+        (omega (arith, k (λ p. b .0 (sym p)), ap (agree h) (c .0), a .1, agree-same (back t) (back t) refl, count-breaks t (unspoked h Z)))

@@ -1,0 +1,9 @@
+-- The laws of `specs/`, one file a topic.
+pub mod Counting
+pub mod Orders
+pub mod Paths
+pub mod Groups
+pub mod Lower
+pub mod Walk
+pub mod Hub
+pub mod Upper

@@ -1,0 +1,262 @@
+-- Some order and turning has E + O / 2 paths.
+-- With the spokes all weights are even. One walk from the hub, then a walk from each weight of a string that is still unused, use all strings.
+-- Without the spokes the first walk is O / 2 paths. Each later walk is one path, and starts in an all-even group of its own: when a walk starts, each weight has all of its strings used or none,
+-- so each group has; and a group with an odd weight hangs on the hub, whose strings are used.
+use mathlib.Core.Path.{_≡_, refl, ap, sym, _∙_, subst}
+use mathlib.Core.Logic.{inl, inr}
+use mathlib.Core.List.{List, [], _∷_, _++_, map, append-assoc}
+use Prim.Native.Nat.{ℕ, zero, suc, _+_, _*_, _/_, _%_, _≤_, _<_}
+use native.Mathlib.Omega.{arith}
+use native.Mathlib.Decide.{ℕ-discrete, decLt}
+use lib.ListN.{length, length-append}
+use Rattle.lists.proofs.Every.{all-append, all-left, all-right}
+use Rattle.trails.specs.Counting.{agree, occurs, oddly, sumBelow}
+use Rattle.trails.specs.Strings.{Ends, front, back, weights}
+use Rattle.trails.specs.Paths.{pathCount}
+use Rattle.trails.specs.Groups.{nameOf, oddMembers, evenGroup, countEvenGroups, evenGroups, oddWeights, least}
+use Rattle.trails.proofs.Counting.{agree-same, Agreeing, agree-cases, sum-zero, sum-mono, sum-at, occurs-map, occurs-map-not, oddly-le, above-all}
+use Rattle.trails.proofs.Orders.{Reordered, both, reordered-left, length-reordered, occurs-reordered, occurs-both, names-both}
+use Rattle.trails.proofs.Paths.{count-append, chain-count}
+use Rattle.trails.proofs.Groups.{name-below, Carried, carried-group, carried-back, carried-all, carried-none}
+use Rattle.trails.proofs.Lower.{even-is}
+use Rattle.trails.proofs.Walk.{AllEven, Closed, walked}
+use Rattle.trails.proofs.Hub.{spokes, hub, spoked, spoked-hub, spoked-below, spoked-beyond, spoked-even, carried-spokes, unspoked, unspoked-append, unspoked-reordered, unspoked-own, unspoked-spoked, cut-chain}
+
+-- ─── the even groups that are reached ────────────────────────────────────────
+
+-- 1 where both are positive, else 0
+abbrev pub reachedIf : ℕ → ℕ → ℕ
+reachedIf zero n = 0
+reachedIf (suc m) zero = 0
+reachedIf (suc m) (suc n) = 1
+
+reached-le : (m n : ℕ) → reachedIf m n ≤ m
+reached-le zero n = omega arith
+reached-le (suc m) zero = omega arith
+reached-le (suc m) (suc n) = omega arith
+
+reached-mono : (m n k : ℕ) → n ≤ k → reachedIf m n ≤ reachedIf m k
+reached-mono zero n k h = omega arith
+reached-mono (suc m) zero k h = omega arith
+reached-mono (suc m) (suc n) zero h = absurd (omega arith)
+reached-mono (suc m) (suc n) (suc k) h = omega arith
+
+reached-is : (m n : ℕ) → 1 ≤ m → 1 ≤ n → reachedIf m n ≡ 1
+reached-is zero n h k = absurd (omega arith)
+reached-is (suc m) zero h k = absurd (omega arith)
+reached-is (suc m) (suc n) h k = refl
+
+reached-not : (m : ℕ) → reachedIf m 0 ≡ 0
+reached-not zero = refl
+reached-not (suc m) = refl
+
+-- 1 for an all-even group l of the strings that has an end weight of Y, else 0
+abbrev pub reachedBy : List Ends → List Ends → ℕ → ℕ
+reachedBy strings Y l = reachedIf (evenGroup (hub strings) (nameOf strings) (weights strings) l) (occurs l (map (nameOf strings) (weights Y)))
+
+-- the number of all-even groups of the strings that Y reaches
+abbrev pub reached : List Ends → List Ends → ℕ
+reached strings Y = sumBelow (hub strings) (reachedBy strings Y)
+
+-- ─── the state between two walks ─────────────────────────────────────────────
+
+-- The walks so far used the strings Y, spokes among them, and U are left.
+pub record Toured (strings U Y : List Ends) : Type 0 where
+  pub all : Reordered (spoked strings) (U ++ Y)
+  pub even : AllEven U
+  -- each weight has all of its strings used, or none
+  pub apart : (v : ℕ) → 1 ≤ occurs v (weights Y) → occurs v (weights U) ≡ 0
+  -- the spokes are used
+  pub hub-spent : occurs (hub strings) (weights U) ≡ 0
+  -- O / 2 paths, and one for each all-even group that is reached
+  pub cost : 2 * pathCount (unspoked (hub strings) Y) ≤ oddWeights strings + 2 * reached strings Y
+
+-- the first walk, from the hub
+pub first-walk : (strings U Z : List Ends) → Closed (hub strings) (spoked strings) U Z → Toured strings U Z
+first-walk strings U Z k = record {
+  all = k .all;
+  even = k .even;
+  apart = k .spent;
+  hub-spent = k .home;
+  cost =
+      omega (
+        arith,
+        cut-chain (hub strings) (hub strings) Z (k .chain),
+        agree-same (hub strings) (hub strings) refl,
+        spoked-hub strings,
+        occurs-reordered (k .all) (hub strings),
+        occurs-both (hub strings) U Z,
+      );
+}
+
+-- A later walk, from a weight s of a string that is left.
+module _ (strings U Y : List Ends) (k : Toured strings U Y) (s : ℕ) (left : 1 ≤ occurs s (weights U)) where
+  Spent : ℕ → Type 0
+  Spent v = occurs v (weights U) ≡ 0
+
+  spent-carried : Carried Spent (spoked strings)
+  unfolding Spent
+  spent-carried =
+      carried-back Spent (k .all)
+      (all-append (λ e. (Spent (front e) → Spent (back e)) × (Spent (back e) → Spent (front e))) U Y (carried-none Spent U (λ v l z. omega arith)) (carried-all Spent Y (k .apart)))
+
+  -- no weight in the group of s is spent
+  unspent : (v : ℕ) → nameOf strings s ≡ nameOf strings v → occurs v (weights U) ≡ 0 → ⊥
+  unfolding Spent
+  unspent v e z =
+      omega (
+        arith,
+        carried-group Spent strings
+            (all-right (λ e. (Spent (front e) → Spent (back e)) × (Spent (back e) → Spent (front e))) (spokes (hub strings) (weights strings) (hub strings)) strings spent-carried)
+            v s (sym e) z,
+      )
+
+  -- every odd weight is
+  odd-spent : (w : ℕ) → w < hub strings → oddly (weights strings) w ≡ 1 → occurs w (weights U) ≡ 0
+  unfolding Spent
+  odd-spent w l o =
+      carried-spokes Spent (hub strings) (weights strings) (hub strings)
+      (all-left (λ e. (Spent (front e) → Spent (back e)) × (Spent (back e) → Spent (front e))) (spokes (hub strings) (weights strings) (hub strings)) strings spent-carried)
+      (k .hub-spent) w l o
+
+  within : occurs s (weights U) ≤ occurs s (weights (spoked strings))
+  within = omega (arith, occurs-reordered (k .all) s, occurs-both s U Y)
+
+  below-hub : s < hub strings
+  below-hub = go (ℕ-discrete s (hub strings)) (decLt s (hub strings))
+    where
+      go : Dec (s ≡ hub strings) → Dec (s < hub strings) → s < hub strings
+      go (yes e) d = absurd (omega (arith, ap (λ (x : ℕ). occurs x (weights U)) e, k .hub-spent))
+      go (no q) (yes l) = l
+      go (no q) (no l) = absurd (omega (arith, spoked-beyond strings s (omega arith), within))
+
+  own-weight : 1 ≤ occurs s (weights strings)
+  own-weight = omega (arith, spoked-below strings s below-hub, within, own)
+    where
+      own : oddly (weights strings) s ≡ occurs s (weights strings) % 2
+      own = unfold oddly in refl
+
+  no-odd-member : oddMembers (hub strings) (nameOf strings) (weights strings) (nameOf strings s) ≡ 0
+  unfolding oddMembers
+  no-odd-member =
+      sum-zero (λ w. agree (nameOf strings s) (nameOf strings w) * oddly (weights strings) w) (hub strings)
+      (λ w l. go w l (agree-cases (nameOf strings s) (nameOf strings w)) (ℕ-discrete (oddly (weights strings) w) 1))
+    where
+      zero-else : (w : ℕ) → (oddly (weights strings) w ≡ 1 → ⊥) → oddly (weights strings) w ≡ 0
+      zero-else w o = omega (arith, oddly-le (weights strings) w)
+
+      go : (w : ℕ) → w < hub strings → Agreeing (nameOf strings s) (nameOf strings w) → Dec (oddly (weights strings) w ≡ 1)
+          → agree (nameOf strings s) (nameOf strings w) * oddly (weights strings) w ≡ 0
+      go w l (inl a) (yes o) = absurd (unspent w (a .0) (odd-spent w l o))
+      go w l (inl a) (no o) = rw (zero-else w o) (omega arith)
+      go w l (inr a) o = rw (a .1) (omega arith)
+
+  -- the group of s is all even
+  pub starts-even : evenGroup (hub strings) (nameOf strings) (weights strings) (nameOf strings s) ≡ 1
+  unfolding evenGroup
+  starts-even =
+      even-is (occurs (nameOf strings s) (map (nameOf strings) (weights strings))) (oddMembers (hub strings) (nameOf strings) (weights strings) (nameOf strings s))
+      (occurs-map (nameOf strings) s (weights strings) own-weight) no-odd-member
+
+  -- and no earlier walk was in it
+  pub starts-new : occurs (nameOf strings s) (map (nameOf strings) (weights Y)) ≡ 0
+  starts-new = occurs-map-not (nameOf strings) (nameOf strings s) (weights Y) (λ v l e. unspent v e (k .apart v l))
+
+  module _ (R Z : List Ends) (t : Closed s U R Z) where
+    pub walk-at-start : 1 ≤ occurs s (weights Z)
+    walk-at-start = omega (arith, occurs-reordered (t .all) s, occurs-both s R Z, t .home)
+
+    hub-off : occurs (hub strings) (weights Z) ≡ 0
+    hub-off = omega (arith, occurs-reordered (t .all) (hub strings), occurs-both (hub strings) R Z, k .hub-spent)
+
+    grows : (l : ℕ) → reachedBy strings Y l ≤ reachedBy strings (Z ++ Y) l
+    grows l =
+        reached-mono (evenGroup (hub strings) (nameOf strings) (weights strings) l) (occurs l (map (nameOf strings) (weights Y)))
+        (occurs l (map (nameOf strings) (weights (Z ++ Y)))) (omega (arith, names-both (nameOf strings) l Z Y))
+
+    not-before : reachedBy strings Y (nameOf strings s) ≡ 0
+    not-before = rw starts-new (reached-not (evenGroup (hub strings) (nameOf strings) (weights strings) (nameOf strings s)))
+
+    now-reached : reachedBy strings (Z ++ Y) (nameOf strings s) ≡ 1
+    now-reached =
+        reached-is (evenGroup (hub strings) (nameOf strings) (weights strings) (nameOf strings s)) (occurs (nameOf strings s) (map (nameOf strings) (weights (Z ++ Y))))
+        (omega (arith, starts-even))
+        (omega (arith, names-both (nameOf strings) (nameOf strings s) Z Y, occurs-map (nameOf strings) s (weights Z) walk-at-start))
+
+    -- so one more all-even group is reached
+    pub one-more-reached : suc (reached strings Y) ≤ reached strings (Z ++ Y)
+    one-more-reached =
+        omega (
+          arith,
+          sum-at (reachedBy strings Y) (reachedBy strings (Z ++ Y)) (hub strings) (nameOf strings s)
+              (name-below (hub strings) strings (above-all (weights strings)) s below-hub) (λ l q. grows l),
+          now-reached,
+          not-before,
+        )
+
+    gone : (v : ℕ) → 1 ≤ occurs v (weights (Z ++ Y)) → Dec (0 < occurs v (weights Z)) → occurs v (weights R) ≡ 0
+    gone v l (yes p) = t .spent v p
+    gone v l (no p) =
+        omega (arith, occurs-reordered (t .all) v, occurs-both v R Z, k .apart v (omega (arith, occurs-both v Z Y)))
+
+    -- the state after the walk
+    pub later-walk : Toured strings R (Z ++ Y)
+    later-walk = record {
+      all = both (k .all) (subst (λ (L : List Ends). Reordered (U ++ Y) L) (append-assoc R Z Y) (reordered-left Y (t .all)));
+      even = t .even;
+      apart = λ v l. gone v l (decLt 0 (occurs v (weights Z)));
+      hub-spent = omega (arith, occurs-reordered (t .all) (hub strings), occurs-both (hub strings) R Z, k .hub-spent);
+      cost =
+          omega (
+            arith,
+            k .cost,
+            one-more-reached,
+            ap pathCount (unspoked-append (hub strings) Z Y),
+            count-append (unspoked (hub strings) Z) (unspoked (hub strings) Y),
+            ap pathCount (unspoked-own (hub strings) Z hub-off),
+            chain-count s Z s (t .chain),
+          );
+    }
+
+-- ─── when no string is left ──────────────────────────────────────────────────
+
+module _ (strings Y : List Ends) (k : Toured strings [] Y) where
+  -- without the spokes, Y is an order and turning of the strings
+  pub toured-reordered : Reordered strings (unspoked (hub strings) Y)
+  toured-reordered = subst (λ (L : List Ends). Reordered L (unspoked (hub strings) Y)) (unspoked-spoked strings) (unspoked-reordered (hub strings) (k .all))
+
+  pub reached-all : reached strings Y ≤ evenGroups strings
+  unfolding evenGroups countEvenGroups
+  reached-all =
+      sum-mono (reachedBy strings Y) (evenGroup (hub strings) (nameOf strings) (weights strings)) (hub strings)
+      (λ l q. reached-le (evenGroup (hub strings) (nameOf strings) (weights strings) l) (occurs l (map (nameOf strings) (weights Y))))
+
+  -- with no path too many
+  pub toured-few : pathCount (unspoked (hub strings) Y) ≤ least strings
+  unfolding least
+  toured-few = omega (arith, k .cost, reached-all)
+
+-- ─── the bound ───────────────────────────────────────────────────────────────
+
+-- each walk leaves fewer strings
+walks : (strings : List Ends) (n : ℕ) (U Y : List Ends) → length U < n → Toured strings U Y → (order : List Ends) × Reordered strings order × (pathCount order ≤ least strings)
+walks strings zero U Y l k = absurd (omega arith)
+walks strings (suc n) [] Y l k = (unspoked (hub strings) Y, toured-reordered strings Y k, toured-few strings Y k)
+walks strings (suc n) (e ∷ U) Y l k =
+    let here : 1 ≤ occurs (front e) (weights (e ∷ U)) = unfold occurs weights in (omega (arith, agree-same (front e) (front e) refl)) in
+    let t = walked (front e) (e ∷ U) (k .even) in
+    walks strings n (t .0) (t .1 ++ Y) (shorter (t .0) (t .1) (t .2) (walk-at-start strings (e ∷ U) Y k (front e) here (t .0) (t .1) (t .2)))
+    (later-walk strings (e ∷ U) Y k (front e) here (t .0) (t .1) (t .2))
+  where
+    nonempty : (w : ℕ) (Z : List Ends) → 1 ≤ occurs w (weights Z) → 1 ≤ length Z
+    nonempty w [] p = absurd (unfold occurs weights in (omega arith))
+    nonempty w (f ∷ Z) p = omega arith
+
+    shorter : (R Z : List Ends) → Closed (front e) (e ∷ U) R Z → 1 ≤ occurs (front e) (weights Z) → length R < n
+    shorter R Z t p = omega (arith, length-reordered (t .all), length-append R Z, nonempty (front e) Z p)
+
+-- some order and turning of the strings has at most E + O / 2 paths
+pub upper : (strings : List Ends) → (order : List Ends) × Reordered strings order × (pathCount order ≤ least strings)
+upper strings =
+    let t = walked (hub strings) (spoked strings) (spoked-even strings) in
+    walks strings (suc (length (t .0))) (t .0) (t .1) (omega arith) (first-walk strings (t .0) (t .1) (t .2))
