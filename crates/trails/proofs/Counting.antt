@@ -3,7 +3,7 @@ use mathlib.Core.Path.{_≡_, refl, ap, sym, _∙_}
 use mathlib.Core.Logic.{_⊎_, inl, inr}
 use mathlib.Core.Bool.{Bool, true, false}
 use mathlib.Core.List.{List, [], _∷_, _++_, map}
-use Prim.Native.Nat.{ℕ, zero, suc, _+_, _%_, _≤_, _<_, max}
+use Prim.Native.Nat.{ℕ, zero, suc, _+_, _-_, _%_, _≤_, _<_, max}
 use native.Mathlib.Omega.{arith}
 use native.Mathlib.Decide.{ℕ-discrete, decLt}
 use lib.Dec.{eqb}
@@ -68,21 +68,21 @@ module _ (f g : ℕ → ℕ) where
   sum-mono (suc n) h = omega (arith, h n (omega arith), sum-mono n (λ w l. h w (omega arith)))
 
   -- where f exceeds g at most at x, the sums differ by no more than f and g do at x
-  pub sum-at : (n x : ℕ) → x < n → ((w : ℕ) → (w ≡ x → ⊥) → f w ≤ g w) → sumBelow n f + g x ≤ sumBelow n g + f x
+  pub sum-at : (n x : ℕ) → x < n → ((w : ℕ) → w < n → (w ≡ x → ⊥) → f w ≤ g w) → sumBelow n f + g x ≤ sumBelow n g + f x
   unfolding sumBelow
   sum-at zero x l h = omega arith
-  sum-at (suc n) x l h = go (ℕ-discrete x n) (λ k. sum-at n x k h)
+  sum-at (suc n) x l h = go (ℕ-discrete x n) (λ k. sum-at n x k (λ w b. h w (omega arith)))
     where
       go : Dec (x ≡ n) → (x < n → sumBelow n f + g x ≤ sumBelow n g + f x) → f n + sumBelow n f + g x ≤ g n + sumBelow n g + f x
-      go (yes e) ih = omega (arith, ap f e, ap g e, sum-mono n (λ w k. h w (λ q. omega arith)))
-      go (no q) ih = omega (arith, ih (omega arith), h n (λ p. q (sym p)))
+      go (yes e) ih = omega (arith, ap f e, ap g e, sum-mono n (λ w k. h w (omega arith) (λ q. omega arith)))
+      go (no q) ih = omega (arith, ih (omega arith), h n (omega arith) (λ p. q (sym p)))
 
   -- the same where x need not be below the bound
   pub sum-off : (n x k : ℕ) → ((w : ℕ) → (w ≡ x → ⊥) → f w ≤ g w) → f x ≤ g x + k → sumBelow n f ≤ sumBelow n g + k
   sum-off n x k h l = go (decLt x n)
     where
       go : Dec (x < n) → sumBelow n f ≤ sumBelow n g + k
-      go (yes p) = omega (arith, sum-at n x p h)
+      go (yes p) = omega (arith, sum-at n x p (λ w b. h w))
       go (no q) = omega (arith, sum-mono n (λ w r. h w (λ e. q (omega arith))))
 
 -- ─── occurrences ─────────────────────────────────────────────────────────────
@@ -148,3 +148,59 @@ pub occurs-beyond : (n v : ℕ) (ws : List ℕ) → Below n ws → n ≤ v → o
 unfolding occurs
 occurs-beyond n v [] h l = refl
 occurs-beyond n v (x ∷ ws) h l = omega (arith, agree-other v x (λ e. omega (arith, h .0)), occurs-beyond n v ws (h .1) l)
+
+-- ─── m numbers for 1 to m ────────────────────────────────────────────────────
+
+sum-ones : (m : ℕ) → sumBelow m (λ k. 1) ≡ m
+unfolding sumBelow
+sum-ones zero = refl
+sum-ones (suc m) = omega (arith, sum-ones m)
+
+-- all uses of 1 to m together: at most as many as there are numbers
+uses-le : (m : ℕ) (ks : List ℕ) → sumBelow m (λ k. occurs (suc k) ks) ≤ length ks
+unfolding occurs
+uses-le m [] = omega (arith, sum-zero (λ k. 0) m (λ k l. refl))
+uses-le m (x ∷ ks) =
+    omega (
+      arith,
+      uses-le m ks,
+      sum-off (λ k. agree (suc k) x + occurs (suc k) ks) (λ k. occurs (suc k) ks) m (x - 1) 1
+          (λ w q. omega (arith, agree-other (suc w) x (λ e. q (omega arith)))) (omega (arith, agree-le (suc (x - 1)) x)),
+    )
+
+-- and as many, where all numbers are from 1 to m
+uses-ge : (m : ℕ) (ks : List ℕ) → All (λ k. (1 ≤ k) × (k ≤ m)) ks → length ks ≤ sumBelow m (λ k. occurs (suc k) ks)
+unfolding occurs
+uses-ge m [] h = omega arith
+uses-ge m (x ∷ ks) h =
+    omega (
+      arith,
+      uses-ge m ks (h .1),
+      sum-at (λ k. occurs (suc k) ks) (λ k. agree (suc k) x + occurs (suc k) ks) m (x - 1) (omega (arith, h .0)) (λ w b q. omega arith),
+      agree-same (suc (x - 1)) x (omega (arith, h .0)),
+    )
+
+module _ (m : ℕ) (ks : List ℕ) (size : length ks ≡ m) where
+  -- if each of 1 to m is used, it is used once
+  pub once-if-used : ((k : ℕ) → 1 ≤ k → k ≤ m → 1 ≤ occurs k ks) → (k : ℕ) → 1 ≤ k → k ≤ m → occurs k ks ≡ 1
+  once-if-used h zero low high = omega arith
+  once-if-used h (suc k) low high =
+      omega (
+        arith,
+        h (suc k) low high,
+        uses-le m ks,
+        sum-ones m,
+        sum-at (λ k. 1) (λ k. occurs (suc k) ks) m k (omega arith) (λ w b q. h (suc w) (omega arith) (omega arith)),
+      )
+
+  -- if all are from 1 to m and none is used twice, each is used once
+  pub once-if-apart : All (λ k. (1 ≤ k) × (k ≤ m)) ks → ((k : ℕ) → occurs k ks ≤ 1) → (k : ℕ) → 1 ≤ k → k ≤ m → occurs k ks ≡ 1
+  once-if-apart r h zero low high = omega arith
+  once-if-apart r h (suc k) low high =
+      omega (
+        arith,
+        h (suc k),
+        uses-ge m ks r,
+        sum-ones m,
+        sum-at (λ k. occurs (suc k) ks) (λ k. 1) m k (omega arith) (λ w b q. h (suc w)),
+      )

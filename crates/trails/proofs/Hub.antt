@@ -89,8 +89,8 @@ odd-parity n (x ∷ ws) h =
     omega (
       arith,
       odd-parity n ws (h .1),
-      sum-at (oddly (x ∷ ws)) (oddly ws) n x (h .0) (λ w q. omega (arith, oddly-other ws x w q)),
-      sum-at (oddly ws) (oddly (x ∷ ws)) n x (h .0) (λ w q. omega (arith, oddly-other ws x w q)),
+      sum-at (oddly (x ∷ ws)) (oddly ws) n x (h .0) (λ w b q. omega (arith, oddly-other ws x w q)),
+      sum-at (oddly ws) (oddly (x ∷ ws)) n x (h .0) (λ w b q. omega (arith, oddly-other ws x w q)),
       oddly-same ws x,
     )
 

@@ -2,8 +2,11 @@
 pub mod Counting
 pub mod Orders
 pub mod Paths
+pub mod Places
 pub mod Groups
 pub mod Lower
 pub mod Walk
 pub mod Hub
 pub mod Upper
+pub mod Bounds
+pub mod Examples

@@ -82,7 +82,7 @@ module _ (n : ℕ) (name : ℕ → ℕ) (ws : List ℕ) (x : ℕ) (x<n : x < n) 
   one-more = go (ℕ-discrete (oddly (x ∷ ws) x) 1)
     where
       odd : sumBelow n (oddly (x ∷ ws)) + oddly ws x ≤ sumBelow n (oddly ws) + oddly (x ∷ ws) x
-      odd = sum-at (oddly (x ∷ ws)) (oddly ws) n x x<n (λ w h. omega (arith, oddly-other ws x w h))
+      odd = sum-at (oddly (x ∷ ws)) (oddly ws) n x x<n (λ w b h. omega (arith, oddly-other ws x w h))
 
       even : (k : ℕ) → evenGroup n name (x ∷ ws) (name x) ≤ k → sumBelow n (evenGroup n name (x ∷ ws)) ≤ sumBelow n (evenGroup n name ws) + k
       even k h = sum-off (evenGroup n name (x ∷ ws)) (evenGroup n name ws) n (name x) k (λ w q. omega (arith, even-group-other w q)) (omega arith)

@@ -189,7 +189,7 @@ module _ (strings U Y : List Ends) (k : Toured strings U Y) (s : ℕ) (left : 1 
         omega (
           arith,
           sum-at (reachedBy strings Y) (reachedBy strings (Z ++ Y)) (hub strings) (nameOf strings s)
-              (name-below (hub strings) strings (above-all (weights strings)) s below-hub) (λ l q. grows l),
+              (name-below (hub strings) strings (above-all (weights strings)) s below-hub) (λ l b q. grows l),
           now-reached,
           not-before,
         )

@@ -4,7 +4,7 @@ use mathlib.Core.Bool.{Bool, true, false}
 use mathlib.Core.List.{List, [], _∷_, _++_, map}
 use Prim.Native.Nat.{ℕ, zero, suc, _≤_}
 use lib.Dec.{eqb}
-use lib.IntN.{ℤ, pos, negsuc, natAbs}
+use lib.IntN.{ℤ, pos, negsuc, negℤ, natAbs}
 use lib.ListN.{length}
 use Rattle.lists.specs.Choose.{choose}
 use Rattle.lists.specs.Every.{All}
@@ -14,6 +14,10 @@ use Rattle.trails.specs.Counting.{occurs}
 abbrev pub isTurned : ℤ → Bool
 isTurned (pos n) = false
 isTurned (negsuc n) = true
+
+-- the place n, negative if the string is turned
+abbrev pub signed : ℕ → Bool → ℤ
+signed n t = choose t (negℤ (pos n)) (pos n)
 
 -- A signed place for each of m strings: a number from 1 to m, sign aside; all places together use each of 1 to m once.
 pub record SignedPermutation (m : ℕ) (places : List ℤ) : Type 0 where

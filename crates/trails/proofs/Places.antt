@@ -1,0 +1,345 @@
+-- Signed permutations and orders are the same: places put the strings into an order (`places-reordered`), and each order is made by places (`reordered-places`).
+-- An order is known by where each string stands in it (`arranged-is`).
+use mathlib.Core.Path.{_≡_, refl, ap, ap₂, sym, _∙_, subst}
+use mathlib.Core.Bool.{Bool, true, false, not}
+use mathlib.Core.List.{List, [], _∷_, _++_, map, map-append, append-nil}
+use Prim.Native.Nat.{ℕ, zero, suc, _+_, _-_, _≤_, _<_}
+use native.Mathlib.Omega.{arith}
+use native.Mathlib.Decide.{ℕ-discrete}
+use lib.Dec.{eqb}
+use lib.IntN.{ℤ, pos, negsuc, natAbs}
+use lib.ListN.{length, getD, take, length-map}
+use lib.Seq.{take-suc, take-all}
+use borrow.Author.Tests.{eq-eqb, ne-eqb}
+use Rattle.lists.specs.Choose.{choose}
+use Rattle.lists.specs.Every.{All}
+use Rattle.lists.specs.Count.{countFrom}
+use Rattle.lists.proofs.Every.{all-map}
+use Rattle.lists.proofs.Count.{count-at, length-count}
+use Rattle.trails.specs.Counting.{agree, occurs, sumBelow}
+use Rattle.trails.specs.Strings.{Ends, turned}
+use Rattle.trails.specs.Places.{isTurned, signed, SignedPermutation, turnedBy, standing, arrangedTo, arranged}
+use Rattle.trails.proofs.Counting.{agree-same, agree-other, Agreeing, agree-cases, agree-le, sum-at, sum-off, sum-zero, occurs-at, once-if-used}
+use Rattle.trails.proofs.Orders.{Reordered, none, keep, turn, swap, both, unmoved, move-in, reordered-left, length-reordered}
+
+-- ─── the strings at one place ────────────────────────────────────────────────
+
+module _ {A : Type 0} (turn : A → A) (k : ℕ) (p : ℤ) (places : List ℤ) (x : A) (xs : List A) where
+  standing-here : k ≡ natAbs p → standing turn k (p ∷ places) (x ∷ xs) ≡ turnedBy turn p x ∷ standing turn k places xs
+  unfolding standing
+  standing-here e = rw (eq-eqb k (natAbs p) e)
+
+  standing-other : (k ≡ natAbs p → ⊥) → standing turn k (p ∷ places) (x ∷ xs) ≡ standing turn k places xs
+  unfolding standing
+  standing-other h = rw (ne-eqb k (natAbs p) h)
+
+module _ {A : Type 0} (turn : A → A) (k : ℕ) where
+  standing-none : (places : List ℤ) (xs : List A) → occurs k (map natAbs places) ≡ 0 → standing turn k places xs ≡ []
+  unfolding standing occurs
+  standing-none [] xs h = refl
+  standing-none (p ∷ places) [] h = refl
+  standing-none (p ∷ places) (x ∷ xs) h =
+      let off : k ≡ natAbs p → ⊥ = λ e. omega (arith, agree-same k (natAbs p) e) in
+      standing-other turn k p places x xs off ∙ standing-none places xs (omega arith)
+
+  -- a place that is used once has its one string
+  standing-once : (d y : A) (places : List ℤ) (xs : List A) → length xs ≡ length places → occurs k (map natAbs places) ≡ 1
+      → ((i : ℕ) → i < length places → natAbs (getD places i (pos 0)) ≡ k → y ≡ turnedBy turn (getD places i (pos 0)) (getD xs i d))
+      → standing turn k places xs ≡ y ∷ []
+  unfolding occurs
+  standing-once d y [] xs l o h = absurd (omega arith)
+  standing-once d y (p ∷ places) [] l o h = absurd (omega arith)
+  standing-once d y (p ∷ places) (x ∷ xs) l o h = go (ℕ-discrete k (natAbs p)) (standing-once d y places xs (omega arith))
+    where
+      go : Dec (k ≡ natAbs p)
+          → (occurs k (map natAbs places) ≡ 1
+          → ((i : ℕ) → i < length places → natAbs (getD places i (pos 0)) ≡ k → y ≡ turnedBy turn (getD places i (pos 0)) (getD xs i d))
+          → standing turn k places xs ≡ y ∷ [])
+          → standing turn k (p ∷ places) (x ∷ xs) ≡ y ∷ []
+      go (yes e) ih =
+          standing-here turn k p places x xs e
+          ∙ ap₂ (λ (a : A) (L : List A). a ∷ L) (sym (h 0 (omega arith) (sym e))) (standing-none places xs (omega (arith, agree-same k (natAbs p) e)))
+      go (no q) ih =
+          standing-other turn k p places x xs q
+          ∙ ih (omega (arith, agree-other k (natAbs p) q)) (λ i m e. h (suc i) (omega arith) e)
+
+-- ─── an order is known by where each string stands ───────────────────────────
+
+-- Each string i stands in the order at its place, turned where the place says so: then the places make that order.
+module _ {A : Type 0} (turn : A → A) (d : A) (m : ℕ) (places : List ℤ) (xs order : List A) (s : SignedPermutation m places) (l : length xs ≡ m) (o : length order ≡ m)
+    (stands : (i : ℕ) → i < m → getD order (natAbs (getD places i (pos 0)) - 1) d ≡ turnedBy turn (getD places i (pos 0)) (getD xs i d)) where
+  string-at : (n : ℕ) → n < m → (i : ℕ) → i < length places → natAbs (getD places i (pos 0)) ≡ suc n
+      → getD order n d ≡ turnedBy turn (getD places i (pos 0)) (getD xs i d)
+  string-at n b i k e =
+      let at-n : natAbs (getD places i (pos 0)) - 1 ≡ n = omega arith in
+      rw at-n at (stands i (omega (arith, s .number)))
+
+  arranged-to : (n : ℕ) → n ≤ m → arrangedTo turn n places xs ≡ take n order
+  unfolding arrangedTo
+  arranged-to zero k = refl
+  arranged-to (suc n) k =
+      ap₂ (λ (L M : List A). L ++ M) (arranged-to n (omega arith))
+      (standing-once turn (suc n) d (getD order n d) places xs (omega (arith, s .number)) (s .once (suc n) (omega arith) k) (string-at n (omega arith)))
+      ∙ sym (take-suc order n d (omega arith))
+
+  pub arranged-is : arranged turn places xs ≡ order
+  arranged-is = arranged-to (length places) (omega (arith, s .number)) ∙ take-all (length places) order (omega (arith, s .number))
+
+-- what is done to each string can be done before or after
+module _ {A B : Type 0} (turnA : A → A) (turnB : B → B) (f : A → B) (h : (x : A) → f (turnA x) ≡ turnB (f x)) where
+  map-standing : (k : ℕ) (places : List ℤ) (xs : List A) → map f (standing turnA k places xs) ≡ standing turnB k places (map f xs)
+  unfolding standing
+  map-standing k [] xs = refl
+  map-standing k (p ∷ places) [] = refl
+  map-standing k (p ∷ places) (x ∷ xs) = go (eqb k (natAbs p)) (isTurned p) (map-standing k places xs)
+    where
+      go : (t u : Bool) → map f (standing turnA k places xs) ≡ standing turnB k places (map f xs)
+          → map f (choose t (choose u (turnA x) x ∷ standing turnA k places xs) (standing turnA k places xs))
+          ≡ choose t (choose u (turnB (f x)) (f x) ∷ standing turnB k places (map f xs)) (standing turnB k places (map f xs))
+      go true true ih = ap₂ (λ (y : B) (L : List B). y ∷ L) (h x) ih
+      go true false ih = ap (λ (L : List B). f x ∷ L) ih
+      go false u ih = ih
+
+  map-arranged-to : (n : ℕ) (places : List ℤ) (xs : List A) → map f (arrangedTo turnA n places xs) ≡ arrangedTo turnB n places (map f xs)
+  unfolding arrangedTo
+  map-arranged-to zero places xs = refl
+  map-arranged-to (suc n) places xs =
+      map-append f (arrangedTo turnA n places xs) (standing turnA (suc n) places xs)
+      ∙ ap₂ (λ (L M : List B). L ++ M) (map-arranged-to n places xs) (map-standing (suc n) places xs)
+
+  pub map-arranged : (places : List ℤ) (xs : List A) → map f (arranged turnA places xs) ≡ arranged turnB places (map f xs)
+  map-arranged places xs = map-arranged-to (length places) places xs
+
+-- ─── from places to an order ─────────────────────────────────────────────────
+
+module _ (p : ℤ) (places : List ℤ) (x : Ends) (xs : List Ends) where
+  before-place : (n : ℕ) → n < natAbs p → arrangedTo turned n (p ∷ places) (x ∷ xs) ≡ arrangedTo turned n places xs
+  unfolding arrangedTo
+  before-place zero l = refl
+  before-place (suc n) l =
+      ap₂ (λ (L M : List Ends). L ++ M) (before-place n (omega arith)) (standing-other turned (suc n) p places x xs (λ q. omega arith))
+
+  into-place : (n : ℕ) → 1 ≤ natAbs p → natAbs p ≤ n → Reordered (turnedBy turned p x ∷ arrangedTo turned n places xs) (arrangedTo turned n (p ∷ places) (x ∷ xs))
+  unfolding arrangedTo
+  into-place zero l k = absurd (omega arith)
+  into-place (suc n) l k = go (ℕ-discrete (suc n) (natAbs p)) (into-place n l)
+    where
+      go : Dec (suc n ≡ natAbs p)
+          → (natAbs p ≤ n → Reordered (turnedBy turned p x ∷ arrangedTo turned n places xs) (arrangedTo turned n (p ∷ places) (x ∷ xs)))
+          → Reordered (turnedBy turned p x ∷ (arrangedTo turned n places xs ++ standing turned (suc n) places xs))
+          (arrangedTo turned n (p ∷ places) (x ∷ xs) ++ standing turned (suc n) (p ∷ places) (x ∷ xs))
+      go (yes q) ih =
+          rw (before-place n (omega arith), standing-here turned (suc n) p places x xs q)
+          (move-in (turnedBy turned p x) (arrangedTo turned n places xs) (standing turned (suc n) places xs))
+      go (no q) ih = rw (standing-other turned (suc n) p places x xs q) (reordered-left (standing turned (suc n) places xs) (ih (omega arith)))
+
+turned-first : (p : ℤ) (x : Ends) {L M : List Ends} → Reordered L M → Reordered (x ∷ L) (turnedBy turned p x ∷ M)
+turned-first (pos n) x r = keep r
+turned-first (negsuc n) x r = turn r
+
+nothing-placed : (n : ℕ) → arrangedTo turned n [] [] ≡ []
+unfolding arrangedTo standing
+nothing-placed zero = refl
+nothing-placed (suc n) = append-nil (arrangedTo turned n [] []) ∙ nothing-placed n
+
+placed-to : (n : ℕ) (places : List ℤ) (xs : List Ends) → length places ≡ length xs → All (λ p. (1 ≤ natAbs p) × (natAbs p ≤ n)) places → Reordered xs (arrangedTo turned n places xs)
+placed-to n [] [] l h = rw (nothing-placed n) none
+placed-to n [] (x ∷ xs) l h = absurd (omega arith)
+placed-to n (p ∷ places) [] l h = absurd (omega arith)
+placed-to n (p ∷ places) (x ∷ xs) l h =
+    both (turned-first p x (placed-to n places xs (omega arith) (h .1))) (into-place p places x xs n (h .0 .0) (h .0 .1))
+
+pub places-reordered : (places : List ℤ) (strings : List Ends) → SignedPermutation (length strings) places → Reordered strings (arranged turned places strings)
+places-reordered places strings s =
+    rw (s .number) (placed-to (length strings) places strings (s .number) (s .range))
+
+-- ─── from an order to places ─────────────────────────────────────────────────
+
+-- where each string stands in the order, counted from 0, and whether it is turned there
+record Located (xs order : List Ends) : Type 0 where
+  place : ℕ → ℕ
+  turns : ℕ → Bool
+  size : length order ≡ length xs
+  inside : (i : ℕ) → i < length xs → place i < length xs
+  onto : (j : ℕ) → j < length xs → (i : ℕ) × (i < length xs) × (place i ≡ j)
+  string : (i : ℕ) → i < length xs → getD order (place i) (0, 0) ≡ choose (turns i) (turned (getD xs i (0, 0))) (getD xs i (0, 0))
+
+-- the first value, then those of f
+abbrev first : {A : Type 0} → A → (ℕ → A) → ℕ → A
+first a f zero = a
+first a f (suc i) = f i
+
+turned-twice : (t u : Bool) (x : Ends) → choose u (turned (choose t (turned x) x)) (choose t (turned x) x) ≡ choose (choose t (not u) u) (turned x) x
+turned-twice true true x = refl
+turned-twice true false x = refl
+turned-twice false true x = refl
+turned-twice false false x = refl
+
+-- one string more in front, turned or not
+located-first : (t : Bool) (x : Ends) (L M : List Ends) → Located L M → Located (x ∷ L) (choose t (turned x) x ∷ M)
+located-first t x L M k = record {
+  place = first 0 (λ i. suc (k .place i));
+  turns = first t (k .turns);
+  size = ap suc (k .size);
+  inside = in-first;
+  onto = on-first;
+  string = at-first;
+}
+  where
+    in-first : (i : ℕ) → i < suc (length L) → first 0 (λ i. suc (k .place i)) i < suc (length L)
+    in-first zero l = omega arith
+    in-first (suc i) l = omega (arith, k .inside i (omega arith))
+
+    on-first : (j : ℕ) → j < suc (length L) → (i : ℕ) × (i < suc (length L)) × (first 0 (λ i. suc (k .place i)) i ≡ j)
+    on-first zero l = (0, omega arith, refl)
+    on-first (suc j) l = let o = k .onto j (omega arith) in (suc (o .0), omega (arith, o .1), ap suc (o .2))
+
+    at-first : (i : ℕ) → i < suc (length L)
+        → getD (choose t (turned x) x ∷ M) (first 0 (λ i. suc (k .place i)) i) (0, 0)
+        ≡ choose (first t (k .turns) i) (turned (getD (x ∷ L) i (0, 0))) (getD (x ∷ L) i (0, 0))
+    at-first zero l = refl
+    at-first (suc i) l = k .string i (omega arith)
+
+located-swap : (x y : Ends) (L : List Ends) → Located (x ∷ (y ∷ L)) (y ∷ (x ∷ L))
+located-swap x y L = record {
+  place = swapped;
+  turns = λ i. false;
+  size = refl;
+  inside = in-swap;
+  onto = on-swap;
+  string = at-swap;
+}
+  where
+    swapped : ℕ → ℕ
+    swapped = first 1 (first 0 (λ i. suc (suc i)))
+
+    in-swap : (i : ℕ) → i < suc (suc (length L)) → swapped i < suc (suc (length L))
+    in-swap zero l = omega arith
+    in-swap (suc zero) l = omega arith
+    in-swap (suc (suc i)) l = l
+
+    on-swap : (j : ℕ) → j < suc (suc (length L)) → (i : ℕ) × (i < suc (suc (length L))) × (swapped i ≡ j)
+    on-swap zero l = (1, omega arith, refl)
+    on-swap (suc zero) l = (0, omega arith, refl)
+    on-swap (suc (suc j)) l = (suc (suc j), l, refl)
+
+    at-swap : (i : ℕ) → i < suc (suc (length L)) → getD (y ∷ (x ∷ L)) (swapped i) (0, 0) ≡ getD (x ∷ (y ∷ L)) i (0, 0)
+    at-swap zero l = refl
+    at-swap (suc zero) l = refl
+    at-swap (suc (suc i)) l = refl
+
+located-both : (L M N : List Ends) → Located L M → Located M N → Located L N
+located-both L M N k q = record {
+  place = λ i. q .place (k .place i);
+  turns = λ i. choose (k .turns i) (not (q .turns (k .place i))) (q .turns (k .place i));
+  size = q .size ∙ k .size;
+  inside = λ i l. omega (arith, k .size, q .inside (k .place i) (omega (arith, k .size, k .inside i l)));
+  onto = on-both;
+  string = at-both;
+}
+  where
+    on-both : (j : ℕ) → j < length L → (i : ℕ) × (i < length L) × (q .place (k .place i) ≡ j)
+    on-both j l =
+        let a = q .onto j (omega (arith, k .size)) in
+        let b = k .onto (a .0) (omega (arith, k .size, a .1)) in
+        (b .0, b .1, ap (q .place) (b .2) ∙ a .2)
+
+    at-both : (i : ℕ) → i < length L
+        → getD N (q .place (k .place i)) (0, 0)
+        ≡ choose (choose (k .turns i) (not (q .turns (k .place i))) (q .turns (k .place i))) (turned (getD L i (0, 0))) (getD L i (0, 0))
+    at-both i l =
+        q .string (k .place i) (omega (arith, k .size, k .inside i l))
+        ∙ ap (λ (x : Ends). choose (q .turns (k .place i)) (turned x) x) (k .string i l)
+        ∙ turned-twice (k .turns i) (q .turns (k .place i)) (getD L i (0, 0))
+
+located : {L M : List Ends} → Reordered L M → Located L M
+located none = record {
+  place = λ i. i;
+  turns = λ i. false;
+  size = refl;
+  inside = λ i l. l;
+  onto = λ j l. (j, l, refl);
+  string = λ i l. refl;
+}
+located (keep {s = x} {L = L} {M = M} r) = located-first false x L M (located r)
+located (turn {a = a} {b = b} {L = L} {M = M} r) = located-first true (a, b) L M (located r)
+located (swap {s = x} {t = y} {L = L}) = located-swap x y L
+located (both {L = L} {M = M} {N = N} r q) = located-both L M N (located r) (located q)
+
+-- a table of values
+table-at : {A : Type 0} (f : ℕ → A) (d : A) (i n j : ℕ) → j < n → getD (map f (countFrom i n)) j d ≡ f (i + j)
+unfolding countFrom
+table-at f d i zero j l = absurd (omega arith)
+table-at f d i (suc n) zero l = ap f (omega arith)
+table-at f d i (suc n) (suc j) l = table-at f d (suc i) n j (omega arith) ∙ ap f (omega arith)
+
+table-all : {A : Type 0} (P : A → Type 0) (f : ℕ → A) (i n : ℕ) → ((j : ℕ) → i ≤ j → j < i + n → P (f j)) → All P (map f (countFrom i n))
+unfolding countFrom
+table-all P f i zero h = tt
+table-all P f i (suc n) h = (h i (omega arith) (omega arith), table-all P f (suc i) n (λ j a b. h j (omega arith) (omega arith)))
+
+size-signed : (n : ℕ) (t : Bool) → natAbs (signed (suc n) t) ≡ suc n
+size-signed n true = refl
+size-signed n false = refl
+
+turned-signed : (n : ℕ) (t : Bool) → isTurned (signed (suc n) t) ≡ t
+turned-signed n true = refl
+turned-signed n false = refl
+
+getD-map : {A B : Type 0} (f : A → B) (d : A) (xs : List A) (i : ℕ) → getD (map f xs) i (f d) ≡ f (getD xs i d)
+getD-map f d [] i = refl
+getD-map f d (x ∷ xs) zero = refl
+getD-map f d (x ∷ xs) (suc i) = getD-map f d xs i
+
+module _ (xs order : List Ends) (k : Located xs order) where
+  placeOf : ℕ → ℤ
+  placeOf i = signed (suc (k .place i)) (k .turns i)
+
+  placesOf : List ℤ
+  placesOf = map placeOf (countFrom 0 (length xs))
+
+  place-at : (i : ℕ) → i < length xs → getD placesOf i (pos 0) ≡ placeOf i
+  unfolding placesOf
+  place-at i l = table-at placeOf (pos 0) 0 (length xs) i l ∙ ap placeOf (omega arith)
+
+  size-at : (i : ℕ) → i < length xs → natAbs (getD placesOf i (pos 0)) ≡ suc (k .place i)
+  unfolding placeOf
+  size-at i l = ap natAbs (place-at i l) ∙ size-signed (k .place i) (k .turns i)
+
+  places-length : length placesOf ≡ length xs
+  unfolding placesOf
+  places-length = length-map (countFrom 0 (length xs)) placeOf ∙ length-count 0 (length xs)
+
+  places-used : (j : ℕ) → 1 ≤ j → j ≤ length xs → 1 ≤ occurs j (map natAbs placesOf)
+  places-used zero low high = omega arith
+  places-used (suc j) low high =
+      let o = k .onto j (omega arith) in
+      let l : o .0 < length (map natAbs placesOf) = rw (length-map placesOf natAbs, places-length) (o .1) in
+      occurs-at (suc j) (map natAbs placesOf) (o .0) l
+      (getD-map natAbs (pos 0) placesOf (o .0) ∙ size-at (o .0) (o .1) ∙ ap suc (o .2))
+
+  places-permute : SignedPermutation (length xs) placesOf
+  unfolding placesOf placeOf
+  places-permute = record {
+    number = places-length;
+    range = table-all (λ p. (1 ≤ natAbs p) × (natAbs p ≤ length xs)) placeOf 0 (length xs) in-range;
+    once = once-if-used (length xs) (map natAbs placesOf) (length-map placesOf natAbs ∙ places-length) places-used;
+  }
+    where
+      in-range : (j : ℕ) → 0 ≤ j → j < 0 + length xs → (1 ≤ natAbs (placeOf j)) × (natAbs (placeOf j) ≤ length xs)
+      in-range j a b = rw (size-signed (k .place j) (k .turns j)) (omega arith, omega (arith, k .inside j (omega arith)))
+
+  places-arrange : arranged turned placesOf xs ≡ order
+  places-arrange = arranged-is turned (0, 0) (length xs) placesOf xs order places-permute refl (k .size) stands
+    where
+      stands : (i : ℕ) → i < length xs → getD order (natAbs (getD placesOf i (pos 0)) - 1) (0, 0) ≡ turnedBy turned (getD placesOf i (pos 0)) (getD xs i (0, 0))
+      stands i l =
+          let at-i : natAbs (getD placesOf i (pos 0)) - 1 ≡ k .place i = omega (arith, size-at i l) in
+          let t : isTurned (getD placesOf i (pos 0)) ≡ k .turns i = unfold placeOf in (ap isTurned (place-at i l) ∙ turned-signed (k .place i) (k .turns i)) in
+          rw (at-i, t) (k .string i l)
+
+pub reordered-places : (strings order : List Ends) → Reordered strings order
+    → (places : List ℤ) × SignedPermutation (length strings) places × (arranged turned places strings ≡ order)
+reordered-places strings order r =
+    let k = located r in
+    (placesOf strings order k, places-permute strings order k, places-arrange strings order k)
