@@ -28,7 +28,7 @@ pub reached : (strings : List Ends) → (places : List ℤ) × SignedPermutation
 reached strings =
     let b = upper strings in
     let p = reordered-places strings (b .0) (b .1) in
-    (p .0, p .1, ap pathCount (p .2) ∙ (omega (arith, b .2, lower strings (b .0) (b .1))))
+    (p .0, p .1, ap pathCount (p .2) ∙ b .2)
 
 pub least-paths : (strings : List Ends) → LeastPaths strings (least strings)
 least-paths strings = record { none-fewer = at-least strings; reached = reached strings }

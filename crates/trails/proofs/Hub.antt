@@ -1,4 +1,4 @@
--- The hub: one fresh weight, with a string from it to each weight that occurs oddly often. With these spokes each weight has an even number of ends.
+-- The hub: one weight that no string has, with a string from it to each weight that occurs oddly often. With these spokes each weight has an even number of ends.
 -- A chain that comes back to the hub, without its spokes, is cut into one path for two spokes.
 use mathlib.Core.Path.{_≡_, refl, ap, sym, _∙_, subst}
 use mathlib.Core.Logic.{inl, inr}
@@ -29,13 +29,13 @@ unfoldable pub spokes : ℕ → List ℕ → ℕ → List Ends
 spokes h ws zero = []
 spokes h ws (suc n) = spokeIf (oddly ws n) (h, n) (spokes h ws n)
 
--- the hub of the strings: a weight above all of theirs
-abbrev pub hub : List Ends → ℕ
-hub strings = above (weights strings)
+-- a bound of the end weights
+abbrev pub limit : List Ends → ℕ
+limit strings = above (weights strings)
 
--- the strings with the spokes
-abbrev pub spoked : List Ends → List Ends
-spoked strings = spokes (hub strings) (weights strings) (hub strings) ++ strings
+-- the strings with a spoke to each of their odd weights
+abbrev pub spoked : ℕ → List Ends → List Ends
+spoked h strings = spokes h (weights strings) (limit strings) ++ strings
 
 -- ─── with them, all weights are even ─────────────────────────────────────────
 
@@ -71,15 +71,15 @@ module _ (h : ℕ) (ws : List ℕ) where
           )
       go (no d) ih = spoke-off v h n (oddly ws n) (spokes h ws n) (omega (arith, agree-other v h q, agree-other v n d)) ∙ ih (omega arith)
 
-  spokes-hub : (n : ℕ) → n ≤ h → occurs h (weights (spokes h ws n)) ≡ sumBelow n (oddly ws)
+  spokes-hub : (n : ℕ) → oddly ws h ≡ 0 → occurs h (weights (spokes h ws n)) ≡ sumBelow n (oddly ws)
   unfolding spokes sumBelow occurs weights
-  spokes-hub zero l = refl
-  spokes-hub (suc n) l =
-      omega (
-        arith,
-        spoke-on h h n (oddly ws n) (spokes h ws n) (omega (arith, agree-same h h refl, agree-other h n (λ e. omega arith))) (oddly-le ws n),
-        spokes-hub n (omega arith),
-      )
+  spokes-hub zero e = refl
+  spokes-hub (suc n) e = go (ℕ-discrete h n) (spokes-hub n e)
+    where
+      go : Dec (h ≡ n) → occurs h (weights (spokes h ws n)) ≡ sumBelow n (oddly ws)
+          → occurs h (weights (spokeIf (oddly ws n) (h, n) (spokes h ws n))) ≡ oddly ws n + sumBelow n (oddly ws)
+      go (yes q) ih = let z : oddly ws n ≡ 0 = ap (oddly ws) (sym q) ∙ e in rw z (omega arith)
+      go (no q) ih = omega (arith, ih, spoke-on h h n (oddly ws n) (spokes h ws n) (omega (arith, agree-same h h refl, agree-other h n q)) (oddly-le ws n))
 
 -- as many weights occur oddly often as there are occurrences, but for an even number
 odd-parity : (n : ℕ) (ws : List ℕ) → Below n ws → (countOdd n ws + length ws) % 2 ≡ 0
@@ -94,53 +94,50 @@ odd-parity n (x ∷ ws) h =
       oddly-same ws x,
     )
 
-module _ (strings : List Ends) where
-  -- O is even: each string gives two end weights
-  pub odd-weights-even : oddWeights strings % 2 ≡ 0
-  unfolding oddWeights
-  odd-weights-even = omega (arith, odd-parity (hub strings) (weights strings) (above-all (weights strings)), length-weights strings)
+-- O is even: each string gives two end weights
+pub odd-weights-even : (strings : List Ends) → oddWeights strings % 2 ≡ 0
+unfolding oddWeights
+odd-weights-even strings = omega (arith, odd-parity (limit strings) (weights strings) (above-all (weights strings)), length-weights strings)
 
-  pub hub-fresh : (v : ℕ) → hub strings ≤ v → occurs v (weights strings) ≡ 0
-  hub-fresh v l = occurs-beyond (hub strings) v (weights strings) (above-all (weights strings)) l
-
+-- The hub h is a weight that no string has.
+module _ (h : ℕ) (strings : List Ends) (fresh : occurs h (weights strings) ≡ 0) where
   -- the hub has O ends
-  pub spoked-hub : occurs (hub strings) (weights (spoked strings)) ≡ oddWeights strings
+  pub spoked-hub : occurs h (weights (spoked h strings)) ≡ oddWeights strings
   unfolding oddWeights countOdd
   spoked-hub =
+      omega (arith, fresh, occurs-both h (spokes h (weights strings) (limit strings)) strings, spokes-hub h (weights strings) (limit strings) own)
+    where
+      own : oddly (weights strings) h ≡ 0
+      own = unfold oddly in (omega (arith, fresh))
+
+  -- another weight has one more where it was odd
+  pub spoked-below : (v : ℕ) → (v ≡ h → ⊥) → v < limit strings → occurs v (weights (spoked h strings)) ≡ oddly (weights strings) v + occurs v (weights strings)
+  spoked-below v q l =
+      omega (arith, occurs-both v (spokes h (weights strings) (limit strings)) strings, spokes-at h (weights strings) v (limit strings) q l)
+
+  pub spoked-beyond : (v : ℕ) → (v ≡ h → ⊥) → limit strings ≤ v → occurs v (weights (spoked h strings)) ≡ 0
+  spoked-beyond v q l =
       omega (
         arith,
-        occurs-both (hub strings) (spokes (hub strings) (weights strings) (hub strings)) strings,
-        spokes-hub (hub strings) (weights strings) (hub strings) (omega arith),
-        hub-fresh (hub strings) (omega arith),
+        occurs-both v (spokes h (weights strings) (limit strings)) strings,
+        spokes-beyond h (weights strings) v (limit strings) q l,
+        occurs-beyond (limit strings) v (weights strings) (above-all (weights strings)) l,
       )
 
-  pub spoked-below : (v : ℕ) → v < hub strings → occurs v (weights (spoked strings)) ≡ oddly (weights strings) v + occurs v (weights strings)
-  spoked-below v l =
-      omega (
-        arith,
-        occurs-both v (spokes (hub strings) (weights strings) (hub strings)) strings,
-        spokes-at (hub strings) (weights strings) v (hub strings) (λ e. omega arith) l,
-      )
-
-  pub spoked-beyond : (v : ℕ) → hub strings < v → occurs v (weights (spoked strings)) ≡ 0
-  spoked-beyond v l =
-      omega (
-        arith,
-        occurs-both v (spokes (hub strings) (weights strings) (hub strings)) strings,
-        spokes-beyond (hub strings) (weights strings) v (hub strings) (λ e. omega arith) (omega arith),
-        hub-fresh v (omega arith),
-      )
-
-  pub spoked-even : AllEven (spoked strings)
-  spoked-even v = go (ℕ-discrete v (hub strings)) (decLt v (hub strings))
+  pub spoked-even : AllEven (spoked h strings)
+  spoked-even v = go (ℕ-discrete v h) (decLt v (limit strings))
     where
       own : oddly (weights strings) v ≡ occurs v (weights strings) % 2
       own = unfold oddly in refl
 
-      go : Dec (v ≡ hub strings) → Dec (v < hub strings) → occurs v (weights (spoked strings)) % 2 ≡ 0
-      go (yes e) d = omega (arith, ap (λ (x : ℕ). occurs x (weights (spoked strings))) e, spoked-hub, odd-weights-even)
-      go (no q) (yes l) = omega (arith, spoked-below v l, own)
-      go (no q) (no l) = omega (arith, spoked-beyond v (omega arith))
+      go : Dec (v ≡ h) → Dec (v < limit strings) → occurs v (weights (spoked h strings)) % 2 ≡ 0
+      go (yes e) d = omega (arith, ap (λ (x : ℕ). occurs x (weights (spoked h strings))) e, spoked-hub, odd-weights-even strings)
+      go (no q) (yes l) = omega (arith, spoked-below v q l, own)
+      go (no q) (no l) = omega (arith, spoked-beyond v q (omega arith))
+
+-- there is such a weight
+pub limit-fresh : (strings : List Ends) → occurs (limit strings) (weights strings) ≡ 0
+limit-fresh strings = occurs-beyond (limit strings) (limit strings) (weights strings) (above-all (weights strings)) (omega arith)
 
 -- what each string carries reaches from the hub to each odd weight
 pub carried-spokes : (P : ℕ → Type 0) (h : ℕ) (ws : List ℕ) (n : ℕ) → Carried P (spokes h ws n) → P h → (w : ℕ) → w < n → oddly ws w ≡ 1 → P w
@@ -223,11 +220,11 @@ unspoked-spokes h ws (suc n) = go (oddly ws n) (unspoked-spokes h ws n)
     go (suc o) ih = rw (agree-same h h refl) ih
 
 -- the strings come back
-pub unspoked-spoked : (strings : List Ends) → unspoked (hub strings) (spoked strings) ≡ strings
-unspoked-spoked strings =
-    unspoked-append (hub strings) (spokes (hub strings) (weights strings) (hub strings)) strings
-    ∙ ap (λ (L : List Ends). L ++ unspoked (hub strings) strings) (unspoked-spokes (hub strings) (weights strings) (hub strings))
-    ∙ unspoked-own (hub strings) strings (hub-fresh strings (hub strings) (omega arith))
+pub unspoked-spoked : (h : ℕ) (strings : List Ends) → occurs h (weights strings) ≡ 0 → unspoked h (spoked h strings) ≡ strings
+unspoked-spoked h strings fresh =
+    unspoked-append h (spokes h (weights strings) (limit strings)) strings
+    ∙ ap (λ (L : List Ends). L ++ unspoked h strings) (unspoked-spokes h (weights strings) (limit strings))
+    ∙ unspoked-own h strings fresh
 
 -- ─── a chain cut at the hub ──────────────────────────────────────────────────
 

@@ -77,11 +77,11 @@ started s U h = record {
   all = rw append-nil (unmoved U);
 }
 
-module _ (s : ℕ) (U₀ U T : List Ends) (w : ℕ) (Z : List Ends) (z : ℕ) where
+module _ {s : ℕ} {U₀ U : List Ends} {w : ℕ} {Z : List Ends} {z : ℕ} where
   -- an unused string from w to b is taken
-  pub taken : Walk s U₀ U T w Z z → (b : ℕ) (R : List Ends) → Reordered U ((w, b) ∷ R) → Walk s U₀ R ((w, b) ∷ T) b Z z
+  pub taken : {T : List Ends} → Walk s U₀ U T w Z z → (b : ℕ) (R : List Ends) → Reordered U ((w, b) ∷ R) → Walk s U₀ R ((w, b) ∷ T) b Z z
   unfolding occurs weights
-  taken k b R r = record {
+  taken {T} k b R r = record {
     trail = (refl, k .trail);
     chain = k .chain;
     even = λ v. omega (arith, k .even v, occurs-reordered r v);
@@ -90,38 +90,42 @@ module _ (s : ℕ) (U₀ U T : List Ends) (w : ℕ) (Z : List Ends) (z : ℕ) wh
   }
 
   -- where no unused string is at w, the walk stands where Z starts
-  pub stuck : Walk s U₀ U T w Z z → occurs w (weights U) ≡ 0 → w ≡ z
+  pub stuck : {T : List Ends} → Walk s U₀ U T w Z z → occurs w (weights U) ≡ 0 → w ≡ z
   stuck k h = ⊎-elim (λ d. d .0) (λ d. absurd (omega (arith, k .even w, d .1, agree-same w w refl))) (agree-cases w z)
 
   -- there the last string of T is given back to Z, and the walk stands at its front
-  pub popped : (e : Ends) → Walk s U₀ U (e ∷ T) w Z z → w ≡ z → occurs w (weights U) ≡ 0 → Walk s U₀ U T (front e) (e ∷ Z) (front e)
+  pub popped : {T : List Ends} {e : Ends} → Walk s U₀ U (e ∷ T) w Z z → occurs w (weights U) ≡ 0 → Walk s U₀ U T (front e) (e ∷ Z) (front e)
   unfolding occurs weights
-  popped e k at h = record {
-    trail = k .trail .1;
-    chain = (refl, subst (λ (x : ℕ). Chain x Z s) (sym (k .trail .0 ∙ at)) (k .chain));
-    even = λ v. omega (arith, k .even v, ap (agree v) at);
-    spent = λ v q l. gone v q l (ℕ-discrete v z);
-    all = both (k .all) (reordered-right U (move-in e T Z));
-  }
+  popped {T} {e} k h =
+      let here = stuck k h in
+      record {
+        trail = k .trail .1;
+        chain = (refl, subst (λ (x : ℕ). Chain x Z s) (sym (k .trail .0 ∙ here)) (k .chain));
+        even = λ v. omega (arith, k .even v, ap (agree v) here);
+        spent = λ v q l. gone v here q l (ℕ-discrete v z);
+        all = both (k .all) (reordered-right U (move-in e T Z));
+      }
     where
-      gone : (v : ℕ) → (v ≡ front e → ⊥) → 1 ≤ agree v (front e) + (agree v (back e) + occurs v (weights Z)) → Dec (v ≡ z) → occurs v (weights U) ≡ 0
-      gone v q l (yes p) = ap (λ (x : ℕ). occurs x (weights U)) (p ∙ sym at) ∙ h
-      gone v q l (no p) =
-          k .spent v p (omega (arith, l, agree-other v (front e) q, agree-other v (back e) (λ r. p (r ∙ k .trail .0 ∙ at))))
+      gone : (v : ℕ) → w ≡ z → (v ≡ front e → ⊥) → 1 ≤ agree v (front e) + (agree v (back e) + occurs v (weights Z)) → Dec (v ≡ z) → occurs v (weights U) ≡ 0
+      gone v here q l (yes p) = ap (λ (x : ℕ). occurs x (weights U)) (p ∙ sym here) ∙ h
+      gone v here q l (no p) =
+          k .spent v p (omega (arith, l, agree-other v (front e) q, agree-other v (back e) (λ r. p (r ∙ k .trail .0 ∙ here))))
 
   -- with nothing left in T, the walk is closed
-  pub closed : Walk s U₀ U [] w Z z → w ≡ z → occurs w (weights U) ≡ 0 → Closed s U₀ U Z
-  closed k at h = record {
-    chain = subst (λ (x : ℕ). Chain x Z s) (sym (k .trail ∙ at)) (k .chain);
-    even = λ v. omega (arith, k .even v, ap (agree v) at);
-    spent = λ v l. gone v l (ℕ-discrete v z);
-    home = ap (λ (x : ℕ). occurs x (weights U)) (k .trail) ∙ h;
-    all = k .all;
-  }
+  pub closed : Walk s U₀ U [] w Z z → occurs w (weights U) ≡ 0 → Closed s U₀ U Z
+  closed k h =
+      let here = stuck k h in
+      record {
+        chain = subst (λ (x : ℕ). Chain x Z s) (sym (k .trail ∙ here)) (k .chain);
+        even = λ v. omega (arith, k .even v, ap (agree v) here);
+        spent = λ v l. gone v here l (ℕ-discrete v z);
+        home = ap (λ (x : ℕ). occurs x (weights U)) (k .trail) ∙ h;
+        all = k .all;
+      }
     where
-      gone : (v : ℕ) → 1 ≤ occurs v (weights Z) → Dec (v ≡ z) → occurs v (weights U) ≡ 0
-      gone v l (yes p) = ap (λ (x : ℕ). occurs x (weights U)) (p ∙ sym at) ∙ h
-      gone v l (no p) = k .spent v p l
+      gone : (v : ℕ) → w ≡ z → 1 ≤ occurs v (weights Z) → Dec (v ≡ z) → occurs v (weights U) ≡ 0
+      gone v here l (yes p) = ap (λ (x : ℕ). occurs x (weights U)) (p ∙ sym here) ∙ h
+      gone v here l (no p) = k .spent v p l
 
 -- ─── the walk ends ───────────────────────────────────────────────────────────
 
@@ -134,10 +138,10 @@ walk-on (suc n) s U₀ U T w Z z l k = go T (find w U) l k (λ U′ T′ w′ Z�
     go : (T : List Ends) → Found w U → 2 * length U + length T < suc n → Walk s U₀ U T w Z z
         → ((U T : List Ends) (w : ℕ) (Z : List Ends) (z : ℕ) → 2 * length U + length T < n → Walk s U₀ U T w Z z → (U : List Ends) × (Z : List Ends) × Closed s U₀ U Z)
         → (U : List Ends) × (Z : List Ends) × Closed s U₀ U Z
-    go T (found b R r) l k more = more R ((w, b) ∷ T) b Z z (omega (arith, length-reordered r)) (taken s U₀ U T w Z z k b R r)
-    go [] (absent h) l k more = (U, Z, closed s U₀ U [] w Z z k (stuck s U₀ U [] w Z z k h) h)
+    go T (found b R r) l k more = more R ((w, b) ∷ T) b Z z (omega (arith, length-reordered r)) (taken k b R r)
+    go [] (absent h) l k more = (U, Z, closed k h)
     go (e ∷ T) (absent h) l k more =
-        more U T (front e) (e ∷ Z) (front e) (omega arith) (popped s U₀ U T w Z z e k (stuck s U₀ U (e ∷ T) w Z z k h) h)
+        more U T (front e) (e ∷ Z) (front e) (omega arith) (popped k h)
 
 -- from every weight there is a closed walk
 pub walked : (s : ℕ) (U : List Ends) → AllEven U → (R : List Ends) × (Z : List Ends) × Closed s U R Z
