@@ -1,7 +1,7 @@
 -- E + O / 2 is the least number of paths that an order and turning of the strings can have.
-use mathlib.Core.Path.{_≡_, refl, ap, sym, _∙_}
+use mathlib.Core.Path.{_≡_, refl, ap, _∙_}
 use mathlib.Core.List.{List, [], _∷_}
-use Prim.Native.Nat.{ℕ, _+_, _*_, _/_, _%_, _≤_}
+use Prim.Native.Nat.{ℕ, _*_, _/_, _≤_}
 use native.Mathlib.Omega.{arith}
 use lib.IntN.{ℤ}
 use lib.ListN.{length}
@@ -11,7 +11,7 @@ use Rattle.trails.specs.Places.{SignedPermutation, arranged}
 use Rattle.trails.specs.Groups.{evenGroups, oddWeights, least}
 use Rattle.trails.specs.Bounds.{LeastPaths}
 use Rattle.trails.proofs.Orders.{Reordered, length-reordered}
-use Rattle.trails.proofs.Paths.{count-breaks}
+use Rattle.trails.proofs.Paths.{paths-breaks}
 use Rattle.trails.proofs.Places.{places-reordered, reordered-places}
 use Rattle.trails.proofs.Lower.{lower, no-even-groups, no-odd}
 use Rattle.trails.proofs.Hub.{odd-weights-even}
@@ -20,25 +20,25 @@ use Rattle.trails.proofs.Upper.{upper}
 -- ─── the two bounds ──────────────────────────────────────────────────────────
 
 -- every order and turning has at least E + O / 2 paths
-pub at-least : (strings : List Ends) (places : List ℤ) → SignedPermutation (length strings) places → least strings ≤ pathCount (arranged turned places strings)
-at-least strings places s = lower strings (arranged turned places strings) (places-reordered places strings s)
+pub none-fewer : (strings : List Ends) (places : List ℤ) → SignedPermutation (length strings) places → least strings ≤ pathCount (arranged turned places strings)
+none-fewer strings places s = lower strings (arranged turned places strings) (places-reordered places strings s)
 
 -- one has exactly as many
-pub reached : (strings : List Ends) → (places : List ℤ) × SignedPermutation (length strings) places × (pathCount (arranged turned places strings) ≡ least strings)
-reached strings =
+pub one-reaches : (strings : List Ends) → (places : List ℤ) × SignedPermutation (length strings) places × (pathCount (arranged turned places strings) ≡ least strings)
+one-reaches strings =
     let b = upper strings in
     let p = reordered-places strings (b .0) (b .1) in
     (p .0, p .1, ap pathCount (p .2) ∙ b .2)
 
 pub least-paths : (strings : List Ends) → LeastPaths strings (least strings)
-least-paths strings = record { none-fewer = at-least strings; reached = reached strings }
+least-paths strings = record { none-fewer = none-fewer strings; reached = one-reaches strings }
 
 -- no other number is
 pub least-only : (strings : List Ends) (n : ℕ) → LeastPaths strings n → n ≡ least strings
 least-only strings n l =
-    let r = reached strings in
+    let r = one-reaches strings in
     let q = l .reached in
-    omega (arith, l .none-fewer (r .0) (r .1), r .2, at-least strings (q .0) (q .1), q .2)
+    omega (arith, l .none-fewer (r .0) (r .1), r .2, none-fewer strings (q .0) (q .1), q .2)
 
 -- ─── O, and no strings ───────────────────────────────────────────────────────
 
@@ -60,4 +60,4 @@ none-if-zero strings e =
     go : (strings order : List Ends) → Reordered strings order → pathCount order ≡ 0 → strings ≡ []
     go [] order r z = refl
     go (s ∷ strings) [] r z = absurd (omega (arith, length-reordered r))
-    go (s ∷ strings) (t ∷ order) r z = absurd (omega (arith, count-breaks t order))
+    go (s ∷ strings) (t ∷ order) r z = absurd (omega (arith, paths-breaks t order))

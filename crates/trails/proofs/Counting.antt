@@ -1,9 +1,9 @@
 -- Laws of counts and of sums below a bound. Assumes nothing.
-use mathlib.Core.Path.{_≡_, refl, ap, sym, _∙_}
+use mathlib.Core.Path.{_≡_, refl, ap, sym}
 use mathlib.Core.Logic.{_⊎_, inl, inr}
 use mathlib.Core.Bool.{Bool, true, false}
-use mathlib.Core.List.{List, [], _∷_, _++_, map}
-use Prim.Native.Nat.{ℕ, zero, suc, _+_, _-_, _%_, _≤_, _<_, max}
+use mathlib.Core.List.{List, [], _∷_, map}
+use Prim.Native.Nat.{ℕ, zero, suc, _+_, _-_, _≤_, _<_}
 use native.Mathlib.Omega.{arith}
 use native.Mathlib.Decide.{ℕ-discrete, decLt}
 use lib.Dec.{eqb}
@@ -87,11 +87,6 @@ module _ (f g : ℕ → ℕ) where
 
 -- ─── occurrences ─────────────────────────────────────────────────────────────
 
-pub occurs-append : (w : ℕ) (xs ys : List ℕ) → occurs w (xs ++ ys) ≡ occurs w xs + occurs w ys
-unfolding occurs
-occurs-append w [] ys = omega arith
-occurs-append w (x ∷ xs) ys = omega (arith, occurs-append w xs ys)
-
 pub occurs-at : (w : ℕ) (xs : List ℕ) (i : ℕ) → i < length xs → getD xs i 0 ≡ w → 1 ≤ occurs w xs
 unfolding occurs
 occurs-at w [] i l e = omega arith
@@ -108,7 +103,17 @@ occurs-map c w (x ∷ xs) h = go (agree-cases w x) (occurs-map c w xs)
     go (inl a) ih = omega (arith, agree-same (c w) (c x) (ap c (a .0)))
     go (inr a) ih = omega (arith, ih (omega (arith, a .1)))
 
--- and one that none of them has does not
+-- and a name that occurs there is that of a weight
+pub occurs-map-some : (c : ℕ → ℕ) (l : ℕ) (xs : List ℕ) → 1 ≤ occurs l (map c xs) → (w : ℕ) × (1 ≤ occurs w xs) × (c w ≡ l)
+unfolding occurs
+occurs-map-some c l [] h = absurd (omega arith)
+occurs-map-some c l (x ∷ xs) h = go (agree-cases l (c x)) (occurs-map-some c l xs)
+  where
+    go : Agreeing l (c x) → (1 ≤ occurs l (map c xs) → (w : ℕ) × (1 ≤ occurs w xs) × (c w ≡ l)) → (w : ℕ) × (1 ≤ agree w x + occurs w xs) × (c w ≡ l)
+    go (inl a) ih = (x, omega (arith, agree-same x x refl), sym (a .0))
+    go (inr a) ih = let w = ih (omega (arith, a .1)) in (w .0, omega (arith, w .1), w .2)
+
+-- a name that none of them has does not occur
 pub occurs-map-not : (c : ℕ → ℕ) (l : ℕ) (xs : List ℕ) → ((v : ℕ) → 1 ≤ occurs v xs → l ≡ c v → ⊥) → occurs l (map c xs) ≡ 0
 unfolding occurs
 occurs-map-not c l [] h = refl
@@ -136,15 +141,15 @@ oddly-other ws x w h = omega (arith, agree-other w x h)
 
 -- ─── a bound ─────────────────────────────────────────────────────────────────
 
-abbrev pub Below : ℕ → List ℕ → Type 0
-Below n ws = All (λ w. w < n) ws
+abbrev pub AllBelow : ℕ → List ℕ → Type 0
+AllBelow n ws = All (λ w. w < n) ws
 
-pub above-all : (ws : List ℕ) → Below (above ws) ws
+pub above-all : (ws : List ℕ) → AllBelow (above ws) ws
 unfolding above
 above-all [] = tt
 above-all (w ∷ ws) = (omega arith, all-map (λ x l. omega arith) ws (above-all ws))
 
-pub occurs-beyond : (n v : ℕ) (ws : List ℕ) → Below n ws → n ≤ v → occurs v ws ≡ 0
+pub occurs-beyond : (n v : ℕ) (ws : List ℕ) → AllBelow n ws → n ≤ v → occurs v ws ≡ 0
 unfolding occurs
 occurs-beyond n v [] h l = refl
 occurs-beyond n v (x ∷ ws) h l = omega (arith, agree-other v x (λ e. omega (arith, h .0)), occurs-beyond n v ws (h .1) l)

@@ -1,12 +1,11 @@
 -- The examples of document 01, by their end weights.
 use mathlib.Core.Path.{_≡_, refl}
 use mathlib.Core.List.{List, [], _∷_}
-use Prim.Native.Nat.{ℕ}
 use lib.IntN.{pos, negsuc}
-use Rattle.trails.specs.Counting.{agree, occurs}
+use Rattle.trails.specs.Counting.{agree}
 use Rattle.trails.specs.Strings.{Ends, turned}
 use Rattle.trails.specs.Paths.{paths, pathCount}
-use Rattle.trails.specs.Places.{SignedPermutation, arrangedTo, arranged}
+use Rattle.trails.specs.Places.{arrangedTo, arranged}
 use Rattle.trails.specs.Groups.{evenGroups, oddWeights, least}
 
 -- a string (2, 2) has no path of its own

@@ -46,7 +46,27 @@ module _ (s : Ends) (strings : List Ends) (w : ℕ) where
   unfolding nameOf
   name-other h = rw (ne-eqb (nameOf strings w) (nameOf strings (back s)) h)
 
--- names are weights: below every bound of the weights
+-- a name names itself
+pub name-of-name : (strings : List Ends) (w : ℕ) → nameOf strings (nameOf strings w) ≡ nameOf strings w
+unfolding nameOf
+name-of-name [] w = refl
+name-of-name (s ∷ strings) w = go (ℕ-discrete (nameOf strings w) (nameOf strings (back s))) (name-of-name strings)
+  where
+    front-name : ((v : ℕ) → nameOf strings (nameOf strings v) ≡ nameOf strings v) → Dec (nameOf strings (nameOf strings (front s)) ≡ nameOf strings (back s))
+        → nameOf (s ∷ strings) (nameOf strings (front s)) ≡ nameOf strings (front s)
+    front-name ih (yes e) = name-joined s strings (nameOf strings (front s)) e
+    front-name ih (no q) = name-other s strings (nameOf strings (front s)) q ∙ ih (front s)
+
+    go : Dec (nameOf strings w ≡ nameOf strings (back s)) → ((v : ℕ) → nameOf strings (nameOf strings v) ≡ nameOf strings v)
+        → nameOf (s ∷ strings) (nameOf (s ∷ strings) w) ≡ nameOf (s ∷ strings) w
+    go (yes e) ih =
+        let r : nameOf (s ∷ strings) w ≡ nameOf strings (front s) = name-joined s strings w e in
+        ap (nameOf (s ∷ strings)) r ∙ front-name ih (ℕ-discrete (nameOf strings (nameOf strings (front s))) (nameOf strings (back s))) ∙ sym r
+    go (no q) ih =
+        let r : nameOf (s ∷ strings) w ≡ nameOf strings w = name-other s strings w q in
+        ap (nameOf (s ∷ strings)) r ∙ name-other s strings (nameOf strings w) (λ e. q (sym (ih w) ∙ e)) ∙ ih w ∙ sym r
+
+-- names are below every bound of the weights
 pub name-below : (n : ℕ) (strings : List Ends) → EndsBelow n strings → (w : ℕ) → w < n → nameOf strings w < n
 unfolding weights nameOf
 name-below n [] h w l = l
@@ -58,9 +78,13 @@ name-below n (s ∷ strings) h w l = go (eqb (nameOf strings w) (nameOf strings 
 
 -- ─── what each string carries ────────────────────────────────────────────────
 
--- each string has P at both its ends or at none
+-- the string has P at both its ends or at none
+abbrev pub Carries : (ℕ → Type 0) → Ends → Type 0
+Carries P s = (P (front s) → P (back s)) × (P (back s) → P (front s))
+
+-- each of the strings has
 abbrev pub Carried : (ℕ → Type 0) → List Ends → Type 0
-Carried P L = All (λ s. (P (front s) → P (back s)) × (P (back s) → P (front s))) L
+Carried P L = All (Carries P) L
 
 -- then a whole group has it or none of it
 pub carried-group : (P : ℕ → Type 0) (strings : List Ends) → Carried P strings → (w v : ℕ) → nameOf strings w ≡ nameOf strings v → P w → P v
@@ -78,7 +102,7 @@ carried-group P (s ∷ strings) k w v h p =
 
 module _ (P : ℕ → Type 0) where
   pub carried-back : {L M : List Ends} → Reordered L M → Carried P M → Carried P L
-  carried-back r = all-reordered (λ s. (P (front s) → P (back s)) × (P (back s) → P (front s))) (λ s k. (k .1, k .0)) (turn-back r)
+  carried-back r = all-reordered (Carries P) (λ s k. (k .1, k .0)) (turn-back r)
 
   -- P of all end weights, or of none of them
   pub carried-all : (L : List Ends) → ((w : ℕ) → 1 ≤ occurs w (weights L) → P w) → Carried P L
@@ -112,3 +136,7 @@ chain-carried strings (s ∷ L) w h = (
 -- weights of one name are joined
 pub same-name-joined : (strings : List Ends) (w v : ℕ) → nameOf strings w ≡ nameOf strings v → Joined strings w v
 same-name-joined strings w v h = carried-group (Joined strings w) strings (chain-carried strings strings w (λ t m. m)) w v h start
+
+-- the name of a group is one of its weights
+pub joined-name : (strings : List Ends) (w : ℕ) → Joined strings w (nameOf strings w)
+joined-name strings w = same-name-joined strings w (nameOf strings w) (sym (name-of-name strings w))

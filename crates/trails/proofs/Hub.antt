@@ -3,7 +3,7 @@
 use mathlib.Core.Path.{_≡_, refl, ap, sym, _∙_, subst}
 use mathlib.Core.Logic.{inl, inr}
 use mathlib.Core.List.{List, [], _∷_, _++_}
-use Prim.Native.Nat.{ℕ, zero, suc, _+_, _-_, _*_, _%_, _≤_, _<_}
+use Prim.Native.Nat.{ℕ, zero, suc, _+_, _*_, _%_, _≤_, _<_}
 use native.Mathlib.Omega.{arith}
 use native.Mathlib.Decide.{ℕ-discrete, decLt}
 use lib.ListN.{length}
@@ -11,9 +11,9 @@ use Rattle.trails.specs.Counting.{agree, occurs, oddly, sumBelow, above}
 use Rattle.trails.specs.Strings.{Ends, front, back, weights}
 use Rattle.trails.specs.Paths.{pathCount}
 use Rattle.trails.specs.Groups.{countOdd, oddWeights}
-use Rattle.trails.proofs.Counting.{agree-same, agree-other, Agreeing, agree-cases, agree-le, sum-at, oddly-le, oddly-same, oddly-other, Below, above-all, occurs-beyond}
-use Rattle.trails.proofs.Orders.{Reordered, none, keep, turn, swap, both, unmoved, occurs-both, length-weights}
-use Rattle.trails.proofs.Paths.{breaks, count-breaks, count-none, Chain}
+use Rattle.trails.proofs.Counting.{agree-same, agree-other, Agreeing, agree-cases, agree-le, sum-at, oddly-le, oddly-same, oddly-other, AllBelow, above-all, occurs-beyond}
+use Rattle.trails.proofs.Orders.{Reordered, empty, keep, turn, exchange, both, unmoved, occurs-both, length-weights}
+use Rattle.trails.proofs.Paths.{breaks, paths-breaks, paths-none, Chain}
 use Rattle.trails.proofs.Groups.{Carried}
 use Rattle.trails.proofs.Lower.{no-odd}
 use Rattle.trails.proofs.Walk.{AllEven}
@@ -82,7 +82,7 @@ module _ (h : ℕ) (ws : List ℕ) where
       go (no q) ih = omega (arith, ih, spoke-on h h n (oddly ws n) (spokes h ws n) (omega (arith, agree-same h h refl, agree-other h n q)) (oddly-le ws n))
 
 -- as many weights occur oddly often as there are occurrences, but for an even number
-odd-parity : (n : ℕ) (ws : List ℕ) → Below n ws → (countOdd n ws + length ws) % 2 ≡ 0
+odd-parity : (n : ℕ) (ws : List ℕ) → AllBelow n ws → (countOdd n ws + length ws) % 2 ≡ 0
 unfolding countOdd
 odd-parity n [] h = omega (arith, no-odd n)
 odd-parity n (x ∷ ws) h =
@@ -175,7 +175,7 @@ unspoked-append h (s ∷ A) B = go (agree h (front s)) (agree h (back s)) (unspo
 
 pub unspoked-reordered : (h : ℕ) {L M : List Ends} → Reordered L M → Reordered (unspoked h L) (unspoked h M)
 unfolding unspoked
-unspoked-reordered h none = none
+unspoked-reordered h empty = empty
 unspoked-reordered h (keep {s = s} r) = go (agree h (front s)) (agree h (back s)) (unspoked-reordered h r)
   where
     go : (i j : ℕ) {A B : List Ends} → Reordered A B → Reordered (keepIf i j s A) (keepIf i j s B)
@@ -189,10 +189,10 @@ unspoked-reordered h (turn {a = x} {b = y} r) = go (agree h x) (agree h y) (unsp
     go zero (suc j) q = q
     go (suc i) zero q = q
     go (suc i) (suc j) q = q
-unspoked-reordered h (swap {s = s} {t = t} {L = L}) = go (agree h (front s)) (agree h (back s)) (agree h (front t)) (agree h (back t)) (unspoked h L)
+unspoked-reordered h (exchange {s = s} {t = t} {L = L}) = go (agree h (front s)) (agree h (back s)) (agree h (front t)) (agree h (back t)) (unspoked h L)
   where
     go : (i j k l : ℕ) (A : List Ends) → Reordered (keepIf i j s (keepIf k l t A)) (keepIf k l t (keepIf i j s A))
-    go zero zero zero zero A = swap
+    go zero zero zero zero A = exchange
     go zero zero zero (suc l) A = unmoved (s ∷ A)
     go zero zero (suc k) l A = unmoved (s ∷ A)
     go zero (suc j) k l A = unmoved (keepIf k l t A)
@@ -257,7 +257,7 @@ cut-behind h s q x (t ∷ Z) c = go (agree-cases h (front t)) (agree-cases h (ba
 -- A chain to the hub, without its spokes: two spokes for each path, but for a part at the start that the hub does not open.
 pub cut-chain : (h x : ℕ) (Z : List Ends) → Chain x Z h → 2 * pathCount (unspoked h Z) + agree h x ≤ occurs h (weights Z) + 1
 unfolding unspoked occurs weights
-cut-chain h x [] c = omega (arith, agree-le h x, count-none)
+cut-chain h x [] c = omega (arith, agree-le h x, paths-none)
 cut-chain h x (t ∷ Z) c = go (agree-cases h (front t)) (agree-cases h (back t)) (cut-chain h (back t) Z (c .1)) (λ r. cut-behind h t r (back t) Z (c .1))
   where
     go : Agreeing h (front t) → Agreeing h (back t) → 2 * pathCount (unspoked h Z) + agree h (back t) ≤ occurs h (weights Z) + 1
@@ -267,4 +267,4 @@ cut-chain h x (t ∷ Z) c = go (agree-cases h (front t)) (agree-cases h (back t)
     go (inr a) (inl b) ih k = rw (a .1, b .1) (omega (arith, ap (agree h) (c .0), a .1))
     go (inr a) (inr b) ih k =
         rw (a .1, b .1)
-        (omega (arith, k (λ p. b .0 (sym p)), ap (agree h) (c .0), a .1, agree-same (back t) (back t) refl, count-breaks t (unspoked h Z)))
+        (omega (arith, k (λ p. b .0 (sym p)), ap (agree h) (c .0), a .1, agree-same (back t) (back t) refl, paths-breaks t (unspoked h Z)))

@@ -4,6 +4,7 @@ pub mod Orders
 pub mod Paths
 pub mod Places
 pub mod Groups
+pub mod EvenGroups
 pub mod Lower
 pub mod Walk
 pub mod Hub

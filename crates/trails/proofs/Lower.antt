@@ -4,7 +4,7 @@
 use mathlib.Core.Path.{_≡_, refl, ap, ap₂, sym, _∙_, fun-ext}
 use mathlib.Core.Logic.{inl, inr}
 use mathlib.Core.List.{List, [], _∷_, map}
-use Prim.Native.Nat.{ℕ, zero, suc, _+_, _-_, _*_, _/_, _%_, _≤_, _<_}
+use Prim.Native.Nat.{ℕ, zero, suc, _+_, _-_, _*_, _%_, _≤_, _<_}
 use native.Mathlib.Omega.{arith}
 use native.Mathlib.Decide.{ℕ-discrete, decLt}
 use lib.ListN.{length}
@@ -12,33 +12,11 @@ use Rattle.trails.specs.Counting.{agree, occurs, oddly, sumBelow, above}
 use Rattle.trails.specs.Strings.{Ends, front, back, weights}
 use Rattle.trails.specs.Paths.{pathCount}
 use Rattle.trails.specs.Groups.{nameOf, allEven, oddMembers, evenGroup, countEvenGroups, countOdd, evenGroups, oddWeights, least}
-use Rattle.trails.proofs.Counting.{agree-same, agree-other, Agreeing, agree-cases, sum-zero, sum-part, sum-mono, sum-at, sum-off, oddly-le, oddly-same, oddly-other, Below, above-all}
+use Rattle.trails.proofs.Counting.{agree-same, agree-other, Agreeing, agree-cases, sum-zero, sum-part, sum-mono, sum-at, sum-off, oddly-le, oddly-same, oddly-other, AllBelow, above-all}
 use Rattle.trails.proofs.Orders.{Reordered, names-reordered, oddly-reordered, EndsBelow, below-reordered}
-use Rattle.trails.proofs.Paths.{breaks, count-breaks, count-none}
+use Rattle.trails.proofs.EvenGroups.{even-le, even-not, even-mono}
+use Rattle.trails.proofs.Paths.{breaks, paths-breaks, paths-none}
 use Rattle.trails.proofs.Groups.{Level, name-level, level-reordered}
-
--- ─── is a group even? ────────────────────────────────────────────────────────
-
-pub even-le : (m o : ℕ) → allEven m o ≤ 1
-even-le zero o = omega arith
-even-le (suc m) zero = omega arith
-even-le (suc m) (suc o) = omega arith
-
-even-not : (m o : ℕ) → 1 ≤ o → allEven m o ≡ 0
-even-not zero o h = refl
-even-not (suc m) zero h = omega arith
-even-not (suc m) (suc o) h = refl
-
-even-mono : (m n o : ℕ) → (1 ≤ m → 1 ≤ n) → allEven m o ≤ allEven n o
-even-mono zero n o h = omega arith
-even-mono (suc m) zero o h = omega (arith, h (omega arith))
-even-mono (suc m) (suc n) zero h = omega arith
-even-mono (suc m) (suc n) (suc o) h = omega arith
-
-pub even-is : (m o : ℕ) → 1 ≤ m → o ≡ 0 → allEven m o ≡ 1
-even-is zero o h k = absurd (omega arith)
-even-is (suc m) zero h k = refl
-even-is (suc m) (suc o) h k = absurd (omega arith)
 
 -- ─── what one weight more pays for ───────────────────────────────────────────
 
@@ -101,7 +79,7 @@ pub no-odd : (n : ℕ) → countOdd n [] ≡ 0
 unfolding countOdd oddly occurs
 no-odd n = sum-zero (oddly []) n (λ w k. refl)
 
-pub each-pays : (n : ℕ) (name : ℕ → ℕ) (ws : List ℕ) → Below n ws → 2 * countEvenGroups n name ws + countOdd n ws ≤ length ws
+pub each-pays : (n : ℕ) (name : ℕ → ℕ) (ws : List ℕ) → AllBelow n ws → 2 * countEvenGroups n name ws + countOdd n ws ≤ length ws
 each-pays n name [] h = omega (arith, no-even-groups n name, no-odd n)
 each-pays n name (x ∷ ws) h = omega (arith, one-more n name ws x (h .0), each-pays n name ws (h .1))
 
@@ -136,8 +114,8 @@ length-ends-from s (t ∷ order) = go (length-ends-from t order) (agree-cases (b
 
 length-path-ends : (order : List Ends) → length (pathEnds order) ≡ 2 * pathCount order
 unfolding pathEnds
-length-path-ends [] = omega (arith, count-none)
-length-path-ends (s ∷ order) = omega (arith, length-ends-from s order, count-breaks s order)
+length-path-ends [] = omega (arith, paths-none)
+length-path-ends (s ∷ order) = omega (arith, length-ends-from s order, paths-breaks s order)
 
 -- they have the parity of all end weights
 parity-from : (w : ℕ) (s : Ends) (order : List Ends) → (agree w (front s) + occurs w (endsFrom s order)) % 2 ≡ occurs w (weights (s ∷ order)) % 2
@@ -157,16 +135,16 @@ parity [] w = refl
 parity (s ∷ order) w = sym (parity-from w s order)
 
 -- and no weight that the end weights do not have
-below-from : (n : ℕ) (s : Ends) (order : List Ends) → EndsBelow n (s ∷ order) → Below n (endsFrom s order)
+below-from : (n : ℕ) (s : Ends) (order : List Ends) → EndsBelow n (s ∷ order) → AllBelow n (endsFrom s order)
 unfolding weights endsFrom cutEnds
 below-from n s [] h = (h .1 .0, tt)
 below-from n s (t ∷ order) h = go (below-from n t order (h .1 .1)) (agree (back s) (front t))
   where
-    go : Below n (endsFrom t order) → (d : ℕ) → Below n (cutEnds d (back s) (front t) (endsFrom t order))
+    go : AllBelow n (endsFrom t order) → (d : ℕ) → AllBelow n (cutEnds d (back s) (front t) (endsFrom t order))
     go ih zero = (h .1 .0, (h .1 .1 .0, ih))
     go ih (suc d) = ih
 
-below-path-ends : (n : ℕ) (order : List Ends) → EndsBelow n order → Below n (pathEnds order)
+below-path-ends : (n : ℕ) (order : List Ends) → EndsBelow n order → AllBelow n (pathEnds order)
 unfolding weights pathEnds
 below-path-ends n [] h = tt
 below-path-ends n (s ∷ order) h = (h .0, below-from n s order h)

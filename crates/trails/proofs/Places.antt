@@ -1,26 +1,40 @@
 -- Signed permutations and orders are the same: places put the strings into an order (`places-reordered`), and each order is made by places (`reordered-places`).
 -- An order is known by where each string stands in it (`arranged-is`).
-use mathlib.Core.Path.{_≡_, refl, ap, ap₂, sym, _∙_, subst}
+use mathlib.Core.Path.{_≡_, refl, ap, ap₂, sym, _∙_}
 use mathlib.Core.Bool.{Bool, true, false, not}
 use mathlib.Core.List.{List, [], _∷_, _++_, map, map-append, append-nil}
 use Prim.Native.Nat.{ℕ, zero, suc, _+_, _-_, _≤_, _<_}
 use native.Mathlib.Omega.{arith}
-use native.Mathlib.Decide.{ℕ-discrete}
+use native.Mathlib.Decide.{ℕ-discrete, decLt}
 use lib.Dec.{eqb}
 use lib.IntN.{ℤ, pos, negsuc, natAbs}
-use lib.ListN.{length, getD, take, length-map}
-use lib.Seq.{take-suc, take-all}
+use lib.ListN.{length, getD, take, length-map, length-append, List·getD-append}
+use lib.Seq.{take-suc, take-all, getD-append-add}
 use borrow.Author.Tests.{eq-eqb, ne-eqb}
 use Rattle.lists.specs.Choose.{choose}
 use Rattle.lists.specs.Every.{All}
 use Rattle.lists.specs.Count.{countFrom}
-use Rattle.lists.proofs.Every.{all-map}
-use Rattle.lists.proofs.Count.{count-at, length-count}
-use Rattle.trails.specs.Counting.{agree, occurs, sumBelow}
+use Rattle.lists.proofs.Every.{all-at}
+use Rattle.lists.proofs.Mapped.{map-at, map-all, values-at, values-all}
+use Rattle.lists.proofs.Count.{length-count}
+use Rattle.trails.specs.Counting.{agree, occurs}
 use Rattle.trails.specs.Strings.{Ends, turned}
 use Rattle.trails.specs.Places.{isTurned, signed, SignedPermutation, turnedBy, standing, arrangedTo, arranged}
-use Rattle.trails.proofs.Counting.{agree-same, agree-other, Agreeing, agree-cases, agree-le, sum-at, sum-off, sum-zero, occurs-at, once-if-used}
-use Rattle.trails.proofs.Orders.{Reordered, none, keep, turn, swap, both, unmoved, move-in, reordered-left, length-reordered}
+use Rattle.trails.proofs.Counting.{agree-same, agree-other, agree-le, occurs-at, once-if-used, once-if-apart}
+use Rattle.trails.proofs.Orders.{Reordered, empty, keep, turn, exchange, both, move-in, reordered-left}
+
+-- ─── a place from its number and its sign ────────────────────────────────────
+
+pub size-signed : (n : ℕ) (t : Bool) → natAbs (signed n t) ≡ n
+size-signed zero true = refl
+size-signed (suc n) true = refl
+size-signed n false = refl
+
+-- zero has no sign
+pub turned-signed : (n : ℕ) (t : Bool) → 1 ≤ n → isTurned (signed n t) ≡ t
+turned-signed zero t l = absurd (omega arith)
+turned-signed (suc n) true l = refl
+turned-signed (suc n) false l = refl
 
 -- ─── the strings at one place ────────────────────────────────────────────────
 
@@ -63,6 +77,31 @@ module _ {A : Type 0} (turn : A → A) (k : ℕ) where
           standing-other turn k p places x xs q
           ∙ ih (omega (arith, agree-other k (natAbs p) q)) (λ i m e. h (suc i) (omega arith) e)
 
+  length-standing : (places : List ℤ) (xs : List A) → length xs ≡ length places → length (standing turn k places xs) ≡ occurs k (map natAbs places)
+  unfolding occurs standing
+  length-standing [] xs l = refl
+  length-standing (p ∷ places) [] l = absurd (omega arith)
+  length-standing (p ∷ places) (x ∷ xs) l = go (ℕ-discrete k (natAbs p)) (length-standing places xs (omega arith))
+    where
+      go : Dec (k ≡ natAbs p) → length (standing turn k places xs) ≡ occurs k (map natAbs places)
+          → length (standing turn k (p ∷ places) (x ∷ xs)) ≡ agree k (natAbs p) + occurs k (map natAbs places)
+      go (yes e) ih = rw (standing-here turn k p places x xs e) (omega (arith, agree-same k (natAbs p) e))
+      go (no q) ih = rw (standing-other turn k p places x xs q) (omega (arith, agree-other k (natAbs p) q))
+
+  standing-at : (d : A) (places : List ℤ) (xs : List A) → length xs ≡ length places → occurs k (map natAbs places) ≡ 1
+      → (i : ℕ) → i < length places → natAbs (getD places i (pos 0)) ≡ k
+      → standing turn k places xs ≡ turnedBy turn (getD places i (pos 0)) (getD xs i d) ∷ []
+  unfolding occurs
+  standing-at d [] xs l o i b e = absurd (omega arith)
+  standing-at d (p ∷ places) [] l o i b e = absurd (omega arith)
+  standing-at d (p ∷ places) (x ∷ xs) l o zero b e =
+      standing-here turn k p places x xs (sym e)
+      ∙ ap (λ (L : List A). turnedBy turn p x ∷ L) (standing-none places xs (omega (arith, agree-same k (natAbs p) (sym e))))
+  standing-at d (p ∷ places) (x ∷ xs) l o (suc i) b e =
+      let later : 1 ≤ occurs k (map natAbs places) =
+      occurs-at k (map natAbs places) i (rw (length-map places natAbs) (omega arith)) (map-at natAbs (pos 0) places i ∙ e) in
+      standing-other turn k p places x xs (λ q. omega (arith, agree-same k (natAbs p) q)) ∙ standing-at d places xs (omega arith) (omega (arith, agree-le k (natAbs p))) i (omega arith) e
+
 -- ─── an order is known by where each string stands ───────────────────────────
 
 -- Each string i stands in the order at its place, turned where the place says so: then the places make that order.
@@ -84,6 +123,48 @@ module _ {A : Type 0} (turn : A → A) (d : A) (m : ℕ) (places : List ℤ) (xs
 
   pub arranged-is : arranged turn places xs ≡ order
   arranged-is = arranged-to (length places) (omega (arith, s .number)) ∙ take-all (length places) order (omega (arith, s .number))
+
+-- The same from the other side: where the places put each string.
+module _ {A : Type 0} (turn : A → A) (d : A) (m : ℕ) (places : List ℤ) (xs : List A) (s : SignedPermutation m places) (l : length xs ≡ m) where
+  length-arranged-to : (n : ℕ) → n ≤ m → length (arrangedTo turn n places xs) ≡ n
+  unfolding arrangedTo
+  length-arranged-to zero k = refl
+  length-arranged-to (suc n) k =
+      omega (
+        arith,
+        length-append (arrangedTo turn n places xs) (standing turn (suc n) places xs),
+        length-arranged-to n (omega arith),
+        length-standing turn (suc n) places xs (omega (arith, s .number)),
+        s .once (suc n) (omega arith) k,
+      )
+
+  pub length-arranged : length (arranged turn places xs) ≡ m
+  length-arranged = length-arranged-to (length places) (omega (arith, s .number)) ∙ s .number
+
+  at-place : (i : ℕ) → i < m → (n : ℕ) → natAbs (getD places i (pos 0)) ≡ suc n → (k : ℕ) → n < k → k ≤ m
+      → getD (arrangedTo turn k places xs) n d ≡ turnedBy turn (getD places i (pos 0)) (getD xs i d)
+  unfolding arrangedTo
+  at-place i b n e zero lo hi = absurd (omega arith)
+  at-place i b n e (suc k) lo hi = go (decLt n k) (at-place i b n e k)
+    where
+      size : length (arrangedTo turn k places xs) ≡ k
+      size = length-arranged-to k (omega arith)
+
+      last : n ≡ k → standing turn (suc k) places xs ≡ turnedBy turn (getD places i (pos 0)) (getD xs i d) ∷ []
+      last q =
+          standing-at turn (suc k) d places xs (omega (arith, s .number)) (s .once (suc k) (omega arith) hi) i (omega (arith, s .number)) (omega arith)
+
+      go : Dec (n < k) → (n < k → k ≤ m → getD (arrangedTo turn k places xs) n d ≡ turnedBy turn (getD places i (pos 0)) (getD xs i d))
+          → getD (arrangedTo turn k places xs ++ standing turn (suc k) places xs) n d ≡ turnedBy turn (getD places i (pos 0)) (getD xs i d)
+      go (yes q) ih = List·getD-append (arrangedTo turn k places xs) (standing turn (suc k) places xs) d n (omega (arith, size)) ∙ ih q (omega arith)
+      go (no q) ih =
+          let here : n ≡ length (arrangedTo turn k places xs) + 0 = omega (arith, size) in
+          rw (here, getD-append-add, last (omega arith))
+
+  pub arranged-at : (i : ℕ) → i < m → getD (arranged turn places xs) (natAbs (getD places i (pos 0)) - 1) d ≡ turnedBy turn (getD places i (pos 0)) (getD xs i d)
+  arranged-at i b =
+      let r = all-at (λ p. (1 ≤ natAbs p) × (natAbs p ≤ m)) places (s .range) i (pos 0) (omega (arith, s .number)) in
+      at-place i b (natAbs (getD places i (pos 0)) - 1) (omega (arith, r)) (length places) (omega (arith, r, s .number)) (omega (arith, s .number))
 
 -- what is done to each string can be done before or after
 module _ {A B : Type 0} (turnA : A → A) (turnB : B → B) (f : A → B) (h : (x : A) → f (turnA x) ≡ turnB (f x)) where
@@ -109,6 +190,21 @@ module _ {A B : Type 0} (turnA : A → A) (turnB : B → B) (f : A → B) (h : (
 
   pub map-arranged : (places : List ℤ) (xs : List A) → map f (arranged turnA places xs) ≡ arranged turnB places (map f xs)
   map-arranged places xs = map-arranged-to (length places) places xs
+
+-- ─── when m places are a signed permutation ──────────────────────────────────
+
+module _ (m : ℕ) (places : List ℤ) (number : length places ≡ m) (range : All (λ p. (1 ≤ natAbs p) × (natAbs p ≤ m)) places) where
+  -- if each of 1 to m is used
+  pub permutation-if-used : ((k : ℕ) → 1 ≤ k → k ≤ m → 1 ≤ occurs k (map natAbs places)) → SignedPermutation m places
+  permutation-if-used h = record { number = number; range = range; once = once-if-used m (map natAbs places) (length-map places natAbs ∙ number) h }
+
+  -- or if none is used twice
+  pub permutation-if-apart : ((k : ℕ) → occurs k (map natAbs places) ≤ 1) → SignedPermutation m places
+  permutation-if-apart h = record {
+    number = number;
+    range = range;
+    once = once-if-apart m (map natAbs places) (length-map places natAbs ∙ number) (map-all (λ k. (1 ≤ k) × (k ≤ m)) natAbs places range) h;
+  }
 
 -- ─── from places to an order ─────────────────────────────────────────────────
 
@@ -143,7 +239,7 @@ nothing-placed zero = refl
 nothing-placed (suc n) = append-nil (arrangedTo turned n [] []) ∙ nothing-placed n
 
 placed-to : (n : ℕ) (places : List ℤ) (xs : List Ends) → length places ≡ length xs → All (λ p. (1 ≤ natAbs p) × (natAbs p ≤ n)) places → Reordered xs (arrangedTo turned n places xs)
-placed-to n [] [] l h = rw (nothing-placed n) none
+placed-to n [] [] l h = rw (nothing-placed n) empty
 placed-to n [] (x ∷ xs) l h = absurd (omega arith)
 placed-to n (p ∷ places) [] l h = absurd (omega arith)
 placed-to n (p ∷ places) (x ∷ xs) l h =
@@ -253,7 +349,7 @@ located-both L M N k q = record {
         ∙ turned-twice (k .turns i) (q .turns (k .place i)) (getD L i (0, 0))
 
 located : {L M : List Ends} → Reordered L M → Located L M
-located none = record {
+located empty = record {
   place = λ i. i;
   turns = λ i. false;
   size = refl;
@@ -263,33 +359,8 @@ located none = record {
 }
 located (keep {s = x} {L = L} {M = M} r) = located-first false x L M (located r)
 located (turn {a = a} {b = b} {L = L} {M = M} r) = located-first true (a, b) L M (located r)
-located (swap {s = x} {t = y} {L = L}) = located-swap x y L
+located (exchange {s = x} {t = y} {L = L}) = located-swap x y L
 located (both {L = L} {M = M} {N = N} r q) = located-both L M N (located r) (located q)
-
--- a table of values
-table-at : {A : Type 0} (f : ℕ → A) (d : A) (i n j : ℕ) → j < n → getD (map f (countFrom i n)) j d ≡ f (i + j)
-unfolding countFrom
-table-at f d i zero j l = absurd (omega arith)
-table-at f d i (suc n) zero l = ap f (omega arith)
-table-at f d i (suc n) (suc j) l = table-at f d (suc i) n j (omega arith) ∙ ap f (omega arith)
-
-table-all : {A : Type 0} (P : A → Type 0) (f : ℕ → A) (i n : ℕ) → ((j : ℕ) → i ≤ j → j < i + n → P (f j)) → All P (map f (countFrom i n))
-unfolding countFrom
-table-all P f i zero h = tt
-table-all P f i (suc n) h = (h i (omega arith) (omega arith), table-all P f (suc i) n (λ j a b. h j (omega arith) (omega arith)))
-
-size-signed : (n : ℕ) (t : Bool) → natAbs (signed (suc n) t) ≡ suc n
-size-signed n true = refl
-size-signed n false = refl
-
-turned-signed : (n : ℕ) (t : Bool) → isTurned (signed (suc n) t) ≡ t
-turned-signed n true = refl
-turned-signed n false = refl
-
-getD-map : {A B : Type 0} (f : A → B) (d : A) (xs : List A) (i : ℕ) → getD (map f xs) i (f d) ≡ f (getD xs i d)
-getD-map f d [] i = refl
-getD-map f d (x ∷ xs) zero = refl
-getD-map f d (x ∷ xs) (suc i) = getD-map f d xs i
 
 module _ (xs order : List Ends) (k : Located xs order) where
   placeOf : ℕ → ℤ
@@ -300,11 +371,11 @@ module _ (xs order : List Ends) (k : Located xs order) where
 
   place-at : (i : ℕ) → i < length xs → getD placesOf i (pos 0) ≡ placeOf i
   unfolding placesOf
-  place-at i l = table-at placeOf (pos 0) 0 (length xs) i l ∙ ap placeOf (omega arith)
+  place-at i l = values-at placeOf (pos 0) 0 (length xs) i l ∙ ap placeOf (omega arith)
 
   size-at : (i : ℕ) → i < length xs → natAbs (getD placesOf i (pos 0)) ≡ suc (k .place i)
   unfolding placeOf
-  size-at i l = ap natAbs (place-at i l) ∙ size-signed (k .place i) (k .turns i)
+  size-at i l = ap natAbs (place-at i l) ∙ size-signed (suc (k .place i)) (k .turns i)
 
   places-length : length placesOf ≡ length xs
   unfolding placesOf
@@ -316,18 +387,15 @@ module _ (xs order : List Ends) (k : Located xs order) where
       let o = k .onto j (omega arith) in
       let l : o .0 < length (map natAbs placesOf) = rw (length-map placesOf natAbs, places-length) (o .1) in
       occurs-at (suc j) (map natAbs placesOf) (o .0) l
-      (getD-map natAbs (pos 0) placesOf (o .0) ∙ size-at (o .0) (o .1) ∙ ap suc (o .2))
+      (map-at natAbs (pos 0) placesOf (o .0) ∙ size-at (o .0) (o .1) ∙ ap suc (o .2))
 
   places-permute : SignedPermutation (length xs) placesOf
   unfolding placesOf placeOf
-  places-permute = record {
-    number = places-length;
-    range = table-all (λ p. (1 ≤ natAbs p) × (natAbs p ≤ length xs)) placeOf 0 (length xs) in-range;
-    once = once-if-used (length xs) (map natAbs placesOf) (length-map placesOf natAbs ∙ places-length) places-used;
-  }
+  places-permute =
+      permutation-if-used (length xs) placesOf places-length (values-all (λ p. (1 ≤ natAbs p) × (natAbs p ≤ length xs)) placeOf 0 (length xs) in-range) places-used
     where
       in-range : (j : ℕ) → 0 ≤ j → j < 0 + length xs → (1 ≤ natAbs (placeOf j)) × (natAbs (placeOf j) ≤ length xs)
-      in-range j a b = rw (size-signed (k .place j) (k .turns j)) (omega arith, omega (arith, k .inside j (omega arith)))
+      in-range j a b = rw (size-signed (suc (k .place j)) (k .turns j)) (omega arith, omega (arith, k .inside j (omega arith)))
 
   places-arrange : arranged turned placesOf xs ≡ order
   places-arrange = arranged-is turned (0, 0) (length xs) placesOf xs order places-permute refl (k .size) stands
@@ -335,7 +403,7 @@ module _ (xs order : List Ends) (k : Located xs order) where
       stands : (i : ℕ) → i < length xs → getD order (natAbs (getD placesOf i (pos 0)) - 1) (0, 0) ≡ turnedBy turned (getD placesOf i (pos 0)) (getD xs i (0, 0))
       stands i l =
           let at-i : natAbs (getD placesOf i (pos 0)) - 1 ≡ k .place i = omega (arith, size-at i l) in
-          let t : isTurned (getD placesOf i (pos 0)) ≡ k .turns i = unfold placeOf in (ap isTurned (place-at i l) ∙ turned-signed (k .place i) (k .turns i)) in
+          let t : isTurned (getD placesOf i (pos 0)) ≡ k .turns i = unfold placeOf in (ap isTurned (place-at i l) ∙ turned-signed (suc (k .place i)) (k .turns i) (omega arith)) in
           rw (at-i, t) (k .string i l)
 
 pub reordered-places : (strings order : List Ends) → Reordered strings order

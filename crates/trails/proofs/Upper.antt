@@ -2,23 +2,23 @@
 -- With the spokes all weights are even. One walk from the hub, then a walk from each weight of a string that is still unused, use all strings.
 -- Without the spokes the first walk is O / 2 paths. Each later walk is one path, and starts in an all-even group of its own: when a walk starts, each weight has all of its strings used or none,
 -- so each group has; and a group with an odd weight hangs on the hub, whose strings are used.
-use mathlib.Core.Path.{_≡_, refl, ap, sym, _∙_, subst}
-use mathlib.Core.Logic.{inl, inr}
+use mathlib.Core.Path.{_≡_, refl, ap, sym, subst}
 use mathlib.Core.List.{List, [], _∷_, _++_, map, append-assoc}
 use Prim.Native.Nat.{ℕ, zero, suc, _+_, _*_, _/_, _%_, _≤_, _<_}
 use native.Mathlib.Omega.{arith}
 use native.Mathlib.Decide.{ℕ-discrete, decLt}
 use lib.ListN.{length, length-append}
 use Rattle.lists.proofs.Every.{all-append, all-left, all-right}
-use Rattle.trails.specs.Counting.{agree, occurs, oddly, sumBelow}
-use Rattle.trails.specs.Strings.{Ends, front, back, weights}
+use Rattle.trails.specs.Counting.{occurs, oddly, sumBelow}
+use Rattle.trails.specs.Strings.{Ends, front, weights}
 use Rattle.trails.specs.Paths.{pathCount}
 use Rattle.trails.specs.Groups.{nameOf, oddMembers, evenGroup, countEvenGroups, evenGroups, oddWeights, least}
-use Rattle.trails.proofs.Counting.{agree-same, Agreeing, agree-cases, sum-zero, sum-mono, sum-at, occurs-map, occurs-map-not, oddly-le, above-all}
+use Rattle.trails.proofs.Counting.{agree-same, sum-mono, sum-at, occurs-map, occurs-map-not, oddly-le, above-all}
 use Rattle.trails.proofs.Orders.{Reordered, both, reordered-left, length-reordered, occurs-reordered, occurs-both, names-both}
-use Rattle.trails.proofs.Paths.{count-append, chain-count}
-use Rattle.trails.proofs.Groups.{name-below, Carried, carried-group, carried-back, carried-all, carried-none}
-use Rattle.trails.proofs.Lower.{even-is, lower}
+use Rattle.trails.proofs.Paths.{paths-append, chain-one-path}
+use Rattle.trails.proofs.Groups.{name-below, Carries, Carried, carried-group, carried-back, carried-all, carried-none}
+use Rattle.trails.proofs.EvenGroups.{even-is, no-odd-members}
+use Rattle.trails.proofs.Lower.{lower}
 use Rattle.trails.proofs.Walk.{AllEven, Closed, walked}
 use Rattle.trails.proofs.Hub.{spokes, limit, limit-fresh, spoked, odd-weights-even, spoked-hub, spoked-below, spoked-beyond, spoked-even, carried-spokes, unspoked, unspoked-append, unspoked-reordered, unspoked-own, unspoked-spoked, cut-chain}
 
@@ -55,8 +55,8 @@ abbrev pub reachedBy : List Ends → List Ends → ℕ → ℕ
 reachedBy strings Y l = reachedIf (evenGroup (limit strings) (nameOf strings) (weights strings) l) (occurs l (map (nameOf strings) (weights Y)))
 
 -- the number of all-even groups of the strings that Y reaches
-abbrev pub reached : List Ends → List Ends → ℕ
-reached strings Y = sumBelow (limit strings) (reachedBy strings Y)
+abbrev pub groupsReached : List Ends → List Ends → ℕ
+groupsReached strings Y = sumBelow (limit strings) (reachedBy strings Y)
 
 -- ─── the state between two walks ─────────────────────────────────────────────
 
@@ -71,7 +71,7 @@ pub record Toured (h : ℕ) (strings : List Ends) (j : ℕ) (U Y : List Ends) : 
   -- O / 2 paths, and one for each later walk
   pub few : 2 * pathCount (unspoked h Y) ≤ oddWeights strings + 2 * j
   -- each later walk reached an all-even group of its own
-  pub own-groups : j ≤ reached strings Y
+  pub own-groups : j ≤ groupsReached strings Y
 
 -- the first walk, from the hub
 pub first-walk : {h : ℕ} {strings U Z : List Ends} → occurs h (weights strings) ≡ 0 → Closed h (spoked h strings) U Z → Toured h strings 0 U Z
@@ -97,24 +97,21 @@ module _ {h : ℕ} {strings : List Ends} {j : ℕ} {U Y : List Ends} (fresh : oc
   Spent : ℕ → Type 0
   Spent v = occurs v (weights U) ≡ 0
 
-  Both : Ends → Type 0
-  Both e = (Spent (front e) → Spent (back e)) × (Spent (back e) → Spent (front e))
-
   spent-carried : Carried Spent (spoked h strings)
-  unfolding Spent Both
-  spent-carried = carried-back Spent (k .all) (all-append Both U Y (carried-none Spent U (λ v l z. omega arith)) (carried-all Spent Y (k .apart)))
+  unfolding Spent
+  spent-carried = carried-back Spent (k .all) (all-append (Carries Spent) U Y (carried-none Spent U (λ v l z. omega arith)) (carried-all Spent Y (k .apart)))
 
   -- no weight in the group of s is spent
   unspent : (v : ℕ) → nameOf strings s ≡ nameOf strings v → occurs v (weights U) ≡ 0 → ⊥
-  unfolding Spent Both
+  unfolding Spent
   unspent v e z =
-      omega (arith, carried-group Spent strings (all-right Both (spokes h (weights strings) (limit strings)) strings spent-carried) v s (sym e) z)
+      omega (arith, carried-group Spent strings (all-right (Carries Spent) (spokes h (weights strings) (limit strings)) strings spent-carried) v s (sym e) z)
 
   -- every odd weight is
   odd-spent : (w : ℕ) → w < limit strings → oddly (weights strings) w ≡ 1 → occurs w (weights U) ≡ 0
-  unfolding Spent Both
+  unfolding Spent
   odd-spent w l o =
-      carried-spokes Spent h (weights strings) (limit strings) (all-left Both (spokes h (weights strings) (limit strings)) strings spent-carried)
+      carried-spokes Spent h (weights strings) (limit strings) (all-left (Carries Spent) (spokes h (weights strings) (limit strings)) strings spent-carried)
       (k .hub-spent) w l o
 
   within : occurs s (weights U) ≤ occurs s (weights (spoked h strings))
@@ -137,19 +134,12 @@ module _ {h : ℕ} {strings : List Ends} {j : ℕ} {U Y : List Ends} (fresh : oc
       own = unfold oddly in refl
 
   no-odd-member : oddMembers (limit strings) (nameOf strings) (weights strings) (nameOf strings s) ≡ 0
-  unfolding oddMembers
   no-odd-member =
-      sum-zero (λ w. agree (nameOf strings s) (nameOf strings w) * oddly (weights strings) w) (limit strings)
-      (λ w l. go w l (agree-cases (nameOf strings s) (nameOf strings w)) (ℕ-discrete (oddly (weights strings) w) 1))
+      no-odd-members (limit strings) (nameOf strings) (weights strings) (nameOf strings s) (λ w l e. go w l e (ℕ-discrete (oddly (weights strings) w) 1))
     where
-      zero-else : (w : ℕ) → (oddly (weights strings) w ≡ 1 → ⊥) → oddly (weights strings) w ≡ 0
-      zero-else w o = omega (arith, oddly-le (weights strings) w)
-
-      go : (w : ℕ) → w < limit strings → Agreeing (nameOf strings s) (nameOf strings w) → Dec (oddly (weights strings) w ≡ 1)
-          → agree (nameOf strings s) (nameOf strings w) * oddly (weights strings) w ≡ 0
-      go w l (inl a) (yes o) = absurd (unspent w (a .0) (odd-spent w l o))
-      go w l (inl a) (no o) = rw (zero-else w o) (omega arith)
-      go w l (inr a) o = rw (a .1) (omega arith)
+      go : (w : ℕ) → w < limit strings → nameOf strings s ≡ nameOf strings w → Dec (oddly (weights strings) w ≡ 1) → oddly (weights strings) w ≡ 0
+      go w l e (yes o) = absurd (unspent w e (odd-spent w l o))
+      go w l e (no o) = omega (arith, oddly-le (weights strings) w)
 
   -- the group of s is all even
   pub starts-even : evenGroup (limit strings) (nameOf strings) (weights strings) (nameOf strings s) ≡ 1
@@ -184,7 +174,7 @@ module _ {h : ℕ} {strings : List Ends} {j : ℕ} {U Y : List Ends} (fresh : oc
         (omega (arith, names-both (nameOf strings) (nameOf strings s) Z Y, occurs-map (nameOf strings) s (weights Z) walk-at-start))
 
     -- so one more all-even group is reached
-    pub one-more-reached : suc (reached strings Y) ≤ reached strings (Z ++ Y)
+    pub one-more-reached : suc (groupsReached strings Y) ≤ groupsReached strings (Z ++ Y)
     one-more-reached =
         omega (
           arith,
@@ -211,9 +201,9 @@ module _ {h : ℕ} {strings : List Ends} {j : ℕ} {U Y : List Ends} (fresh : oc
             arith,
             k .few,
             ap pathCount (unspoked-append h Z Y),
-            count-append (unspoked h Z) (unspoked h Y),
+            paths-append (unspoked h Z) (unspoked h Y),
             ap pathCount (unspoked-own h Z hub-off),
-            chain-count s Z s (t .chain),
+            chain-one-path s Z s (t .chain),
           );
       own-groups = omega (arith, k .own-groups, one-more-reached);
     }
@@ -225,7 +215,7 @@ module _ {h : ℕ} {strings : List Ends} {j : ℕ} {Y : List Ends} (fresh : occu
   pub toured-reordered : Reordered strings (unspoked h Y)
   toured-reordered = subst (λ (L : List Ends). Reordered L (unspoked h Y)) (unspoked-spoked h strings fresh) (unspoked-reordered h (k .all))
 
-  reached-all : reached strings Y ≤ evenGroups strings
+  reached-all : groupsReached strings Y ≤ evenGroups strings
   unfolding evenGroups countEvenGroups
   reached-all =
       sum-mono (reachedBy strings Y) (evenGroup (limit strings) (nameOf strings) (weights strings)) (limit strings)

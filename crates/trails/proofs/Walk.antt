@@ -13,7 +13,7 @@ use lib.ListN.{length}
 use Rattle.trails.specs.Counting.{agree, occurs}
 use Rattle.trails.specs.Strings.{Ends, front, back, weights}
 use Rattle.trails.proofs.Counting.{agree-same, agree-other, agree-cases}
-use Rattle.trails.proofs.Orders.{Reordered, keep, turn, swap, both, unmoved, move-in, reordered-left, reordered-right, length-reordered, occurs-reordered}
+use Rattle.trails.proofs.Orders.{Reordered, keep, turn, exchange, both, unmoved, move-in, reordered-left, reordered-right, length-reordered, occurs-reordered}
 use Rattle.trails.proofs.Paths.{Chain}
 
 -- ─── a string at a weight ────────────────────────────────────────────────────
@@ -32,7 +32,7 @@ find w (s ∷ U) = go (ℕ-discrete w (front s)) (ℕ-discrete w (back s)) (find
     go (yes p) d r = found (back s) U (subst (λ (v : ℕ). Reordered (s ∷ U) ((v, back s) ∷ U)) (sym p) (unmoved (s ∷ U)))
     go (no q) (yes p) r = found (front s) U (subst (λ (v : ℕ). Reordered (s ∷ U) ((v, front s) ∷ U)) (sym p) (turn (unmoved U)))
     go (no q) (no p) (absent z) = absent (omega (arith, z, agree-other w (front s) q, agree-other w (back s) p))
-    go (no q) (no p) (found b R r) = found b (s ∷ R) (both (keep r) swap)
+    go (no q) (no p) (found b R r) = found b (s ∷ R) (both (keep r) exchange)
 
 -- ─── the state of a walk ─────────────────────────────────────────────────────
 

@@ -13,7 +13,7 @@ pub data Joined (strings : List Ends) : ℕ → ℕ → Type 0 where
   behind : {w a b : ℕ} → Joined strings w b → List·Memᴰ (a, b) strings → Joined strings w a
 
 -- A name for the group of w: each string gives the group of its back the name of the group of its front.
--- Two weights have one name exactly if they are joined (`same-name-joined` and `joined-same-name` in proofs/Groups).
+-- Two weights have one name exactly if they are joined, and the name is itself a weight of the group (proofs/Groups).
 unfoldable pub nameOf : List Ends → ℕ → ℕ
 nameOf [] w = w
 nameOf (s ∷ strings) w =
@@ -25,7 +25,7 @@ allEven zero odds = 0
 allEven (suc members) zero = 1
 allEven (suc members) (suc odds) = 0
 
--- Weights ws below n, in groups by their names.
+-- Weights ws below n, in groups by their names, which are below n too.
 module _ (n : ℕ) (name : ℕ → ℕ) (ws : List ℕ) where
   -- how many weights of the group l occur oddly often
   unfoldable pub oddMembers : ℕ → ℕ
