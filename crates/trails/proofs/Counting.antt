@@ -93,6 +93,15 @@ occurs-at w [] i l e = omega arith
 occurs-at w (x ∷ xs) zero l e = omega (arith, agree-same w x (sym e))
 occurs-at w (x ∷ xs) (suc i) l e = omega (arith, occurs-at w xs i (omega arith) e)
 
+pub occurs-where : (w : ℕ) (xs : List ℕ) → 1 ≤ occurs w xs → (i : ℕ) × (i < length xs) × (getD xs i 0 ≡ w)
+unfolding occurs
+occurs-where w [] h = absurd (omega arith)
+occurs-where w (x ∷ xs) h = go (agree-cases w x) (occurs-where w xs)
+  where
+    go : Agreeing w x → (1 ≤ occurs w xs → (i : ℕ) × (i < length xs) × (getD xs i 0 ≡ w)) → (i : ℕ) × (i < suc (length xs)) × (getD (x ∷ xs) i 0 ≡ w)
+    go (inl a) ih = (0, omega arith, sym (a .0))
+    go (inr a) ih = let u = ih (omega (arith, a .1)) in (suc (u .0), omega (arith, u .1), u .2)
+
 -- a name that a weight of xs has occurs among their names
 pub occurs-map : (c : ℕ → ℕ) (w : ℕ) (xs : List ℕ) → 1 ≤ occurs w xs → 1 ≤ occurs (c w) (map c xs)
 unfolding occurs

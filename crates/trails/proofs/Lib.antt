@@ -2,6 +2,7 @@
 pub mod Counting
 pub mod Orders
 pub mod Paths
+pub mod Arranged
 pub mod Places
 pub mod Groups
 pub mod EvenGroups

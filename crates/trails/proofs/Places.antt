@@ -1,210 +1,24 @@
 -- Signed permutations and orders are the same: places put the strings into an order (`places-reordered`), and each order is made by places (`reordered-places`).
--- An order is known by where each string stands in it (`arranged-is`).
-use mathlib.Core.Path.{_≡_, refl, ap, ap₂, sym, _∙_}
+-- A string after the other goes into its place; and an order is taken apart into where each string stands in it.
+use mathlib.Core.Path.{_≡_, refl, ap, ap₂, _∙_}
 use mathlib.Core.Bool.{Bool, true, false, not}
-use mathlib.Core.List.{List, [], _∷_, _++_, map, map-append, append-nil}
+use mathlib.Core.List.{List, [], _∷_, _++_, map, append-nil}
 use Prim.Native.Nat.{ℕ, zero, suc, _+_, _-_, _≤_, _<_}
 use native.Mathlib.Omega.{arith}
-use native.Mathlib.Decide.{ℕ-discrete, decLt}
-use lib.Dec.{eqb}
+use native.Mathlib.Decide.{ℕ-discrete}
 use lib.IntN.{ℤ, pos, negsuc, natAbs}
-use lib.ListN.{length, getD, take, length-map, length-append, List·getD-append}
-use lib.Seq.{take-suc, take-all, getD-append-add}
-use borrow.Author.Tests.{eq-eqb, ne-eqb}
+use lib.ListN.{length, getD, length-map}
 use Rattle.lists.specs.Choose.{choose}
 use Rattle.lists.specs.Every.{All}
 use Rattle.lists.specs.Count.{countFrom}
-use Rattle.lists.proofs.Every.{all-at}
-use Rattle.lists.proofs.Mapped.{map-at, map-all, values-at, values-all}
+use Rattle.lists.proofs.Mapped.{map-at, values-at, values-all}
 use Rattle.lists.proofs.Count.{length-count}
-use Rattle.trails.specs.Counting.{agree, occurs}
+use Rattle.trails.specs.Counting.{occurs}
 use Rattle.trails.specs.Strings.{Ends, turned}
 use Rattle.trails.specs.Places.{isTurned, signed, SignedPermutation, turnedBy, standing, arrangedTo, arranged}
-use Rattle.trails.proofs.Counting.{agree-same, agree-other, agree-le, occurs-at, once-if-used, once-if-apart}
+use Rattle.trails.proofs.Counting.{occurs-at}
 use Rattle.trails.proofs.Orders.{Reordered, empty, keep, turn, exchange, both, move-in, reordered-left}
-
--- ─── a place from its number and its sign ────────────────────────────────────
-
-pub size-signed : (n : ℕ) (t : Bool) → natAbs (signed n t) ≡ n
-size-signed zero true = refl
-size-signed (suc n) true = refl
-size-signed n false = refl
-
--- zero has no sign
-pub turned-signed : (n : ℕ) (t : Bool) → 1 ≤ n → isTurned (signed n t) ≡ t
-turned-signed zero t l = absurd (omega arith)
-turned-signed (suc n) true l = refl
-turned-signed (suc n) false l = refl
-
--- ─── the strings at one place ────────────────────────────────────────────────
-
-module _ {A : Type 0} (turn : A → A) (k : ℕ) (p : ℤ) (places : List ℤ) (x : A) (xs : List A) where
-  standing-here : k ≡ natAbs p → standing turn k (p ∷ places) (x ∷ xs) ≡ turnedBy turn p x ∷ standing turn k places xs
-  unfolding standing
-  standing-here e = rw (eq-eqb k (natAbs p) e)
-
-  standing-other : (k ≡ natAbs p → ⊥) → standing turn k (p ∷ places) (x ∷ xs) ≡ standing turn k places xs
-  unfolding standing
-  standing-other h = rw (ne-eqb k (natAbs p) h)
-
-module _ {A : Type 0} (turn : A → A) (k : ℕ) where
-  standing-none : (places : List ℤ) (xs : List A) → occurs k (map natAbs places) ≡ 0 → standing turn k places xs ≡ []
-  unfolding standing occurs
-  standing-none [] xs h = refl
-  standing-none (p ∷ places) [] h = refl
-  standing-none (p ∷ places) (x ∷ xs) h =
-      let off : k ≡ natAbs p → ⊥ = λ e. omega (arith, agree-same k (natAbs p) e) in
-      standing-other turn k p places x xs off ∙ standing-none places xs (omega arith)
-
-  -- a place that is used once has its one string
-  standing-once : (d y : A) (places : List ℤ) (xs : List A) → length xs ≡ length places → occurs k (map natAbs places) ≡ 1
-      → ((i : ℕ) → i < length places → natAbs (getD places i (pos 0)) ≡ k → y ≡ turnedBy turn (getD places i (pos 0)) (getD xs i d))
-      → standing turn k places xs ≡ y ∷ []
-  unfolding occurs
-  standing-once d y [] xs l o h = absurd (omega arith)
-  standing-once d y (p ∷ places) [] l o h = absurd (omega arith)
-  standing-once d y (p ∷ places) (x ∷ xs) l o h = go (ℕ-discrete k (natAbs p)) (standing-once d y places xs (omega arith))
-    where
-      go : Dec (k ≡ natAbs p)
-          → (occurs k (map natAbs places) ≡ 1
-          → ((i : ℕ) → i < length places → natAbs (getD places i (pos 0)) ≡ k → y ≡ turnedBy turn (getD places i (pos 0)) (getD xs i d))
-          → standing turn k places xs ≡ y ∷ [])
-          → standing turn k (p ∷ places) (x ∷ xs) ≡ y ∷ []
-      go (yes e) ih =
-          standing-here turn k p places x xs e
-          ∙ ap₂ (λ (a : A) (L : List A). a ∷ L) (sym (h 0 (omega arith) (sym e))) (standing-none places xs (omega (arith, agree-same k (natAbs p) e)))
-      go (no q) ih =
-          standing-other turn k p places x xs q
-          ∙ ih (omega (arith, agree-other k (natAbs p) q)) (λ i m e. h (suc i) (omega arith) e)
-
-  length-standing : (places : List ℤ) (xs : List A) → length xs ≡ length places → length (standing turn k places xs) ≡ occurs k (map natAbs places)
-  unfolding occurs standing
-  length-standing [] xs l = refl
-  length-standing (p ∷ places) [] l = absurd (omega arith)
-  length-standing (p ∷ places) (x ∷ xs) l = go (ℕ-discrete k (natAbs p)) (length-standing places xs (omega arith))
-    where
-      go : Dec (k ≡ natAbs p) → length (standing turn k places xs) ≡ occurs k (map natAbs places)
-          → length (standing turn k (p ∷ places) (x ∷ xs)) ≡ agree k (natAbs p) + occurs k (map natAbs places)
-      go (yes e) ih = rw (standing-here turn k p places x xs e) (omega (arith, agree-same k (natAbs p) e))
-      go (no q) ih = rw (standing-other turn k p places x xs q) (omega (arith, agree-other k (natAbs p) q))
-
-  standing-at : (d : A) (places : List ℤ) (xs : List A) → length xs ≡ length places → occurs k (map natAbs places) ≡ 1
-      → (i : ℕ) → i < length places → natAbs (getD places i (pos 0)) ≡ k
-      → standing turn k places xs ≡ turnedBy turn (getD places i (pos 0)) (getD xs i d) ∷ []
-  unfolding occurs
-  standing-at d [] xs l o i b e = absurd (omega arith)
-  standing-at d (p ∷ places) [] l o i b e = absurd (omega arith)
-  standing-at d (p ∷ places) (x ∷ xs) l o zero b e =
-      standing-here turn k p places x xs (sym e)
-      ∙ ap (λ (L : List A). turnedBy turn p x ∷ L) (standing-none places xs (omega (arith, agree-same k (natAbs p) (sym e))))
-  standing-at d (p ∷ places) (x ∷ xs) l o (suc i) b e =
-      let later : 1 ≤ occurs k (map natAbs places) =
-      occurs-at k (map natAbs places) i (rw (length-map places natAbs) (omega arith)) (map-at natAbs (pos 0) places i ∙ e) in
-      standing-other turn k p places x xs (λ q. omega (arith, agree-same k (natAbs p) q)) ∙ standing-at d places xs (omega arith) (omega (arith, agree-le k (natAbs p))) i (omega arith) e
-
--- ─── an order is known by where each string stands ───────────────────────────
-
--- Each string i stands in the order at its place, turned where the place says so: then the places make that order.
-module _ {A : Type 0} (turn : A → A) (d : A) (m : ℕ) (places : List ℤ) (xs order : List A) (s : SignedPermutation m places) (l : length xs ≡ m) (o : length order ≡ m)
-    (stands : (i : ℕ) → i < m → getD order (natAbs (getD places i (pos 0)) - 1) d ≡ turnedBy turn (getD places i (pos 0)) (getD xs i d)) where
-  string-at : (n : ℕ) → n < m → (i : ℕ) → i < length places → natAbs (getD places i (pos 0)) ≡ suc n
-      → getD order n d ≡ turnedBy turn (getD places i (pos 0)) (getD xs i d)
-  string-at n b i k e =
-      let at-n : natAbs (getD places i (pos 0)) - 1 ≡ n = omega arith in
-      rw at-n at (stands i (omega (arith, s .number)))
-
-  arranged-to : (n : ℕ) → n ≤ m → arrangedTo turn n places xs ≡ take n order
-  unfolding arrangedTo
-  arranged-to zero k = refl
-  arranged-to (suc n) k =
-      ap₂ (λ (L M : List A). L ++ M) (arranged-to n (omega arith))
-      (standing-once turn (suc n) d (getD order n d) places xs (omega (arith, s .number)) (s .once (suc n) (omega arith) k) (string-at n (omega arith)))
-      ∙ sym (take-suc order n d (omega arith))
-
-  pub arranged-is : arranged turn places xs ≡ order
-  arranged-is = arranged-to (length places) (omega (arith, s .number)) ∙ take-all (length places) order (omega (arith, s .number))
-
--- The same from the other side: where the places put each string.
-module _ {A : Type 0} (turn : A → A) (d : A) (m : ℕ) (places : List ℤ) (xs : List A) (s : SignedPermutation m places) (l : length xs ≡ m) where
-  length-arranged-to : (n : ℕ) → n ≤ m → length (arrangedTo turn n places xs) ≡ n
-  unfolding arrangedTo
-  length-arranged-to zero k = refl
-  length-arranged-to (suc n) k =
-      omega (
-        arith,
-        length-append (arrangedTo turn n places xs) (standing turn (suc n) places xs),
-        length-arranged-to n (omega arith),
-        length-standing turn (suc n) places xs (omega (arith, s .number)),
-        s .once (suc n) (omega arith) k,
-      )
-
-  pub length-arranged : length (arranged turn places xs) ≡ m
-  length-arranged = length-arranged-to (length places) (omega (arith, s .number)) ∙ s .number
-
-  at-place : (i : ℕ) → i < m → (n : ℕ) → natAbs (getD places i (pos 0)) ≡ suc n → (k : ℕ) → n < k → k ≤ m
-      → getD (arrangedTo turn k places xs) n d ≡ turnedBy turn (getD places i (pos 0)) (getD xs i d)
-  unfolding arrangedTo
-  at-place i b n e zero lo hi = absurd (omega arith)
-  at-place i b n e (suc k) lo hi = go (decLt n k) (at-place i b n e k)
-    where
-      size : length (arrangedTo turn k places xs) ≡ k
-      size = length-arranged-to k (omega arith)
-
-      last : n ≡ k → standing turn (suc k) places xs ≡ turnedBy turn (getD places i (pos 0)) (getD xs i d) ∷ []
-      last q =
-          standing-at turn (suc k) d places xs (omega (arith, s .number)) (s .once (suc k) (omega arith) hi) i (omega (arith, s .number)) (omega arith)
-
-      go : Dec (n < k) → (n < k → k ≤ m → getD (arrangedTo turn k places xs) n d ≡ turnedBy turn (getD places i (pos 0)) (getD xs i d))
-          → getD (arrangedTo turn k places xs ++ standing turn (suc k) places xs) n d ≡ turnedBy turn (getD places i (pos 0)) (getD xs i d)
-      go (yes q) ih = List·getD-append (arrangedTo turn k places xs) (standing turn (suc k) places xs) d n (omega (arith, size)) ∙ ih q (omega arith)
-      go (no q) ih =
-          let here : n ≡ length (arrangedTo turn k places xs) + 0 = omega (arith, size) in
-          rw (here, getD-append-add, last (omega arith))
-
-  pub arranged-at : (i : ℕ) → i < m → getD (arranged turn places xs) (natAbs (getD places i (pos 0)) - 1) d ≡ turnedBy turn (getD places i (pos 0)) (getD xs i d)
-  arranged-at i b =
-      let r = all-at (λ p. (1 ≤ natAbs p) × (natAbs p ≤ m)) places (s .range) i (pos 0) (omega (arith, s .number)) in
-      at-place i b (natAbs (getD places i (pos 0)) - 1) (omega (arith, r)) (length places) (omega (arith, r, s .number)) (omega (arith, s .number))
-
--- what is done to each string can be done before or after
-module _ {A B : Type 0} (turnA : A → A) (turnB : B → B) (f : A → B) (h : (x : A) → f (turnA x) ≡ turnB (f x)) where
-  map-standing : (k : ℕ) (places : List ℤ) (xs : List A) → map f (standing turnA k places xs) ≡ standing turnB k places (map f xs)
-  unfolding standing
-  map-standing k [] xs = refl
-  map-standing k (p ∷ places) [] = refl
-  map-standing k (p ∷ places) (x ∷ xs) = go (eqb k (natAbs p)) (isTurned p) (map-standing k places xs)
-    where
-      go : (t u : Bool) → map f (standing turnA k places xs) ≡ standing turnB k places (map f xs)
-          → map f (choose t (choose u (turnA x) x ∷ standing turnA k places xs) (standing turnA k places xs))
-          ≡ choose t (choose u (turnB (f x)) (f x) ∷ standing turnB k places (map f xs)) (standing turnB k places (map f xs))
-      go true true ih = ap₂ (λ (y : B) (L : List B). y ∷ L) (h x) ih
-      go true false ih = ap (λ (L : List B). f x ∷ L) ih
-      go false u ih = ih
-
-  map-arranged-to : (n : ℕ) (places : List ℤ) (xs : List A) → map f (arrangedTo turnA n places xs) ≡ arrangedTo turnB n places (map f xs)
-  unfolding arrangedTo
-  map-arranged-to zero places xs = refl
-  map-arranged-to (suc n) places xs =
-      map-append f (arrangedTo turnA n places xs) (standing turnA (suc n) places xs)
-      ∙ ap₂ (λ (L M : List B). L ++ M) (map-arranged-to n places xs) (map-standing (suc n) places xs)
-
-  pub map-arranged : (places : List ℤ) (xs : List A) → map f (arranged turnA places xs) ≡ arranged turnB places (map f xs)
-  map-arranged places xs = map-arranged-to (length places) places xs
-
--- ─── when m places are a signed permutation ──────────────────────────────────
-
-module _ (m : ℕ) (places : List ℤ) (number : length places ≡ m) (range : All (λ p. (1 ≤ natAbs p) × (natAbs p ≤ m)) places) where
-  -- if each of 1 to m is used
-  pub permutation-if-used : ((k : ℕ) → 1 ≤ k → k ≤ m → 1 ≤ occurs k (map natAbs places)) → SignedPermutation m places
-  permutation-if-used h = record { number = number; range = range; once = once-if-used m (map natAbs places) (length-map places natAbs ∙ number) h }
-
-  -- or if none is used twice
-  pub permutation-if-apart : ((k : ℕ) → occurs k (map natAbs places) ≤ 1) → SignedPermutation m places
-  permutation-if-apart h = record {
-    number = number;
-    range = range;
-    once = once-if-apart m (map natAbs places) (length-map places natAbs ∙ number) (map-all (λ k. (1 ≤ k) × (k ≤ m)) natAbs places range) h;
-  }
+use Rattle.trails.proofs.Arranged.{size-signed, turned-signed, standing-here, standing-other, arranged-is, permutation-if-used}
 
 -- ─── from places to an order ─────────────────────────────────────────────────
 
@@ -398,7 +212,7 @@ module _ (xs order : List Ends) (k : Located xs order) where
       in-range j a b = rw (size-signed (suc (k .place j)) (k .turns j)) (omega arith, omega (arith, k .inside j (omega arith)))
 
   places-arrange : arranged turned placesOf xs ≡ order
-  places-arrange = arranged-is turned (0, 0) (length xs) placesOf xs order places-permute refl (k .size) stands
+  places-arrange = arranged-is turned (0, 0) (length xs) placesOf xs places-permute refl order (k .size) stands
     where
       stands : (i : ℕ) → i < length xs → getD order (natAbs (getD placesOf i (pos 0)) - 1) (0, 0) ≡ turnedBy turned (getD placesOf i (pos 0)) (getD xs i (0, 0))
       stands i l =

@@ -4,7 +4,7 @@
 -- so each group has; and a group with an odd weight hangs on the hub, whose strings are used.
 use mathlib.Core.Path.{_≡_, refl, ap, sym, subst}
 use mathlib.Core.List.{List, [], _∷_, _++_, map, append-assoc}
-use Prim.Native.Nat.{ℕ, zero, suc, _+_, _*_, _/_, _%_, _≤_, _<_}
+use Prim.Native.Nat.{ℕ, zero, suc, _+_, _*_, _%_, _≤_, _<_}
 use native.Mathlib.Omega.{arith}
 use native.Mathlib.Decide.{ℕ-discrete, decLt}
 use lib.ListN.{length, length-append}
@@ -223,17 +223,13 @@ module _ {h : ℕ} {strings : List Ends} {j : ℕ} {Y : List Ends} (fresh : occu
 
   -- there are as many later walks as all-even groups
   pub toured-walks : j ≡ evenGroups strings
-  toured-walks = omega (arith, k .few, k .own-groups, reached-all, odd-weights-even strings, lower strings (unspoked h Y) toured-reordered, own)
-    where
-      own : least strings ≡ evenGroups strings + oddWeights strings / 2
-      own = unfold least in refl
+  unfolding least
+  toured-walks = omega (arith, k .few, k .own-groups, reached-all, odd-weights-even strings, lower strings (unspoked h Y) toured-reordered)
 
   -- and the order has the least number of paths
   pub toured-least : pathCount (unspoked h Y) ≡ least strings
-  toured-least = omega (arith, k .few, toured-walks, lower strings (unspoked h Y) toured-reordered, own)
-    where
-      own : least strings ≡ evenGroups strings + oddWeights strings / 2
-      own = unfold least in refl
+  unfolding least
+  toured-least = omega (arith, k .few, toured-walks, lower strings (unspoked h Y) toured-reordered)
 
 -- ─── the bound ───────────────────────────────────────────────────────────────
 
