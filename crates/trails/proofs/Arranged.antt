@@ -17,7 +17,6 @@ use Rattle.lists.proofs.Mapped.{map-at, map-all}
 use Rattle.trails.specs.Counting.{agree, occurs}
 use Rattle.trails.specs.Places.{isTurned, signed, SignedPermutation, turnedBy, standing, arrangedTo, arranged}
 use Rattle.trails.proofs.Counting.{agree-same, agree-other, agree-le, occurs-at, occurs-where, once-if-used, once-if-apart}
-use Rattle.trails.proofs.Orders.{turn}
 
 -- ─── a place from its number and its sign ────────────────────────────────────
 
@@ -74,8 +73,7 @@ module _ {A : Type 0} (turn : A → A) (k : ℕ) where
       standing-here turn k p places x xs (sym e)
       ∙ ap (λ (L : List A). turnedBy turn p x ∷ L) (standing-none places xs (omega (arith, agree-same k (natAbs p) (sym e))))
   standing-at d (p ∷ places) (x ∷ xs) l o (suc i) b e =
-      let later : 1 ≤ occurs k (map natAbs places) =
-      occurs-at k (map natAbs places) i (rw (length-map places natAbs) (omega arith)) (map-at natAbs (pos 0) places i ∙ e) in
+      let later = occurs-at k (map natAbs places) i (rw (length-map places natAbs) (omega arith)) (map-at natAbs (pos 0) places i ∙ e) in
       standing-other turn k p places x xs (λ q. omega (arith, agree-same k (natAbs p) q)) ∙ standing-at d places xs (omega arith) (omega (arith, agree-le k (natAbs p))) i (omega arith) e
 
 -- ─── where each string stands in its new order ───────────────────────────────

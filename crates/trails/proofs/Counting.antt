@@ -2,7 +2,7 @@
 use mathlib.Core.Path.{_≡_, refl, ap, sym}
 use mathlib.Core.Logic.{_⊎_, inl, inr}
 use mathlib.Core.Bool.{Bool, true, false}
-use mathlib.Core.List.{List, [], _∷_, map}
+use mathlib.Core.List.{List, [], _∷_, _++_, map}
 use Prim.Native.Nat.{ℕ, zero, suc, _+_, _-_, _≤_, _<_}
 use native.Mathlib.Omega.{arith}
 use native.Mathlib.Decide.{ℕ-discrete, decLt}
@@ -101,6 +101,21 @@ occurs-where w (x ∷ xs) h = go (agree-cases w x) (occurs-where w xs)
     go : Agreeing w x → (1 ≤ occurs w xs → (i : ℕ) × (i < length xs) × (getD xs i 0 ≡ w)) → (i : ℕ) × (i < suc (length xs)) × (getD (x ∷ xs) i 0 ≡ w)
     go (inl a) ih = (0, omega arith, sym (a .0))
     go (inr a) ih = let u = ih (omega (arith, a .1)) in (suc (u .0), omega (arith, u .1), u .2)
+
+-- a list at one of its numbers
+pub occurs-split : (w : ℕ) (xs : List ℕ) → 1 ≤ occurs w xs → (A : List ℕ) × (B : List ℕ) × (xs ≡ A ++ (w ∷ B))
+unfolding occurs
+occurs-split w [] h = absurd (omega arith)
+occurs-split w (x ∷ xs) h = go (agree-cases w x) (occurs-split w xs)
+  where
+    go : Agreeing w x → (1 ≤ occurs w xs → (A : List ℕ) × (B : List ℕ) × (xs ≡ A ++ (w ∷ B))) → (A : List ℕ) × (B : List ℕ) × (x ∷ xs ≡ A ++ (w ∷ B))
+    go (inl a) ih = ([], xs, ap (λ (v : ℕ). v ∷ xs) (sym (a .0)))
+    go (inr a) ih = let u = ih (omega (arith, a .1)) in (x ∷ u .0, u .1, ap (λ (ys : List ℕ). x ∷ ys) (u .2))
+
+pub occurs-between : (v w : ℕ) (A B : List ℕ) → occurs v (A ++ (w ∷ B)) ≡ agree v w + occurs v (A ++ B)
+unfolding occurs
+occurs-between v w [] B = refl
+occurs-between v w (x ∷ A) B = omega (arith, occurs-between v w A B)
 
 -- a name that a weight of xs has occurs among their names
 pub occurs-map : (c : ℕ → ℕ) (w : ℕ) (xs : List ℕ) → 1 ≤ occurs w xs → 1 ≤ occurs (c w) (map c xs)

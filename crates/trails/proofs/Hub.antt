@@ -2,17 +2,17 @@
 -- A chain that comes back to the hub, without its spokes, is cut into one path for two spokes.
 use mathlib.Core.Path.{_≡_, refl, ap, sym, _∙_, subst}
 use mathlib.Core.Logic.{inl, inr}
-use mathlib.Core.List.{List, [], _∷_, _++_}
+use mathlib.Core.List.{List, [], _∷_, _++_, map, map-append}
 use Prim.Native.Nat.{ℕ, zero, suc, _+_, _*_, _%_, _≤_, _<_}
 use native.Mathlib.Omega.{arith}
 use native.Mathlib.Decide.{ℕ-discrete, decLt}
-use lib.ListN.{length}
+use lib.ListN.{length, length-map}
 use Rattle.trails.specs.Counting.{agree, occurs, oddly, sumBelow, above}
 use Rattle.trails.specs.Strings.{Ends, front, back, weights}
 use Rattle.trails.specs.Paths.{pathCount}
 use Rattle.trails.specs.Groups.{countOdd, oddWeights}
-use Rattle.trails.proofs.Counting.{agree-same, agree-other, Agreeing, agree-cases, agree-le, sum-at, oddly-le, oddly-same, oddly-other, AllBelow, above-all, occurs-beyond}
-use Rattle.trails.proofs.Orders.{Reordered, empty, keep, turn, exchange, both, unmoved, occurs-both, length-weights}
+use Rattle.trails.proofs.Counting.{agree-same, agree-other, Agreeing, agree-cases, agree-le, sum-at, oddly-le, oddly-same, oddly-other, AllBelow, above-all, occurs-beyond, occurs-split, occurs-between}
+use Rattle.trails.proofs.Orders.{Reordered, empty, keep, turn, exchange, both, unmoved, move-in, reordered-left, length-reordered, occurs-both, length-weights}
 use Rattle.trails.proofs.Paths.{breaks, paths-breaks, paths-none, Chain}
 use Rattle.trails.proofs.Groups.{Carried}
 use Rattle.trails.proofs.Lower.{no-odd}
@@ -150,6 +150,77 @@ carried-spokes P h ws (suc n) k p w l o = go (oddly ws n) refl k (ℕ-discrete w
     go zero e k (no q) ih = ih k (omega arith) o
     go (suc j) e k (yes q) ih = subst P (sym q) (k .0 .0 p)
     go (suc j) e k (no q) ih = ih (k .1) (omega arith) o
+
+-- ─── the spokes from a list of the odd weights ───────────────────────────────
+
+-- strings from the hub h to the weights os
+abbrev pub spokesTo : ℕ → List ℕ → List Ends
+spokesTo h os = map (λ w. (h, w)) os
+
+module _ (h n : ℕ) (os A B : List ℕ) (e : os ≡ A ++ (n ∷ B)) where
+  without-one : (w : ℕ) → occurs w os ≡ agree w n + occurs w (A ++ B)
+  without-one w = ap (occurs w) e ∙ occurs-between w n A B
+
+  with-one : (L : List Ends) → Reordered L (spokesTo h (A ++ B)) → Reordered ((h, n) ∷ L) (spokesTo h os)
+  with-one L r =
+      let both-parts : Reordered L (spokesTo h A ++ spokesTo h B) = subst (Reordered L) (map-append (λ w. (h, w)) A B) r in
+      subst (Reordered ((h, n) ∷ L)) (sym (ap (spokesTo h) e ∙ map-append (λ w. (h, w)) A (n ∷ B)))
+      (both (keep both-parts) (move-in (h, n) (spokesTo h A) (spokesTo h B)))
+
+spokes-below : (h : ℕ) (ws : List ℕ) (n : ℕ) (os : List ℕ) → ((w : ℕ) → w < n → occurs w os ≡ oddly ws w) → ((w : ℕ) → n ≤ w → occurs w os ≡ 0)
+    → Reordered (spokes h ws n) (spokesTo h os)
+unfolding spokes
+spokes-below h ws zero [] odd none = empty
+spokes-below h ws zero (x ∷ os) odd none = absurd (more x os (none x (omega arith)))
+  where
+    more : (x : ℕ) (os : List ℕ) → occurs x (x ∷ os) ≡ 0 → ⊥
+    more x os e = unfold occurs in (omega (arith, e, agree-same x x refl))
+spokes-below h ws (suc n) os odd none = go (oddly ws n) refl (oddly-le ws n) (spokes-below h ws n)
+  where
+    not-odd : oddly ws n ≡ 0 → (w : ℕ) → n ≤ w → Dec (w ≡ n) → occurs w os ≡ 0
+    not-odd z w l (yes e) = omega (arith, ap (λ (v : ℕ). occurs v os) e, odd n (omega arith))
+    not-odd z w l (no q) = none w (omega arith)
+
+    rest : (A B : List ℕ) → os ≡ A ++ (n ∷ B) → oddly ws n ≡ 1 → (w : ℕ) → n ≤ w → Dec (w ≡ n) → occurs w (A ++ B) ≡ 0
+    rest A B e o w l (yes q) = omega (arith, without-one h n os A B e w, agree-same w n q, ap (λ (v : ℕ). occurs v os) q, odd n (omega arith))
+    rest A B e o w l (no q) = omega (arith, without-one h n os A B e w, none w (omega arith))
+
+    go : (o : ℕ) → oddly ws n ≡ o → o ≤ 1
+        → ((xs : List ℕ) → ((w : ℕ) → w < n → occurs w xs ≡ oddly ws w) → ((w : ℕ) → n ≤ w → occurs w xs ≡ 0) → Reordered (spokes h ws n) (spokesTo h xs))
+        → Reordered (spokeIf o (h, n) (spokes h ws n)) (spokesTo h os)
+    go zero e l ih = ih os (λ w b. odd w (omega arith)) (λ w b. not-odd e w b (ℕ-discrete w n))
+    go (suc o) e l ih =
+        let u = occurs-split n os (omega (arith, odd n (omega arith))) in
+        with-one h n os (u .0) (u .1) (u .2) (spokes h ws n)
+        (ih (u .0 ++ u .1)
+        (λ w b. omega (arith, without-one h n os (u .0) (u .1) (u .2) w, agree-other w n (λ q. omega arith), odd w (omega arith)))
+        (λ w b. rest (u .0) (u .1) (u .2) (omega arith) w b (ℕ-discrete w n)))
+
+length-spokes : (h : ℕ) (ws : List ℕ) (n : ℕ) → length (spokes h ws n) ≡ sumBelow n (oddly ws)
+unfolding spokes sumBelow
+length-spokes h ws zero = refl
+length-spokes h ws (suc n) = go (oddly ws n) (oddly-le ws n) (length-spokes h ws n)
+  where
+    go : (o : ℕ) → o ≤ 1 → length (spokes h ws n) ≡ sumBelow n (oddly ws) → length (spokeIf o (h, n) (spokes h ws n)) ≡ o + sumBelow n (oddly ws)
+    go zero l ih = omega arith
+    go (suc o) l ih = omega arith
+
+-- Where os has each odd weight once and no other weight, the strings from the hub to os are the spokes, and os has O of them.
+module _ (h : ℕ) (strings : List Ends) (os : List ℕ) (odd : (w : ℕ) → occurs w os ≡ oddly (weights strings) w) where
+  pub spokes-listed : Reordered (spokes h (weights strings) (limit strings)) (spokesTo h os)
+  spokes-listed = spokes-below h (weights strings) (limit strings) os (λ w l. odd w) (λ w l. odd w ∙ beyond w l)
+    where
+      beyond : (w : ℕ) → limit strings ≤ w → oddly (weights strings) w ≡ 0
+      beyond w l = unfold oddly in (omega (arith, occurs-beyond (limit strings) w (weights strings) (above-all (weights strings)) l))
+
+  -- the strings with the spokes
+  pub spoked-listed : Reordered (spoked h strings) (spokesTo h os ++ strings)
+  spoked-listed = reordered-left strings spokes-listed
+
+  pub length-listed : length os ≡ oddWeights strings
+  unfolding oddWeights countOdd
+  length-listed =
+      omega (arith, length-reordered spokes-listed, length-spokes h (weights strings) (limit strings), length-map {B = Ends} os (λ w. (h, w)))
 
 -- ─── without the spokes ──────────────────────────────────────────────────────
 

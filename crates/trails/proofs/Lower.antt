@@ -173,12 +173,15 @@ module _ (name : ℕ → ℕ) (l : ℕ) where
 -- ─── the bound ───────────────────────────────────────────────────────────────
 
 module _ (n : ℕ) (name : ℕ → ℕ) where
+  odd-members-at-ends : (order : List Ends) (l : ℕ) → oddMembers n name (weights order) l ≡ oddMembers n name (pathEnds order) l
+  unfolding oddMembers
+  odd-members-at-ends order l = ap (sumBelow n) (fun-ext λ w. ap (λ (d : ℕ). agree l (name w) * d) (parity order w))
+
   even-at-ends : (order : List Ends) → Level name order → (l : ℕ) → evenGroup n name (weights order) l ≤ evenGroup n name (pathEnds order) l
-  unfolding evenGroup oddMembers
+  unfolding evenGroup
   even-at-ends order h l =
-      let same : oddMembers n name (weights order) l ≡ oddMembers n name (pathEnds order) l =
-      ap (sumBelow n) (fun-ext λ w. ap (λ (d : ℕ). agree l (name w) * d) (parity order w)) in
-      rw same (even-mono (occurs l (map name (weights order))) (occurs l (map name (pathEnds order))) (oddMembers n name (pathEnds order) l) (present name l order h))
+      rw (odd-members-at-ends order l)
+      (even-mono (occurs l (map name (weights order))) (occurs l (map name (pathEnds order))) (oddMembers n name (pathEnds order) l) (present name l order h))
 
   -- of any names that are the same at both ends of each string
   pub lower-level : (order : List Ends) → Level name order → EndsBelow n order

@@ -127,6 +127,10 @@ module _ {s : ℕ} {U₀ U : List Ends} {w : ℕ} {Z : List Ends} {z : ℕ} wher
       gone v here l (yes p) = ap (λ (x : ℕ). occurs x (weights U)) (p ∙ sym here) ∙ h
       gone v here l (no p) = k .spent v p l
 
+-- a closed walk over the same strings in another order
+pub closed-before : {s : ℕ} {U₀ U₁ U Z : List Ends} → Reordered U₀ U₁ → Closed s U₁ U Z → Closed s U₀ U Z
+closed-before r k = record { chain = k .chain; even = k .even; spent = k .spent; home = k .home; all = both r (k .all) }
+
 -- ─── the walk ends ───────────────────────────────────────────────────────────
 
 -- each step takes an unused string, or gives one back
