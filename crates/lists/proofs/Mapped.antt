@@ -1,9 +1,9 @@
--- Laws of `map`: entries of a mapped list, and what holds of all of them. Assumes nothing.
+-- Laws of `map`, and of what holds at each entry. Assumes nothing.
 use mathlib.Core.Path.{_≡_, refl, ap, _∙_}
 use mathlib.Core.List.{List, [], _∷_, map}
-use Prim.Native.Nat.{ℕ, zero, suc, _+_, _≤_, _<_}
+use Prim.Native.Nat.{ℕ, zero, suc, _+_, _<_}
 use native.Mathlib.Omega.{arith}
-use lib.ListN.{getD}
+use lib.ListN.{length, getD}
 use Rattle.lists.specs.Count.{countFrom}
 use Rattle.lists.specs.Every.{All}
 
@@ -13,9 +13,19 @@ module _ {A B : Type 0} where
   map-at f d (x ∷ xs) zero = refl
   map-at f d (x ∷ xs) (suc i) = map-at f d xs i
 
+  pub map-at-below : (f : A → B) (b : B) (d : A) (xs : List A) (i : ℕ) → i < length xs → getD (map f xs) i b ≡ f (getD xs i d)
+  map-at-below f b d [] i l = absurd (omega arith)
+  map-at-below f b d (x ∷ xs) zero l = refl
+  map-at-below f b d (x ∷ xs) (suc i) l = map-at-below f b d xs i (omega arith)
+
   pub map-all : (P : B → Type 0) (f : A → B) (xs : List A) → All (λ x. P (f x)) xs → All P (map f xs)
   map-all P f [] h = tt
   map-all P f (x ∷ xs) h = (h .0, map-all P f xs (h .1))
+
+module _ {A : Type 0} where
+  pub at-all : (P : A → Type 0) (d : A) (xs : List A) → ((i : ℕ) → i < length xs → P (getD xs i d)) → All P xs
+  at-all P d [] h = tt
+  at-all P d (x ∷ xs) h = (h 0 (omega arith), at-all P d xs (λ i l. h (suc i) (omega arith)))
 
 -- the values of f at the n numbers from i on
 module _ {B : Type 0} where
@@ -24,8 +34,3 @@ module _ {B : Type 0} where
   values-at f d i zero j l = absurd (omega arith)
   values-at f d i (suc n) zero l = ap f (omega arith)
   values-at f d i (suc n) (suc j) l = values-at f d (suc i) n j (omega arith) ∙ ap f (omega arith)
-
-  pub values-all : (P : B → Type 0) (f : ℕ → B) (i n : ℕ) → ((j : ℕ) → i ≤ j → j < i + n → P (f j)) → All P (map f (countFrom i n))
-  unfolding countFrom
-  values-all P f i zero h = tt
-  values-all P f i (suc n) h = (h i (omega arith) (omega arith), values-all P f (suc i) n (λ j a b. h j (omega arith) (omega arith)))

@@ -13,10 +13,10 @@ use borrow.Author.Tests.{eq-eqb, ne-eqb}
 use Rattle.lists.specs.Choose.{choose}
 use Rattle.lists.specs.Every.{All}
 use Rattle.lists.proofs.Every.{all-at}
-use Rattle.lists.proofs.Mapped.{map-at, map-all}
+use Rattle.lists.proofs.Mapped.{map-at, map-at-below, map-all, at-all}
 use Rattle.trails.specs.Counting.{agree, occurs}
 use Rattle.trails.specs.Places.{isTurned, signed, SignedPermutation, turnedBy, standing, arrangedTo, arranged}
-use Rattle.trails.proofs.Counting.{agree-same, agree-other, agree-le, occurs-at, occurs-where, once-if-used, once-if-apart}
+use Rattle.trails.proofs.Counting.{agree-same, agree-other, agree-le, occurs-at, occurs-where, once-if-used, range-if-used, once-if-apart}
 
 -- ─── a place from its number and its sign ────────────────────────────────────
 
@@ -30,6 +30,30 @@ pub turned-signed : (n : ℕ) (t : Bool) → 1 ≤ n → isTurned (signed n t) �
 turned-signed zero t l = absurd (omega arith)
 turned-signed (suc n) true l = refl
 turned-signed (suc n) false l = refl
+
+-- ─── when m places are a signed permutation ──────────────────────────────────
+
+module _ (m : ℕ) (places : List ℤ) (number : length places ≡ m) where
+  -- if each of 1 to m is used
+  pub permutation-if-used : ((k : ℕ) → 1 ≤ k → k ≤ m → 1 ≤ occurs k (map natAbs places)) → SignedPermutation m places
+  permutation-if-used h =
+      let size : length (map natAbs places) ≡ m = length-map places natAbs ∙ number in
+      record {
+        number = number;
+        range = at-all (λ p. (1 ≤ natAbs p) × (natAbs p ≤ m)) (pos 0) places (λ i l. in-range i l size);
+        once = once-if-used m (map natAbs places) size h;
+      }
+    where
+      in-range : (i : ℕ) → i < length places → length (map natAbs places) ≡ m → (1 ≤ natAbs (getD places i (pos 0))) × (natAbs (getD places i (pos 0)) ≤ m)
+      in-range i l size = rw (map-at natAbs (pos 0) places i) at (range-if-used m (map natAbs places) size h i (omega arith))
+
+  -- or if all are from 1 to m and none is used twice
+  pub permutation-if-apart : All (λ p. (1 ≤ natAbs p) × (natAbs p ≤ m)) places → ((k : ℕ) → occurs k (map natAbs places) ≤ 1) → SignedPermutation m places
+  permutation-if-apart range h = record {
+    number = number;
+    range = range;
+    once = once-if-apart m (map natAbs places) (length-map places natAbs ∙ number) (map-all (λ k. (1 ≤ k) × (k ≤ m)) natAbs places range) h;
+  }
 
 -- ─── the strings at one place ────────────────────────────────────────────────
 
@@ -121,25 +145,67 @@ module _ {A : Type 0} (turn : A → A) (d : A) (m : ℕ) (places : List ℤ) (xs
       let r = all-at (λ p. (1 ≤ natAbs p) × (natAbs p ≤ m)) places (s .range) i (pos 0) (omega (arith, s .number)) in
       arranged-to-at i (natAbs (getD places i (pos 0)) - 1) b (omega (arith, r)) (length places) (omega (arith, r, s .number)) (omega (arith, s .number))
 
-  -- An order in which each string stands so is the new order.
+  -- An order that has at each place the string of that place is the new order.
   module _ (order : List A) (o : length order ≡ m)
-      (stands : (i : ℕ) → i < m → getD order (natAbs (getD places i (pos 0)) - 1) d ≡ turnedBy turn (getD places i (pos 0)) (getD xs i d)) where
-    string-at : (n : ℕ) → n < m → standing turn (suc n) places xs ≡ getD order n d ∷ []
-    string-at n k =
-        let u = occurs-where (suc n) (map natAbs places) (omega (arith, s .once (suc n) (omega arith) k)) in
-        let b : u .0 < m = omega (arith, u .1, length-map places natAbs, s .number) in
-        let e : natAbs (getD places (u .0) (pos 0)) ≡ suc n = sym (map-at natAbs (pos 0) places (u .0)) ∙ u .2 in
-        let at-n : natAbs (getD places (u .0) (pos 0)) - 1 ≡ n = omega arith in
-        let y : getD order n d ≡ turnedBy turn (getD places (u .0) (pos 0)) (getD xs (u .0) d) = rw at-n at (stands (u .0) b) in
-        one-standing (u .0) n b e k ∙ ap (λ (x : A). x ∷ []) (sym y)
-
+      (has : (n : ℕ) → n < m → (i : ℕ) × (i < m) × (natAbs (getD places i (pos 0)) ≡ suc n) × (getD order n d ≡ turnedBy turn (getD places i (pos 0)) (getD xs i d))) where
     arranged-to-is : (n : ℕ) → n ≤ m → arrangedTo turn n places xs ≡ take n order
     unfolding arrangedTo
     arranged-to-is zero k = refl
-    arranged-to-is (suc n) k = ap₂ (λ (L M : List A). L ++ M) (arranged-to-is n (omega arith)) (string-at n k) ∙ sym (take-suc order n d (omega arith))
+    arranged-to-is (suc n) k =
+        let u = has n k in
+        ap₂ (λ (L M : List A). L ++ M) (arranged-to-is n (omega arith)) (one-standing (u .0) n (u .1) (u .2) k ∙ ap (λ (x : A). x ∷ []) (sym (u .3)))
+        ∙ sym (take-suc order n d (omega arith))
 
-    pub arranged-is : arranged turn places xs ≡ order
-    arranged-is = arranged-to-is (length places) (omega (arith, s .number)) ∙ take-all (length places) order (omega (arith, s .number))
+    pub arranged-by-place : arranged turn places xs ≡ order
+    arranged-by-place = arranged-to-is (length places) (omega (arith, s .number)) ∙ take-all (length places) order (omega (arith, s .number))
+
+  -- And so is one in which each string stands at its place.
+  pub arranged-by-string : (order : List A) → length order ≡ m
+      → ((i : ℕ) → i < m → getD order (natAbs (getD places i (pos 0)) - 1) d ≡ turnedBy turn (getD places i (pos 0)) (getD xs i d))
+      → arranged turn places xs ≡ order
+  arranged-by-string order o stands = arranged-by-place order o has
+    where
+      has : (n : ℕ) → n < m → (i : ℕ) × (i < m) × (natAbs (getD places i (pos 0)) ≡ suc n) × (getD order n d ≡ turnedBy turn (getD places i (pos 0)) (getD xs i d))
+      has n k =
+          let u = occurs-where (suc n) (map natAbs places) (omega (arith, s .once (suc n) (omega arith) k)) in
+          let b : u .0 < m = omega (arith, u .1, length-map places natAbs, s .number) in
+          let e : natAbs (getD places (u .0) (pos 0)) ≡ suc n = sym (map-at natAbs (pos 0) places (u .0)) ∙ u .2 in
+          let at-n : natAbs (getD places (u .0) (pos 0)) - 1 ≡ n = omega arith in
+          (u .0, b, e, rw at-n at (stands (u .0) b))
+
+-- ─── places from a list of the strings in their new order ────────────────────
+
+-- the string that a mark names, as it wants it
+abbrev pub marked : {A : Type 0} → (A → A) → A → List A → ℕ × Bool → A
+marked turn d xs k = choose (k .1) (turn (getD xs (k .0) d)) (getD xs (k .0) d)
+
+-- The list `marks` names the string at each place and says whether it is turned there; each named string has got its place.
+module _ {A : Type 0} (turn : A → A) (d : A) (m : ℕ) (places : List ℤ) (xs : List A) (marks : List (ℕ × Bool))
+    (number : length places ≡ m) (l : length xs ≡ m) (o : length marks ≡ m)
+    (placed : (n : ℕ) → n < m → (getD marks n (0, false) .0 < m) × (getD places (getD marks n (0, false) .0) (pos 0) ≡ signed (suc n) (getD marks n (0, false) .1))) where
+  pub marked-permutation : SignedPermutation m places
+  marked-permutation = permutation-if-used m places number used
+    where
+      used : (k : ℕ) → 1 ≤ k → k ≤ m → 1 ≤ occurs k (map natAbs places)
+      used zero low high = omega arith
+      used (suc n) low high =
+          let u = placed n high in
+          occurs-at (suc n) (map natAbs places) (getD marks n (0, false) .0) (omega (arith, u .0, length-map places natAbs))
+          (map-at natAbs (pos 0) places (getD marks n (0, false) .0) ∙ ap natAbs (u .1) ∙ size-signed (suc n) (getD marks n (0, false) .1))
+
+  pub marked-arranged : arranged turn places xs ≡ map (marked turn d xs) marks
+  marked-arranged = arranged-by-place turn d m places xs marked-permutation l (map (marked turn d xs) marks) (length-map marks (marked turn d xs) ∙ o) has
+    where
+      has : (n : ℕ) → n < m
+          → (i : ℕ) × (i < m) × (natAbs (getD places i (pos 0)) ≡ suc n) × (getD (map (marked turn d xs) marks) n d ≡ turnedBy turn (getD places i (pos 0)) (getD xs i d))
+      has n k =
+          let u = placed n k in
+          let t = ap isTurned (u .1) ∙ turned-signed (suc n) (getD marks n (0, false) .1) (omega arith) in (
+            getD marks n (0, false) .0,
+            u .0,
+            ap natAbs (u .1) ∙ size-signed (suc n) (getD marks n (0, false) .1),
+            rw t (map-at-below (marked turn d xs) d (0, false) marks n (omega arith)),
+          )
 
 -- ─── what is done to each string ─────────────────────────────────────────────
 
@@ -167,18 +233,3 @@ module _ {A B : Type 0} (turnA : A → A) (turnB : B → B) (f : A → B) (h : (
 
   pub map-arranged : (places : List ℤ) (xs : List A) → map f (arranged turnA places xs) ≡ arranged turnB places (map f xs)
   map-arranged places xs = map-arranged-to (length places) places xs
-
--- ─── when m places are a signed permutation ──────────────────────────────────
-
-module _ (m : ℕ) (places : List ℤ) (number : length places ≡ m) (range : All (λ p. (1 ≤ natAbs p) × (natAbs p ≤ m)) places) where
-  -- if each of 1 to m is used
-  pub permutation-if-used : ((k : ℕ) → 1 ≤ k → k ≤ m → 1 ≤ occurs k (map natAbs places)) → SignedPermutation m places
-  permutation-if-used h = record { number = number; range = range; once = once-if-used m (map natAbs places) (length-map places natAbs ∙ number) h }
-
-  -- or if none is used twice
-  pub permutation-if-apart : ((k : ℕ) → occurs k (map natAbs places) ≤ 1) → SignedPermutation m places
-  permutation-if-apart h = record {
-    number = number;
-    range = range;
-    once = once-if-apart m (map natAbs places) (length-map places natAbs ∙ number) (map-all (λ k. (1 ≤ k) × (k ≤ m)) natAbs places range) h;
-  }

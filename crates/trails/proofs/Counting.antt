@@ -1,5 +1,5 @@
 -- Laws of counts and of sums below a bound. Assumes nothing.
-use mathlib.Core.Path.{_≡_, refl, ap, sym}
+use mathlib.Core.Path.{_≡_, refl, ap, sym, _∙_}
 use mathlib.Core.Logic.{_⊎_, inl, inr}
 use mathlib.Core.Bool.{Bool, true, false}
 use mathlib.Core.List.{List, [], _∷_, _++_, map}
@@ -7,7 +7,7 @@ use Prim.Native.Nat.{ℕ, zero, suc, _+_, _-_, _≤_, _<_}
 use native.Mathlib.Omega.{arith}
 use native.Mathlib.Decide.{ℕ-discrete, decLt}
 use lib.Dec.{eqb}
-use lib.ListN.{length, getD}
+use lib.ListN.{length, length-append, getD}
 use borrow.Author.Tests.{eq-eqb, ne-eqb}
 use Rattle.lists.specs.Choose.{choose}
 use Rattle.lists.specs.Every.{All}
@@ -221,6 +221,40 @@ module _ (m : ℕ) (ks : List ℕ) (size : length ks ≡ m) where
         sum-ones m,
         sum-at (λ k. 1) (λ k. occurs (suc k) ks) m k (omega arith) (λ w b q. h (suc w) (omega arith) (omega arith)),
       )
+
+  -- and no other number is there
+  pub range-if-used : ((k : ℕ) → 1 ≤ k → k ≤ m → 1 ≤ occurs k ks) → (i : ℕ) → i < length ks → (1 ≤ getD ks i 0) × (getD ks i 0 ≤ m)
+  range-if-used h i l = (go-low (decLt 0 (getD ks i 0)), go-high (decLt m (getD ks i 0)))
+    where
+      -- else the others alone would use each of 1 to m
+      other : ((w : ℕ) → w < m → suc w ≡ getD ks i 0 → ⊥) → ⊥
+      other q =
+          let u = occurs-split (getD ks i 0) ks (occurs-at (getD ks i 0) ks i l refl) in
+          let n : length ks ≡ suc (length (u .0 ++ u .1)) = ap length (u .2) ∙ simp length-append (omega arith) in
+          omega (
+            arith,
+            n,
+            size,
+            uses-le m (u .0 ++ u .1),
+            sum-ones m,
+            sum-mono (λ k. 1) (λ k. occurs (suc k) (u .0 ++ u .1)) m
+                (λ w b.
+                omega (
+                  arith,
+                  h (suc w) (omega arith) (omega arith),
+                  ap (occurs (suc w)) (u .2),
+                  occurs-between (suc w) (getD ks i 0) (u .0) (u .1),
+                  agree-other (suc w) (getD ks i 0) (q w b),
+                )),
+          )
+
+      go-low : Dec (0 < getD ks i 0) → 1 ≤ getD ks i 0
+      go-low (yes b) = b
+      go-low (no b) = absurd (other (λ w k e. omega arith))
+
+      go-high : Dec (m < getD ks i 0) → getD ks i 0 ≤ m
+      go-high (yes b) = absurd (other (λ w k e. omega arith))
+      go-high (no b) = omega arith
 
   -- if all are from 1 to m and none is used twice, each is used once
   pub once-if-apart : All (λ k. (1 ≤ k) × (k ≤ m)) ks → ((k : ℕ) → occurs k ks ≤ 1) → (k : ℕ) → 1 ≤ k → k ≤ m → occurs k ks ≡ 1

@@ -3,7 +3,7 @@
 use mathlib.Core.Path.{_≡_, refl, ap, ap₂, _∙_}
 use mathlib.Core.Bool.{Bool, true, false, not}
 use mathlib.Core.List.{List, [], _∷_, _++_, map, append-nil}
-use Prim.Native.Nat.{ℕ, zero, suc, _+_, _-_, _≤_, _<_}
+use Prim.Native.Nat.{ℕ, zero, suc, _-_, _≤_, _<_}
 use native.Mathlib.Omega.{arith}
 use native.Mathlib.Decide.{ℕ-discrete}
 use lib.IntN.{ℤ, pos, negsuc, natAbs}
@@ -11,14 +11,14 @@ use lib.ListN.{length, getD, length-map}
 use Rattle.lists.specs.Choose.{choose}
 use Rattle.lists.specs.Every.{All}
 use Rattle.lists.specs.Count.{countFrom}
-use Rattle.lists.proofs.Mapped.{map-at, values-at, values-all}
+use Rattle.lists.proofs.Mapped.{map-at, values-at}
 use Rattle.lists.proofs.Count.{length-count}
 use Rattle.trails.specs.Counting.{occurs}
 use Rattle.trails.specs.Strings.{Ends, turned}
 use Rattle.trails.specs.Places.{isTurned, signed, SignedPermutation, turnedBy, standing, arrangedTo, arranged}
 use Rattle.trails.proofs.Counting.{occurs-at}
 use Rattle.trails.proofs.Orders.{Reordered, empty, keep, turn, exchange, both, move-in, reordered-left}
-use Rattle.trails.proofs.Arranged.{size-signed, turned-signed, standing-here, standing-other, arranged-is, permutation-if-used}
+use Rattle.trails.proofs.Arranged.{size-signed, turned-signed, standing-here, standing-other, arranged-by-string, permutation-if-used}
 
 -- ─── from places to an order ─────────────────────────────────────────────────
 
@@ -204,15 +204,10 @@ module _ (xs order : List Ends) (k : Located xs order) where
       (map-at natAbs (pos 0) placesOf (o .0) ∙ size-at (o .0) (o .1) ∙ ap suc (o .2))
 
   places-permute : SignedPermutation (length xs) placesOf
-  unfolding placesOf placeOf
-  places-permute =
-      permutation-if-used (length xs) placesOf places-length (values-all (λ p. (1 ≤ natAbs p) × (natAbs p ≤ length xs)) placeOf 0 (length xs) in-range) places-used
-    where
-      in-range : (j : ℕ) → 0 ≤ j → j < 0 + length xs → (1 ≤ natAbs (placeOf j)) × (natAbs (placeOf j) ≤ length xs)
-      in-range j a b = rw (size-signed (suc (k .place j)) (k .turns j)) (omega arith, omega (arith, k .inside j (omega arith)))
+  places-permute = permutation-if-used (length xs) placesOf places-length places-used
 
   places-arrange : arranged turned placesOf xs ≡ order
-  places-arrange = arranged-is turned (0, 0) (length xs) placesOf xs places-permute refl order (k .size) stands
+  places-arrange = arranged-by-string turned (0, 0) (length xs) placesOf xs places-permute refl order (k .size) stands
     where
       stands : (i : ℕ) → i < length xs → getD order (natAbs (getD placesOf i (pos 0)) - 1) (0, 0) ≡ turnedBy turned (getD placesOf i (pos 0)) (getD xs i (0, 0))
       stands i l =

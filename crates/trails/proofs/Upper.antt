@@ -4,7 +4,7 @@
 -- so each group has; and a group with an odd weight hangs on the hub, whose strings are used.
 use mathlib.Core.Path.{_≡_, refl, ap, sym, subst}
 use mathlib.Core.List.{List, [], _∷_, _++_, map, append-assoc}
-use Prim.Native.Nat.{ℕ, zero, suc, _+_, _*_, _%_, _≤_, _<_}
+use Prim.Native.Nat.{ℕ, zero, suc, _+_, _*_, _/_, _%_, _≤_, _<_}
 use native.Mathlib.Omega.{arith}
 use native.Mathlib.Decide.{ℕ-discrete, decLt}
 use lib.ListN.{length, length-append}
@@ -226,7 +226,12 @@ module _ {h : ℕ} {strings : List Ends} {j : ℕ} {Y : List Ends} (fresh : occu
   unfolding least
   toured-walks = omega (arith, k .few, k .own-groups, reached-all, odd-weights-even strings, lower strings (unspoked h Y) toured-reordered)
 
-  -- and the order has the least number of paths
+  -- so that O / 2 and the later walks are the least number of paths
+  pub toured-answer : oddWeights strings / 2 + j ≡ least strings
+  unfolding least
+  toured-answer = omega (arith, toured-walks)
+
+  -- which the order has
   pub toured-least : pathCount (unspoked h Y) ≡ least strings
   unfolding least
   toured-least = omega (arith, k .few, toured-walks, lower strings (unspoked h Y) toured-reordered)
