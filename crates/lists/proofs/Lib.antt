@@ -4,3 +4,4 @@ pub mod Every
 pub mod Storing
 pub mod Count
 pub mod Table
+pub mod Mapped
