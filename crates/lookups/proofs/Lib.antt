@@ -3,3 +3,4 @@ pub mod Located
 pub mod Accessed
 pub mod Scans
 pub mod Asked
+pub mod Found

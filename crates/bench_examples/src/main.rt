@@ -1,0 +1,103 @@
+// Runs the bench examples of document 01 that are not starred, and some that are, and writes one line each: what was
+// asked, and the answer. The file `stdout` holds what the lines should be.
+use collection::Side;
+use collection::Told;
+use collection::Verdict;
+use libc::STDOUT_FILENO;
+use lookups::PlainAnswer;
+
+// The sheet of 01 after the places +1 +4 -3 -2.
+const LETTERS: [u8; 18] = *b"AAACCTGTAGGCTGAGAT";
+
+const ENDS: [u32; 4] = [5, 9, 14, 18];
+
+const WEIGHTS: [u32; 10] = [2, 2, 5, 5, 3, 3, 7, 7, 7, 2];
+
+fn show(asked: &[u8], a: u64, b: u64) {
+    io::write_all(STDOUT_FILENO, asked);
+    io::write_all(STDOUT_FILENO, b"\t");
+    io::print_decimal(STDOUT_FILENO, a);
+    io::write_all(STDOUT_FILENO, b"\t");
+    io::print_decimal(STDOUT_FILENO, b);
+    io::write_all(STDOUT_FILENO, b"\n");
+}
+
+// The number and the place of a refusal, 0 and 0 where there is none.
+fn show_verdict(asked: &[u8], v: Verdict) {
+    match v {
+        Verdict::Good => show(asked, 0, 0),
+        Verdict::Bad { number, place } => show(asked, number as u64, place as u64),
+    }
+}
+
+// The letters that ACCESS hands back, and its number and place.
+fn show_access(asked: &[u8], k: usize, handle: usize) {
+    let told = lookups::access_told(k, &LETTERS, &ENDS, handle);
+    let part = lookups::access(k, &LETTERS, &ENDS, handle);
+    io::write_all(STDOUT_FILENO, part);
+    io::write_all(STDOUT_FILENO, b" ");
+    show(asked, told.number as u64, told.place as u64);
+}
+
+// The handle and 1 for side +, 2 for side -; 0 and 0 if absent; 100 + number and the place if refused.
+fn show_plain(asked: &[u8], word: &[u8]) {
+    let answer = lookups::plain(3, &LETTERS, &ENDS, &WEIGHTS, word);
+    match answer {
+        PlainAnswer::Found { handle, side } => match side {
+            Side::Asked => show(asked, handle as u64, 1),
+            Side::Turned => show(asked, handle as u64, 2),
+        },
+        PlainAnswer::Absent => show(asked, 0, 0),
+        PlainAnswer::Refused { number, place } => show(asked, 100 + number as u64, place as u64),
+    }
+}
+
+fn judge_all() {
+    show_verdict(
+        b"the sheet of 01",
+        collection::judge_collection(3, &LETTERS, &ENDS, &WEIGHTS),
+    );
+    show_verdict(
+        b"k = 2",
+        collection::judge_collection(2, &LETTERS, &ENDS, &WEIGHTS),
+    );
+    let a31 = [b'A'; 31];
+    let one = [1u32; 1];
+    let end31 = [31u32; 1];
+    show_verdict(
+        b"k = 31, weight 1",
+        collection::judge_collection(31, &a31, &end31, &one),
+    );
+    show_verdict(
+        b"k = 32",
+        collection::judge_collection(32, &a31, &end31, &one),
+    );
+    let zero = [0u32; 1];
+    show_verdict(
+        b"weight 0",
+        collection::judge_collection(31, &a31, &end31, &zero),
+    );
+    let none: [u32; 0] = [];
+    let no_letters: [u8; 0] = [];
+    show_verdict(
+        b"no strings",
+        collection::judge_collection(3, &no_letters, &none, &none),
+    );
+}
+
+fn main() {
+    show(b"AACC turned", words::turned_four(5) as u64, 0);
+    show(b"ACGT turned", words::turned_four(27) as u64, 0);
+    judge_all();
+    show_access(b"handle 8", 3, 8);
+    show_access(b"handle 1", 3, 1);
+    show_access(b"handle 10", 3, 10);
+    show_access(b"handle 11", 3, 11);
+    show_access(b"k = 2, handle 1", 2, 1);
+    show_plain(b"CAG", b"CAG");
+    show_plain(b"TTT", b"TTT");
+    show_plain(b"CCC", b"CCC");
+    show_plain(b"GGC", b"GGC");
+    show_plain(b"GGCT", b"GGCT");
+    show_plain(b"cag", b"cag");
+}
