@@ -4,3 +4,8 @@ pub mod Every
 pub mod Storing
 pub mod Count
 pub mod Table
+pub mod Compare
+pub mod Picks
+pub mod Sorts
+pub mod Radix
+pub mod Regions

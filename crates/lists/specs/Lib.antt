@@ -4,3 +4,5 @@ pub mod First
 pub mod Every
 pub mod Fill
 pub mod Count
+pub mod Pick
+pub mod Regions
