@@ -4,6 +4,7 @@ pub mod Every
 pub mod Storing
 pub mod Count
 pub mod Table
+pub mod Pairs
 pub mod Compare
 pub mod Picks
 pub mod Sorts
