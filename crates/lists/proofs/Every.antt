@@ -52,6 +52,11 @@ module _ {A : Type 0} (P : A → Type 0) where
   all-at (x ∷ xs) h zero d l = h .0
   all-at (x ∷ xs) h (suc i) d l = all-at xs (h .1) i d (le-of-suc-le-suc l)
 
+  -- what holds at each place holds of all
+  pub at-all : (d : A) (xs : List A) → ((i : ℕ) → i < length xs → P (getD xs i d)) → All P xs
+  at-all d [] h = tt
+  at-all d (x ∷ xs) h = (h 0 (omega arith), at-all d xs (λ i l. h (suc i) (omega arith)))
+
   pub all-take : (n : ℕ) (xs : List A) → All P xs → All P (take n xs)
   all-take zero xs h = tt
   all-take (suc n) [] h = tt

@@ -5,3 +5,9 @@ pub mod Storing
 pub mod Count
 pub mod Table
 pub mod Mapped
+pub mod Pairs
+pub mod Compare
+pub mod Picks
+pub mod Sorts
+pub mod Radix
+pub mod Regions

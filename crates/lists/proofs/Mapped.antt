@@ -1,4 +1,4 @@
--- Laws of `map`, and of what holds at each entry. Assumes nothing.
+-- Laws of `map`. Assumes nothing.
 use mathlib.Core.Path.{_≡_, refl, ap, _∙_}
 use mathlib.Core.List.{List, [], _∷_, map}
 use Prim.Native.Nat.{ℕ, zero, suc, _+_, _<_}
@@ -21,11 +21,6 @@ module _ {A B : Type 0} where
   pub map-all : (P : B → Type 0) (f : A → B) (xs : List A) → All (λ x. P (f x)) xs → All P (map f xs)
   map-all P f [] h = tt
   map-all P f (x ∷ xs) h = (h .0, map-all P f xs (h .1))
-
-module _ {A : Type 0} where
-  pub at-all : (P : A → Type 0) (d : A) (xs : List A) → ((i : ℕ) → i < length xs → P (getD xs i d)) → All P xs
-  at-all P d [] h = tt
-  at-all P d (x ∷ xs) h = (h 0 (omega arith), at-all P d xs (λ i l. h (suc i) (omega arith)))
 
 -- the values of f at the n numbers from i on
 module _ {B : Type 0} where

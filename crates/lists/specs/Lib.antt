@@ -4,3 +4,6 @@ pub mod First
 pub mod Every
 pub mod Fill
 pub mod Count
+pub mod Pairs
+pub mod Pick
+pub mod Regions

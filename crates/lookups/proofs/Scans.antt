@@ -3,7 +3,7 @@ use mathlib.Core.Path.{_≡_, refl, sym, ap, ap₂, _∙_, subst}
 use mathlib.Core.Bool.{Bool, true, false, _&&_, true≢false}
 use mathlib.Core.List.{List, [], _∷_, _++_, map}
 use Prim.Native.Nat.{ℕ, zero, suc, _+_, _-_, _*_, _%_, _^_, _<_, _≤_}
-use native.Mathlib.Nat.{mod-eq-of-lt, add-zero, not-suc-le-zero, le-of-suc-le-suc}
+use native.Mathlib.Nat.{mod-eq-of-lt, add-zero}
 use native.Mathlib.Numerals.{add-one}
 use native.Mathlib.Omega.{arith}
 use borrow.Author.Tests.{eq-eqb, ne-eqb, eqb-true}
@@ -14,6 +14,7 @@ use Rattle.lists.specs.Count.{countFrom}
 use Rattle.lists.specs.Every.{All, every, same}
 use Rattle.lists.specs.First.{firstFrom, firstThat}
 use Rattle.lists.proofs.Count.{count-next, count-end, count-start, length-count}
+use Rattle.lists.proofs.Mapped.{map-at-below}
 use Rattle.lists.proofs.Every.{same-is, is-same, all-take, all-drop, all-at}
 use Rattle.words.specs.Letter.{letter, isLetter, twoBits}
 use Rattle.words.specs.Turned.{rolled}
@@ -224,15 +225,10 @@ module _ (k : ℕ) (letters : List ℕ) (k-low : 1 ≤ k) (k-high : k ≤ 31) (g
       let q : suc (k - 1) ≡ k = omega arith in
       let i : a + (k - 1) < length letters = omega arith in
       let y : x ≡ getD (spell letters) (a + (k - 1)) 0 =
-      e ∙ (letter-bits (getD letters (a + (k - 1)) 0) (all-at (λ b. isLetter b ≡ true) letters good (a + (k - 1)) 0 i) ∙ sym (map-at letter letters (a + (k - 1)) i)) in
+      e ∙ (letter-bits (getD letters (a + (k - 1)) 0) (all-at (λ b. isLetter b ≡ true) letters good (a + (k - 1)) 0 i) ∙ sym (map-at-below letter 0 0 letters (a + (k - 1)) i)) in
       ap₂ (λ (m n : ℕ). rolled m c n) (sym q) y
       ∙ (code-rolls (spell letters) spelt (k - 1) a c (omega (arith, size)) (r .low)
       ∙ (ap (λ (n : ℕ). codeAt (spell letters) n a) q ∙ ap code (sym (word-part k letters a))))
-    where
-      map-at : (f : ℕ → ℕ) (xs : List ℕ) (i : ℕ) → i < length xs → getD (map f xs) i 0 ≡ f (getD xs i 0)
-      map-at f [] i h = absurd (not-suc-le-zero h)
-      map-at f (x ∷ xs) zero h = refl
-      map-at f (x ∷ xs) (suc i) h = map-at f xs i (le-of-suc-le-suc h)
 
   -- the same where the code counts i k-mers from position `at` on
   pub rolls-here : (at i c x : ℕ) → at + i + k ≤ length letters → Rolls k letters (at + i) c → x ≡ twoBits (getD letters (at + (k - 1) + i) 0) → rolled k c x ≡ code (wordAt k letters (at + i))

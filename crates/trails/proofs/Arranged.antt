@@ -12,8 +12,8 @@ use lib.Seq.{take-suc, take-all, getD-append-add}
 use borrow.Author.Tests.{eq-eqb, ne-eqb}
 use Rattle.lists.specs.Choose.{choose}
 use Rattle.lists.specs.Every.{All}
-use Rattle.lists.proofs.Every.{all-at}
-use Rattle.lists.proofs.Mapped.{map-at, map-at-below, map-all, at-all}
+use Rattle.lists.proofs.Every.{all-at, at-all}
+use Rattle.lists.proofs.Mapped.{map-at, map-at-below, map-all}
 use Rattle.trails.specs.Counting.{agree, occurs}
 use Rattle.trails.specs.Places.{isTurned, signed, SignedPermutation, turnedBy, standing, arrangedTo, arranged}
 use Rattle.trails.proofs.Counting.{agree-same, agree-other, agree-le, occurs-at, occurs-where, once-if-used, range-if-used, once-if-apart}
