@@ -32,6 +32,10 @@ pub and-true : (s : Bool) → (s && true) ≡ s
 and-true true = refl
 and-true false = refl
 
+pub and-no : (s : Bool) {t : Bool} → t ≡ false → (s && t) ≡ false
+and-no true e = e
+and-no false e = refl
+
 -- ─── of every element ────────────────────────────────────────────────────────
 
 module _ {A : Type 0} (P : A → Type 0) where

@@ -14,13 +14,14 @@ pub drop-next : {A : Type 0} (xs : List A) (i : ℕ) (d : A) → i < length xs �
 drop-next xs i d h = rw add-one (drop-cons xs i d h)
 
 module _ {A : Type 0} where
-  put-start : (xs old : List A) → put 0 xs old ≡ fill xs old
+  pub put-start : (xs old : List A) → put 0 xs old ≡ fill xs old
   put-start xs old = rw zero-add refl
 
   put-none : (at : ℕ) (old : List A) → put at [] old ≡ old
   put-none at old = rw add-zero (take-append-drop at old)
 
-  put-next : (at : ℕ) (old xs : List A) (x : A) → at < length old → put (at + 1) xs (set old at x) ≡ put at (x ∷ xs) old
+  -- one entry stored and the rest from there on
+  pub put-next : (at : ℕ) (old xs : List A) (x : A) → at < length old → put (at + 1) xs (set old at x) ≡ put at (x ∷ xs) old
   put-next at old xs x h =
       let l : at < suc at + length xs = omega arith in
       rw (add-one, take-suc-set, drop-set-lt, suc-add, add-suc) (append-assoc (take at old) (x ∷ []) (xs ++ drop (suc (at + length xs)) old))

@@ -1,0 +1,4 @@
+-- Runs of weights, run lists, and what RUNS and WEIGHT answer.
+pub mod Runs
+pub mod RunList
+pub mod Calls
