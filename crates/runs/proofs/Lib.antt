@@ -1,4 +1,6 @@
 -- Laws of runs and run lists.
 pub mod Loops
 pub mod RunLists
-pub mod Counting
+pub mod GivenBack
+pub mod Only
+pub mod Joined

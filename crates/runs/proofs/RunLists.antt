@@ -26,7 +26,7 @@ pub record Later (n w f : ℕ) (weights firsts : List ℕ) : Type 0 where
   pub rise : Pairs (λ g h. g < h) firsts
   pub within : All (λ g. g ≤ n) firsts
 
-follow-good : (n w f : ℕ) (weights firsts : List ℕ) → allFollow n w f weights firsts ≡ true → Later n w f weights firsts
+pub follow-good : (n w f : ℕ) (weights firsts : List ℕ) → allFollow n w f weights firsts ≡ true → Later n w f weights firsts
 unfolding allFollow
 follow-good n w f [] [] e = record { same-length = refl; above = tt; rise = tt; within = tt }
 follow-good n w f [] (g ∷ firsts) e = absurd (false≢true e)
@@ -78,7 +78,7 @@ list-verdict-good n weights firsts h =
 
 -- ─── the last run at or before a handle ──────────────────────────────────────
 
-last-none : (handle so-far : ℕ) (weights firsts : List ℕ) → All (λ g. handle < g) firsts → lastAt handle so-far weights firsts ≡ so-far
+pub last-none : (handle so-far : ℕ) (weights firsts : List ℕ) → All (λ g. handle < g) firsts → lastAt handle so-far weights firsts ≡ so-far
 unfolding lastAt
 last-none handle so-far [] firsts h = refl
 last-none handle so-far (w ∷ weights) [] h = refl
