@@ -1,0 +1,105 @@
+// What stands at a place of a sheet: one byte, letters, a weight.
+use crate::Weight;
+ghost use mathlib.Core.Path.{_≡_};
+ghost use Prim.Native.Nat.{_+_, _-_, _*_, _≤_};
+ghost use lib.ListN.{length, drop};
+ghost use Rattle.collection.specs.Judge.{isWeight};
+ghost use Rattle.sheet_text.specs.Numbers.{isDigit};
+ghost use Rattle.sheet_read.specs.Cursor.{byteIs, isEnd, span, endedAt, weightEnd, weightAt};
+
+// Whether a byte stands at a place.
+pub(crate) fn byte_is(s: &[u8], i: usize, b: u8) -> bool
+    ensures { λ r. ⌜ r ≡ byteIs (now (s .entry)) i b ⌝ }
+{
+    if i < s.len() {
+        return s[i] == b;
+    }
+    false
+}
+
+// Where the letters that start at a place end.
+pub(crate) fn letters_end(s: &[u8], at: usize) -> usize
+    requires { ⌜ at ≤ length (now s) ⌝ }
+    ensures { λ r. ⌜ (r ≡ at + span (drop at (now (s .entry)))) × (r ≤ length (now (s .entry))) ⌝ }
+{
+    let mut i = at;
+    while i < s.len() {
+        if !words::is_letter(s[i]) {
+            return i;
+        }
+        i += 1;
+    }
+    i
+}
+
+fn is_digit(b: u8) -> bool
+    ensures { λ r. ⌜ r ≡ isDigit b ⌝ }
+{
+    (48 <= b) & (b <= 57)
+}
+
+// Whether a weight is in range.
+fn is_weight(w: u32) -> bool
+    ensures { λ r. ⌜ r ≡ isWeight w ⌝ }
+{
+    (1 <= w) & (w <= 16777215)
+}
+
+// Whether a byte ends a field.
+fn is_end(b: u8) -> bool
+    ensures { λ r. ⌜ r ≡ isEnd b ⌝ }
+{
+    if b == 9 {
+        return true;
+    }
+    b == 10
+}
+
+// A number that ends at a place.
+fn ended(v: u32, i: usize) -> Weight
+    ensures { λ r. ⌜ r ≡ endedAt v i ⌝ }
+{
+    if is_weight(v) {
+        return Weight::Good { value: v, next: i };
+    }
+    Weight::Wrong
+}
+
+// A number behind which a byte that is no digit stands.
+fn weight_end(b: u8, v: u32, i: usize) -> Weight
+    ensures { λ r. ⌜ r ≡ weightEnd b v i ⌝ }
+{
+    if is_end(b) {
+        return ended(v, i);
+    }
+    Weight::Wrong
+}
+
+// A number with one digit more.
+fn with_digit(v: u32, b: u8) -> u32
+    requires { ⌜ (v ≤ 16777215) × (48 ≤ b) × (b ≤ 57) ⌝ }
+    ensures { λ r. ⌜ r ≡ v * 10 + (b - 48) ⌝ }
+{
+    v * 10 + (b - 48) as u32
+}
+
+// The weight at a place of the sheet. A number that leaves the range is given up at once, so it cannot wrap; a leading zero
+// leaves it at the first digit.
+pub(crate) fn weight_at(s: &[u8], at: usize) -> Weight
+    ensures { λ r. ⌜ r ≡ weightAt (now (s .entry)) at ⌝ }
+{
+    let mut v: u32 = 0;
+    let mut i = at;
+    while i < s.len() {
+        let b = s[i];
+        if !is_digit(b) {
+            return weight_end(b, v, i);
+        }
+        v = with_digit(v, b);
+        i += 1;
+        if !is_weight(v) {
+            return Weight::Wrong;
+        }
+    }
+    ended(v, i)
+}
