@@ -1,8 +1,4 @@
--- How the steps of READ meet the parts of a sheet, and what they come to.
-pub mod OneWeight
-pub mod OneLine
-pub mod Counts
-pub mod Heads
+-- What READ's two passes come to: refusals, tables, outcome.
 pub mod Refusals
 pub mod Outcomes
 pub mod Stored

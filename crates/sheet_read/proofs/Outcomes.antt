@@ -19,9 +19,10 @@ use Rattle.sheet_text.specs.Read.{sheetN, sheetM, sheetWeights, tablesVerdict, 
 use Rattle.sheet_text.specs.Sheet.{sheetK, sheetStrings, isHead, stringsOf, firstWrong, sheetVerdict}
 use Rattle.sheet_text.proofs.Accepted.{sheet-good}
 use Rattle.sheet_text.proofs.Calls.{read-takes}
-use Rattle.sheet_read.specs.Cursor.{headOf, linesAt, left, judgedOf, judgedIn, held}
+use Rattle.sheet_lines.specs.Cursor.{headOf, linesAt, left}
+use Rattle.sheet_read.specs.Judged.{judgedOf, judgedIn, held}
 use Rattle.sheet_read.specs.Fits.{Fits}
-use Rattle.sheet_read.specs.declared.Head.the-variants as head
+use Rattle.sheet_lines.specs.declared.Head.the-variants as head
 use Rattle.sheet_read.specs.declared.Judged.{Judged}
 use Rattle.sheet_read.specs.declared.Judged.the-variants as judged
 use Rattle.sheet_read.proofs.Refusals.{Headed, headed}

@@ -15,12 +15,13 @@ use Rattle.collection.specs.Verdict.{andThen, atPlace, settle}
 use Rattle.sheet_text.specs.Parts.{upTo, later, parts, feed}
 use Rattle.collection.specs.Strings.{lettersIn, weightsIn}
 use Rattle.sheet_text.specs.Sheet.{isKLine, firstWrong, sheetK, sheetStrings, isHead, sheetVerdict}
-use Rattle.sheet_read.specs.Cursor.{headOf, headIn, linesAt, countOf, judgedOf, held}
-use Rattle.sheet_read.specs.declared.Head.the-variants as head
-use Rattle.sheet_read.specs.declared.Counted.the-variants as counted
+use Rattle.sheet_lines.specs.Cursor.{headOf, headIn, linesAt, countOf}
+use Rattle.sheet_read.specs.Judged.{judgedOf, held}
+use Rattle.sheet_lines.specs.declared.Head.the-variants as head
+use Rattle.sheet_lines.specs.declared.Counted.the-variants as counted
 use Rattle.sheet_read.specs.declared.Judged.the-variants as judged
 use Rattle.sheet_text.proofs.Tests.{never}
-use Rattle.sheet_read.proofs.Counts.{past-sep}
+use Rattle.sheet_lines.proofs.Counts.{past-sep}
 
 bad-good : {A : Type 0} {k n : ℕ} → head.Good k n ≡ head.Wrong → A
 bad-good h = let z : _≡_ {A = ℕ} 0 1 = cc in absurd (omega arith)

@@ -2,7 +2,7 @@
 use mathlib.Core.Path.{_≡_, refl, sym, ap, _∙_, subst}
 use mathlib.Core.Bool.{Bool, true, false}
 use mathlib.Core.List.{List, [], _∷_, _++_, map}
-use Prim.Native.Nat.{ℕ, zero, suc, _+_, _-_, _<_, _≤_}
+use Prim.Native.Nat.{ℕ, suc, _+_, _-_, _<_, _≤_}
 use native.Mathlib.Omega.{arith}
 use borrow.Author.Tests.{eqb-true, ltb-true, ltb-false}
 use lib.Dec.{ltb, eqb}
@@ -15,35 +15,18 @@ use Rattle.sheet_text.specs.Numbers.{value}
 use Rattle.sheet_text.specs.Parts.{upTo, later, parts, tab, feed}
 use Rattle.collection.specs.Strings.{Str, lettersIn, weightsIn, endsIn}
 use Rattle.sheet_text.specs.Sheet.{isStringLine, string, stringOf, stringsOf, firstWrong}
-use Rattle.sheet_read.specs.Cursor.{left, span, tailAt, lineOf, lineAt, linesAt, marked, weightsAt}
-use Rattle.sheet_read.specs.declared.Tail.{Tail}
-use Rattle.sheet_read.specs.declared.Tail.the-variants as tail
-use Rattle.sheet_read.specs.declared.Line.{Line}
-use Rattle.sheet_read.specs.declared.Line.the-variants as line
+use Rattle.sheet_lines.specs.Cursor.{left, span, tailAt, lineOf, lineAt, linesAt, marked, weightsAt}
+use Rattle.sheet_lines.specs.declared.Tail.{Tail}
+use Rattle.sheet_lines.specs.declared.Tail.the-variants as tail
+use Rattle.sheet_lines.specs.declared.Line.{Line}
+use Rattle.sheet_lines.specs.declared.Line.the-variants as line
 use Rattle.sheet_text.proofs.Tests.{never}
 use Rattle.sheet_text.proofs.Accepted.{choose-zero}
-use Rattle.sheet_read.proofs.OneLine.{within, tab-other, feed-other, up-short, span-up, line-unmarked, line-few, line-bad, line-good, front, front-up}
+use Rattle.sheet_lines.proofs.OneLine.{up-take, take-up, within, tab-other, feed-other, up-short, span-up, line-unmarked, line-few, line-bad, line-good, front, front-up}
 use Rattle.lists.proofs.Storing.{Storing, begin, inside, store, restated, stored}
 use Rattle.collection.proofs.Strings.{ends-length}
 use Rattle.sheet_text.proofs.Blocks.{block-room, store-block}
-use Rattle.sheet_read.proofs.Counts.{found, past-sep, some}
-
-pub up-take : (sep : ℕ) (r : List ℕ) → upTo sep r ≡ take (length (upTo sep r)) r
-unfolding upTo
-up-take sep [] = refl
-up-take sep (b ∷ r) = go (eqb b sep) (up-take sep r) where
-  go : (t : Bool) → upTo sep r ≡ take (length (upTo sep r)) r → choose t [] (b ∷ upTo sep r) ≡ take (length (choose t [] (b ∷ upTo sep r))) (b ∷ r)
-  go true h = refl
-  go false h = ap (λ (x : List ℕ). b ∷ x) h
-
-pub take-up : (sep n : ℕ) (r : List ℕ) → n ≤ length (upTo sep r) → take n (upTo sep r) ≡ take n r
-unfolding upTo
-take-up sep zero r h = refl
-take-up sep (suc n) [] h = refl
-take-up sep (suc n) (b ∷ r) h = go (eqb b sep) h (take-up sep n r) where
-  go : (t : Bool) → suc n ≤ length (choose t [] (b ∷ upTo sep r)) → (n ≤ length (upTo sep r) → take n (upTo sep r) ≡ take n r) → take (suc n) (choose t [] (b ∷ upTo sep r)) ≡ b ∷ take n r
-  go true g w = absurd (omega arith)
-  go false g w = ap (λ (x : List ℕ). b ∷ x) (w (omega arith))
+use Rattle.sheet_lines.proofs.Counts.{found, past-sep, some}
 
 wrong-bad : (k q i : ℕ) (l : List ℕ) (ms : List (List ℕ)) → firstWrong k (suc q) (l ∷ ms) ≡ 0 → 1 ≤ length l + length ms → lineOf k i l ms ≡ line.Wrong → ⊥
 unfolding firstWrong lineOf

@@ -2,33 +2,26 @@
 use mathlib.Core.Path.{_≡_, refl, sym, ap, _∙_}
 use mathlib.Core.Bool.{Bool, true, false, _&&_}
 use mathlib.Core.List.{List, [], _∷_, map}
-use Prim.Native.Nat.{ℕ, suc, _+_, _-_, _<_, _≤_}
+use Prim.Native.Nat.{ℕ, _+_}
 use native.Mathlib.Omega.{arith}
 use borrow.Author.Tests.{eqb-true}
 use lib.Dec.{eqb}
-use lib.ListN.{length, drop, getD, take, length-drop}
-use lib.Seq.{drop-drop, drop-cons, length-take-le}
+use lib.ListN.{length, drop, getD}
+use lib.Seq.{drop-drop}
 use Rattle.lists.specs.Choose.{choose}
 use Rattle.lists.specs.Every.{every}
 use Rattle.sheet_text.specs.Numbers.{value}
 use Rattle.sheet_text.specs.Parts.{upTo, later, tab, feed}
 use Rattle.sheet_text.specs.Sheet.{isWeightField}
-use Rattle.sheet_read.specs.Cursor.{field, weightOf, weightAt, tailOf, tailAt, byteIs, fine, weightsAt, isEmpty, endsAt}
-use Rattle.sheet_read.specs.declared.Weight.the-variants as weight
-use Rattle.sheet_read.specs.declared.Tail.{Tail}
-use Rattle.sheet_read.specs.declared.Tail.the-variants as tail
+use Rattle.sheet_lines.specs.Cursor.{field, weightAt, tailOf, tailAt, byteIs, fine, weightsAt, isEmpty, endsAt}
+use Rattle.sheet_lines.specs.declared.Weight.the-variants as weight
+use Rattle.sheet_lines.specs.declared.Tail.{Tail}
+use Rattle.sheet_lines.specs.declared.Tail.the-variants as tail
 use Rattle.sheet_text.proofs.Tests.{both, never}
 use Rattle.sheet_text.proofs.Parts.{up-next}
-use Rattle.sheet_read.proofs.OneLine.{within, up-short, byte-here, weight-good, tail-ended, tail-unended}
+use Rattle.sheet_lines.proofs.OneLine.{weight-value, within, up-short, byte-here, weight-good, tail-ended, tail-unended}
 
 -- ─── weights ─────────────────────────────────────────────────────────────────
-
-pub weight-value : (i : ℕ) (f : List ℕ) (v next : ℕ) → weightOf i f ≡ weight.Good v next → v ≡ value f
-unfolding weightOf
-weight-value i f v next h = go (isWeightField f) h where
-  go : (t : Bool) → choose t (weight.Good (value f) (i + length f)) weight.Wrong ≡ weight.Good v next → v ≡ value f
-  go true r = cc
-  go false r = let z : _≡_ {A = ℕ} 0 1 = cc in absurd (omega arith)
 
 tab-later : (b : ℕ) (l : List ℕ) → b ≡ 9 → later tab (b ∷ l) ≡ upTo tab l ∷ later tab l
 unfolding later
@@ -77,21 +70,3 @@ tail-fine s i h = go (byteIs s i 10) refl where
   go : (t : Bool) → byteIs s i 10 ≡ t → tailAt s i 0 ≡ endsAt i
   go true e = tail-ended s i e
   go false e = absurd (not-fine (tail-unended s i e) h)
-
--- ─── letters ─────────────────────────────────────────────────────────────────
-
-module _ (s : List ℕ) (e i : ℕ) where
-  pub take-next : i < e → e ≤ length s → take (e - i) (drop i s) ≡ getD s i 0 ∷ take (e - (i + 1)) (drop (i + 1) s)
-  take-next l h =
-      let a : drop i s ≡ getD s i 0 ∷ drop (suc i) s = drop-cons s i 0 (omega arith) in
-      let n : e - i ≡ suc (e - (i + 1)) = omega arith in
-      let p : suc i ≡ i + 1 = omega arith in
-      (λ x. take (n x) (a x)) ∙ ap (λ (y : ℕ). getD s i 0 ∷ take (e - (i + 1)) (drop y s)) p
-
-  pub take-none : e ≤ i → take (e - i) (drop i s) ≡ []
-  take-none l =
-      let n : e - i ≡ 0 = omega arith in
-      ap (λ (x : ℕ). take x (drop i s)) n
-
-  pub take-size : i ≤ e → e ≤ length s → length (take (e - i) (drop i s)) ≡ e - i
-  take-size l h = length-take-le (e - i) (drop i s) (omega (arith, length-drop i s))

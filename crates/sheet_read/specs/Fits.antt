@@ -5,7 +5,7 @@ use mathlib.Core.List.{List}
 use lib.ListN.{length}
 use Rattle.collection.specs.Strings.{lettersIn, weightsIn}
 use Rattle.sheet_text.specs.Sheet.{firstWrong}
-use Rattle.sheet_read.specs.Cursor.{linesAt, left}
+use Rattle.sheet_lines.specs.Cursor.{linesAt, left}
 
 -- the lines from `at` on are good and not too large for tables of these lengths
 pub record Fits (k : ℕ) (s : List ℕ) (at letters ends weights : ℕ) : Type 0 where

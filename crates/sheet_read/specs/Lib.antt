@@ -1,3 +1,3 @@
--- What the steps of READ find at a place of a sheet, and what filling the tables asks.
-pub mod Cursor
+-- A judged sheet, and what filling the tables asks.
+pub mod Judged
 pub mod Fits

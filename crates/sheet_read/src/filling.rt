@@ -1,28 +1,13 @@
 // The tables of a judged sheet.
-use crate::Weight;
-use crate::fields;
+use sheet_lines::Weight;
 ghost use mathlib.Core.Bool.{true};
 ghost use mathlib.Core.Path.{_≡_};
-ghost use Prim.Native.Nat.{_+_, _-_, _≤_};
-ghost use lib.ListN.{length, drop, take};
+ghost use Prim.Native.Nat.{_+_, _≤_};
+ghost use lib.ListN.{length};
 ghost use Rattle.lists.specs.Fill.{put, fill};
 ghost use Rattle.collection.specs.Strings.{lettersIn, endsIn, weightsIn};
-ghost use Rattle.sheet_read.specs.Cursor.{tailAt, fine, weightsAt, endsAt, left};
+ghost use Rattle.sheet_lines.specs.Cursor.{tailAt, fine, weightsAt, endsAt, left};
 ghost use Rattle.sheet_read.specs.Fits.{Fits};
-
-// Copies the bytes from a place up to an end into the entries from o on.
-fn copy_letters(s: &[u8], at: usize, e: usize, out: &mut [u8], o: usize)
-    requires { ⌜ (at ≤ e) × (e ≤ length (now s)) × (o + (e - at) ≤ length (now out)) ⌝ }
-    ensures { λ _. ⌜ now (out .exit) ≡ put o (take (e - at) (drop at (now (s .entry)))) (now (out .entry)) ⌝ }
-{
-    let mut i = at;
-    let mut p = o;
-    while i < e {
-        out[p] = s[i];
-        p += 1;
-        i += 1;
-    }
-}
 
 // Stores the n weights that stand from a place to the line's end; answers where the line's feed stands.
 fn fill_weights(s: &[u8], at: usize, n: usize, out: &mut [u32], o: usize) -> usize
@@ -33,10 +18,10 @@ fn fill_weights(s: &[u8], at: usize, n: usize, out: &mut [u32], o: usize) -> usi
     let mut j = n;
     let mut p = o;
     while 0 < j {
-        if !fields::byte_is(s, i, 9) {
+        if !sheet_lines::fields::byte_is(s, i, 9) {
             return i;
         }
-        let w = fields::weight_at(s, i + 1);
+        let w = sheet_lines::fields::weight_at(s, i + 1);
         let Weight::Good { value, next } = w else {
             return i;
         };
@@ -66,8 +51,8 @@ pub(crate) fn fill_lines(
     let mut w: usize = 0;
     while i < s.len() {
         let b = i + 2;
-        let e = fields::letters_end(s, b);
-        copy_letters(s, b, e, letters, n);
+        let e = sheet_lines::inner::letters_end(s, b);
+        sheet_lines::inner::copy_bytes(s, b, e, letters, n);
         let x = e - b;
         n += x;
         ends[m] = n as u32;

@@ -1,13 +1,12 @@
 // The refusals of READ, in their order: line 1 (11), k (2), the first wrong later line (11), 3, 1.
-use crate::Counted;
-use crate::Head;
 use crate::Judged;
-use crate::lines;
 use collection::Verdict;
+use sheet_lines::Counted;
+use sheet_lines::Head;
 ghost use mathlib.Core.Path.{_≡_};
 ghost use Rattle.collection.specs.Judge.{kVerdict, sizeVerdict};
 ghost use Rattle.collection.specs.Verdict.{roomVerdict, andThen};
-ghost use Rattle.sheet_read.specs.Cursor.{judgedOf, judgedIn};
+ghost use Rattle.sheet_read.specs.Judged.{judgedOf, judgedIn};
 
 // 2: k outside its range.
 fn judge_k(k: usize) -> Verdict
@@ -39,7 +38,7 @@ fn judge_size(letters: usize, strings: usize) -> Verdict
 fn judge_sheet(s: &[u8]) -> Judged
     ensures { λ r. ⌜ r ≡ judgedOf (now (s .entry)) ⌝ }
 {
-    let h = lines::head_at(s);
+    let h = sheet_lines::lines::head_at(s);
     let Head::Good { k, next } = h else {
         return Judged::Bad {
             number: 11,
@@ -50,7 +49,7 @@ fn judge_sheet(s: &[u8]) -> Judged
     if let Verdict::Bad { number, place } = v {
         return Judged::Bad { number, place };
     }
-    let c = lines::count_lines(k, s, next);
+    let c = sheet_lines::inner::count_lines(k, s, next);
     match c {
         Counted::Good {
             letters,

@@ -1,54 +1,12 @@
 // READ: a sheet's bytes into the tables of a collection. One pass judges and counts, and only then one pass fills, so a
 // refusal finds every table as it was. The place in the sheet goes from step to step as a number; each step answers what it
 // found there as an enum.
-mod fields;
 mod filling;
 mod judging;
-mod lines;
 
 use sheet_text::ReadAnswer;
 ghost use mathlib.Core.Path.{_≡_};
 ghost use Rattle.sheet_text.specs.Read.{readOutcome, readOf};
-
-// A weight's field: its value, and where the field ends.
-pub enum Weight {
-    Good { value: u32, next: usize },
-    Wrong,
-}
-
-// The weights up to a line's end: where the next line starts.
-pub enum Tail {
-    Good { next: usize },
-    Wrong,
-}
-
-// A string's line: where the next one starts, and how many letters and weights it has.
-pub enum Line {
-    Good {
-        next: usize,
-        letters: usize,
-        weights: usize,
-    },
-    Wrong,
-}
-
-// Line 1: k, and where line 2 starts.
-pub enum Head {
-    Good { k: usize, next: usize },
-    Wrong,
-}
-
-// What the strings' lines hold, or the number of the first wrong one.
-pub enum Counted {
-    Good {
-        letters: usize,
-        strings: usize,
-        weights: usize,
-    },
-    Wrong {
-        line: usize,
-    },
-}
 
 // A judged sheet: k, where line 2 starts and what the lines hold; or the first refusal.
 pub enum Judged {

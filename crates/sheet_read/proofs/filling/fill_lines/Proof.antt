@@ -5,13 +5,13 @@ use native.Mathlib.Omega.{arith}
 use borrow.Author.Needs.{needs}
 use lib.ListN.{length}
 use Rattle.collection.specs.Strings.{lettersIn, weightsIn, endsIn}
-use Rattle.sheet_read.proofs.OneLine.{marked-room}
-use Rattle.sheet_read.specs.Cursor.{fine}
+use Rattle.sheet_lines.proofs.OneLine.{marked-room}
+use Rattle.sheet_lines.specs.Cursor.{fine}
 use Rattle.lists.specs.Fill.{fill}
 use Rattle.lists.proofs.Storing.{inside}
 use Rattle.lists.specs.Fill.{fill}
 use Rattle.collection.specs.Strings.{lettersIn, weightsIn, endsIn}
-use Rattle.sheet_read.specs.Cursor.{left}
+use Rattle.sheet_lines.specs.Cursor.{left}
 use Rattle.sheet_read.proofs.Rows.{row, row-marked, State, split, next-state, feed-place, begin-state, end-state}
 use Rattle.sheet_read.proofs.filling.fill_lines.Statement.{statement}
 use Rattle.sheet_read.proofs.filling.fill_lines.Tie as tie
@@ -40,8 +40,8 @@ letters-end-requires c κs =
     let ro = marked-room (go .args .s .now) (at .loop .i) (row-marked (go .args .k) (at .loop .m + 1) (go .args .s .now) (at .loop .i) _ (at .loop .inv .lines) (c .loop-test .taken) refl) in
     ro
 
-copy-letters-requires : tie.Need-copy-letters-requires Inv-loop μ-loop
-copy-letters-requires c κs =
+copy-bytes-requires : tie.Need-copy-bytes-requires Inv-loop μ-loop
+copy-bytes-requires c κs =
     let le = c .before in
     let at = le .before .before in
     let go = at .before .before .before .before .before in
@@ -178,7 +178,7 @@ loop-again c =
     let en = le .letters-end .ensures in
     let r = row (go .args .k) (at .loop .m + 1) (go .args .s .now) (at .loop .i) (le .letters-end .result) (st .lines) (le .before .loop-test .taken) (en .0) in
     let sp = split st r (en .1) in
-    next-state st r (en .1) (c .before .before .fill-weights .result) (c .before .before .fill-weights .ensures .1) (c .before .before .before .before .before .before .copy-letters .ensures) (c .before .before .fill-weights .ensures .0)
+    next-state st r (en .1) (c .before .before .fill-weights .result) (c .before .before .fill-weights .ensures .1) (c .before .before .before .before .before .before .copy-bytes .ensures) (c .before .before .fill-weights .ensures .0)
 
 same-length : tie.Need-same-length Inv-loop μ-loop
 same-length c = c .before .loop .inv .letters .size-kept
@@ -201,7 +201,7 @@ fill-lines-spec =
     loop-holds
     add-b
     letters-end-requires
-    copy-letters-requires
+    copy-bytes-requires
     sub-x
     add-n
     cast-ends

@@ -6,9 +6,9 @@ use native.Mathlib.Omega.{arith}
 use borrow.Author.Needs.{needs}
 use borrow.Author.Tests.{not-true, not-false}
 use lib.ListN.{length}
-use Rattle.sheet_read.specs.Cursor.{tailAt}
-use Rattle.sheet_read.proofs.OneLine.{byte-here, tail-no-tab, tail-bad, tail-next}
-use Rattle.sheet_read.specs.Cursor.{fine, weightsAt}
+use Rattle.sheet_lines.specs.Cursor.{tailAt}
+use Rattle.sheet_lines.proofs.OneLine.{byte-here, tail-no-tab, tail-bad, tail-next}
+use Rattle.sheet_lines.specs.Cursor.{fine, weightsAt}
 use Rattle.lists.specs.Fill.{put}
 use Rattle.lists.proofs.Storing.{Storing, begin-at, inside, store, restated, stored}
 use Rattle.sheet_read.proofs.Stored.{weights-next, weights-none, not-fine, tail-fine}
