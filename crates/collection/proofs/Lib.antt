@@ -2,3 +2,4 @@
 pub mod Verdicts
 pub mod Judged
 pub mod Kmers
+pub mod Strings

@@ -1,0 +1,143 @@
+-- What READ comes to: the judged sheet and its tables, then the outcome. Assumes nothing.
+use mathlib.Core.Path.{_≡_, refl, sym, ap, _∙_}
+use mathlib.Core.Bool.{Bool, true}
+use mathlib.Core.List.{List}
+use Prim.Native.Nat.{ℕ, _+_}
+use native.Mathlib.Omega.{arith}
+use lib.ListN.{length}
+use Rattle.lists.specs.Choose.{choose}
+use Rattle.lists.specs.Fill.{fill}
+use Rattle.collection.specs.declared.Verdict.{Verdict}
+use Rattle.collection.specs.declared.Verdict.the-variants.{Good, Bad}
+use Rattle.collection.specs.Judge.{sizeVerdict}
+use Rattle.collection.specs.Strings.{Str, lettersIn, endsIn, weightsIn}
+use Rattle.collection.specs.Verdict.{andThen, settle, roomVerdict}
+use Rattle.collection.proofs.Verdicts.{both-good, test-good, then-bad, then-good, refused, settled}
+use Rattle.sheet_text.specs.declared.ReadAnswer.the-variants as answer
+use Rattle.sheet_text.specs.Parts.{upTo, later, feed}
+use Rattle.sheet_text.specs.Read.{sheetN, sheetM, sheetWeights, tablesVerdict, readVerdict, readOutcome, readOf}
+use Rattle.sheet_text.specs.Sheet.{sheetK, sheetStrings, isHead, stringsOf, firstWrong, sheetVerdict}
+use Rattle.sheet_text.proofs.Accepted.{sheet-good}
+use Rattle.sheet_text.proofs.Calls.{read-takes}
+use Rattle.sheet_lines.specs.Cursor.{headOf, linesAt, left}
+use Rattle.sheet_read.specs.Judged.{judgedOf, judgedIn, held}
+use Rattle.sheet_read.specs.Fits.{Fits}
+use Rattle.sheet_lines.specs.declared.Head.the-variants as head
+use Rattle.sheet_read.specs.declared.Judged.{Judged}
+use Rattle.sheet_read.specs.declared.Judged.the-variants as judged
+use Rattle.sheet_read.proofs.Refusals.{Headed, headed}
+
+-- ─── a settled judgement, taken apart ────────────────────────────────────────
+
+module _ (s : List ℕ) (v : Verdict) where
+  was-bad : {number place : ℕ} → settle v judged.Bad (held s) ≡ judged.Bad number place → v ≡ Bad number place
+  unfolding settle
+  was-bad {number} {place} h = go v refl h
+    where
+      go : (w : Verdict) → v ≡ w → settle w judged.Bad (held s) ≡ judged.Bad number place → v ≡ Bad number place
+      go Good e q = let z : _≡_ {A = ℕ} 0 1 = cc in absurd (omega arith)
+      go (Bad n p) e q = let a : n ≡ number = cc in let b : p ≡ place = cc in e ∙ (λ i. Bad (a i) (b i))
+
+  was-good : {k next n m w : ℕ} → settle v judged.Bad (held s) ≡ judged.Good k next n m w → (v ≡ Good) × (held s ≡ judged.Good k next n m w)
+  unfolding settle
+  was-good {k} {next} {n} {m} {w} h = go v refl h
+    where
+      go : (x : Verdict) → v ≡ x → settle x judged.Bad (held s) ≡ judged.Good k next n m w → (v ≡ Good) × (held s ≡ judged.Good k next n m w)
+      go Good e q = (e, q)
+      go (Bad a b) e q = let z : _≡_ {A = ℕ} 0 1 = cc in absurd (omega arith)
+
+-- what the lines hold, and where line 2 starts
+record Holding (s : List ℕ) (k next n m w : ℕ) : Type 0 where
+  k-is : sheetK s ≡ k
+  next-is : length (upTo feed s) + 1 ≡ next
+  n-is : sheetN s ≡ n
+  m-is : sheetM s ≡ m
+  w-is : sheetWeights s ≡ w
+
+holding : (s : List ℕ) {k next n m w : ℕ} → held s ≡ judged.Good k next n m w → Holding s k next n m w
+holding s h = record { k-is = cc; next-is = cc; n-is = cc; m-is = cc; w-is = cc }
+
+-- ─── a judged sheet, then its tables ─────────────────────────────────────────
+
+module _ (s : List ℕ) (a b c : ℕ) {j : Judged} (e : j ≡ judgedOf s) where
+  pub lines-refused : {number place : ℕ} → j ≡ judged.Bad number place → j ≡ judgedIn s a b c
+  unfolding judgedOf judgedIn readVerdict
+  lines-refused q = q ∙ refused judged.Bad _ (then-bad _ (was-bad s (sheetVerdict s) (sym e ∙ q)))
+
+  module _ {k next n m w : ℕ} (q : j ≡ judged.Good k next n m w) where
+    good : (sheetVerdict s ≡ Good) × (held s ≡ judged.Good k next n m w)
+    unfolding judgedOf
+    good = was-good s (sheetVerdict s) (sym e ∙ q)
+
+    tables : Verdict
+    tables = andThen (sizeVerdict n m) (andThen (roomVerdict a n) (andThen (roomVerdict b m) (roomVerdict c w)))
+
+    read-verdict : {v : Verdict} → tables ≡ v → readVerdict s a b c ≡ v
+    unfolding readVerdict tablesVerdict tables
+    read-verdict t =
+        let h = holding s (good .1) in
+        then-good _ (good .0) ((λ i. andThen (sizeVerdict (h .n-is i) (h .m-is i)) (andThen (roomVerdict a (h .n-is i)) (andThen (roomVerdict b (h .m-is i)) (roomVerdict c (h .w-is i))))) ∙ t)
+
+    pub tables-refused : {v : Verdict} {number place : ℕ} → v ≡ andThen (sizeVerdict n m) (andThen (roomVerdict a n) (andThen (roomVerdict b m) (roomVerdict c w))) → v ≡ Bad number place → judged.Bad number place ≡ judgedIn s a b c
+    unfolding judgedIn tables
+    tables-refused t f = refused judged.Bad _ (read-verdict (sym t ∙ f))
+
+    pub tables-good : {v : Verdict} → v ≡ andThen (sizeVerdict n m) (andThen (roomVerdict a n) (andThen (roomVerdict b m) (roomVerdict c w))) → v ≡ Good → judged.Good k next n m w ≡ judgedIn s a b c
+    unfolding judgedIn tables
+    tables-good t f = settled judged.Bad (sym (good .1)) (read-verdict (sym t ∙ f))
+
+-- ─── the outcome ─────────────────────────────────────────────────────────────
+
+-- an accepted sheet's line 1, and the lines behind it
+accepted-head : (s : List ℕ) → sheetVerdict s ≡ Good → Headed s (sheetK s) (length (upTo feed s) + 1)
+unfolding sheetVerdict headOf
+accepted-head s h =
+    let g : isHead (upTo feed s) (later feed s) ≡ true = test-good _ 11 1 Good (both-good _ _ h .0) .0 in
+    headed s _ _ (ap (λ (t : Bool). choose t (head.Good (sheetK s) (length (upTo feed s) + 1)) head.Wrong) g)
+
+module _ (s letters ends weights : List ℕ) {j : Judged} (e : j ≡ judgedIn s (length letters) (length ends) (length weights)) where
+  pub read-refused : {number place : ℕ} → j ≡ judged.Bad number place → readOutcome (answer.Refused number place) letters ends weights ≡ readOf s letters ends weights
+  unfolding judgedIn readOf
+  read-refused q = refused (λ number place. readOutcome (answer.Refused number place) letters ends weights) _ (was-bad s (readVerdict s _ _ _) (sym e ∙ q))
+
+  module _ {k next n m w : ℕ} (q : j ≡ judged.Good k next n m w) where
+    taken : (readVerdict s (length letters) (length ends) (length weights) ≡ Good) × (held s ≡ judged.Good k next n m w)
+    unfolding judgedIn
+    taken = was-good s (readVerdict s _ _ _) (sym e ∙ q)
+
+    strings-left : left s next ≡ sheetStrings s
+    strings-left =
+        let t = read-takes s _ _ _ (taken .0) in
+        let h = holding s (taken .1) in
+        ap (λ (x : ℕ). left s x) (sym (h .next-is)) ∙ ap stringsOf (accepted-head s (t .0) .lines)
+
+    -- the judged lines may fill the tables
+    pub read-fits : Fits k s next (length letters) (length ends) (length weights)
+    read-fits =
+        let t = read-takes s _ _ _ (taken .0) in
+        let h = holding s (taken .1) in
+        let d = accepted-head s (t .0) in
+        let l : linesAt s next ≡ later feed s = ap (λ (x : ℕ). linesAt s x) (sym (h .next-is)) ∙ d .lines in
+        let w = t .1 in
+        let p : length (lettersIn (left s next)) ≡ sheetN s = ap (λ (ss : List Str). length (lettersIn ss)) strings-left in
+        let r : length (left s next) ≡ sheetM s = ap length strings-left in
+        let u : length (weightsIn (left s next)) ≡ sheetWeights s = ap (λ (ss : List Str). length (weightsIn ss)) strings-left in
+        record {
+          inside = omega (arith, d .inside, h .next-is);
+          lines = (λ i. firstWrong (sym (h .k-is) i) 2 (l i)) ∙ sheet-good s (t .0) .lines;
+          small = omega (arith, w .few-letters);
+          letters-room = omega (arith, w .letters-room);
+          ends-room = omega (arith, w .ends-room);
+          weights-room = omega (arith, w .weights-room);
+        }
+
+    pub read-filled : {letters' ends' weights' : List ℕ} → letters' ≡ fill (lettersIn (left s next)) letters → ends' ≡ fill (endsIn 0 (left s next)) ends → weights' ≡ fill (weightsIn (left s next)) weights
+        → readOutcome (answer.Filled k n m w) letters' ends' weights' ≡ readOf s letters ends weights
+    unfolding readOf
+    read-filled x y z =
+        let h = holding s (taken .1) in
+        let l = strings-left in
+        settled (λ number place. readOutcome (answer.Refused number place) letters ends weights)
+        ((λ i. readOutcome (answer.Filled (sym (h .k-is) i) (sym (h .n-is) i) (sym (h .m-is) i) (sym (h .w-is) i)) (x i) (y i) (z i))
+        ∙ ap (λ (ss : List Str). readOutcome (answer.Filled (sheetK s) (sheetN s) (sheetM s) (sheetWeights s)) (fill (lettersIn ss) letters) (fill (endsIn 0 ss) ends) (fill (weightsIn ss) weights)) l)
+        (taken .0)

@@ -1,0 +1,123 @@
+-- Judging a sheet: the refusals in their order. Assumes nothing.
+use mathlib.Core.Path.{_≡_, refl, sym, ap, _∙_}
+use mathlib.Core.Bool.{Bool, true, false}
+use mathlib.Core.List.{List, [], _∷_}
+use Prim.Native.Nat.{ℕ, zero, suc, _+_, _≤_}
+use native.Mathlib.Omega.{arith}
+use borrow.Author.Tests.{eqb-true}
+use lib.Dec.{eqb, eqb·suc-zero}
+use lib.ListN.{length, drop}
+use Rattle.lists.specs.Choose.{choose}
+use Rattle.collection.specs.declared.Verdict.{Verdict}
+use Rattle.collection.specs.declared.Verdict.the-variants.{Good, Bad}
+use Rattle.collection.specs.Judge.{kVerdict}
+use Rattle.collection.specs.Verdict.{andThen, atPlace, settle}
+use Rattle.sheet_text.specs.Parts.{upTo, later, parts, feed}
+use Rattle.collection.specs.Strings.{lettersIn, weightsIn}
+use Rattle.sheet_text.specs.Sheet.{isKLine, firstWrong, sheetK, sheetStrings, isHead, sheetVerdict}
+use Rattle.sheet_lines.specs.Cursor.{headOf, headIn, linesAt, countOf}
+use Rattle.sheet_read.specs.Judged.{judgedOf, held}
+use Rattle.sheet_lines.specs.declared.Head.the-variants as head
+use Rattle.sheet_lines.specs.declared.Counted.the-variants as counted
+use Rattle.sheet_read.specs.declared.Judged.the-variants as judged
+use Rattle.sheet_text.proofs.Tests.{never}
+use Rattle.sheet_lines.proofs.Counts.{past-sep}
+
+bad-good : {A : Type 0} {k n : ℕ} → head.Good k n ≡ head.Wrong → A
+bad-good h = let z : _≡_ {A = ℕ} 0 1 = cc in absurd (omega arith)
+
+-- line 1 is wrong
+pub head-wrong : (s : List ℕ) → headIn s ≡ head.Wrong → judged.Bad 11 1 ≡ judgedOf s
+unfolding judgedOf sheetVerdict settle andThen headOf
+head-wrong s h = go (isHead (upTo feed s) (later feed s)) refl h where
+  go : (t : Bool) → isHead (upTo feed s) (later feed s) ≡ t → choose t (head.Good (sheetK s) (length (upTo feed s) + 1)) head.Wrong ≡ head.Wrong → judged.Bad 11 1 ≡ judgedOf s
+  go true e r = bad-good r
+  go false e r = rw e
+
+-- line 1 is good: its k, where line 2 starts, and the lines from there
+pub record Headed (s : List ℕ) (k next : ℕ) : Type 0 where
+  pub good : isHead (upTo feed s) (later feed s) ≡ true
+  pub k-is : k ≡ sheetK s
+  pub next-is : next ≡ length (upTo feed s) + 1
+  pub inside : next ≤ length s
+  pub later-one : 2 ≤ next
+  pub lines : linesAt s next ≡ later feed s
+
+some-line : (s : List ℕ) (ls : List (List ℕ)) → later feed s ≡ ls → isHead (upTo feed s) ls ≡ true → (parts feed (drop (suc (length (upTo feed s))) s) ≡ later feed s) × (suc (length (upTo feed s)) ≤ length s)
+some-line s [] e h = never h
+some-line s (m ∷ ms) e h = past-sep feed s m ms e
+
+line-some : (l : List ℕ) (ls : List (List ℕ)) → isHead l ls ≡ true → 1 ≤ length l
+unfolding isKLine upTo
+line-some l [] h = never h
+line-some [] (m ∷ ms) h = never h
+line-some (b ∷ l) (m ∷ ms) h = omega arith
+
+pub headed : (s : List ℕ) (k next : ℕ) → headIn s ≡ head.Good k next → Headed s k next
+unfolding headOf
+headed s k next h = go (isHead (upTo feed s) (later feed s)) refl h where
+  go : (t : Bool) → isHead (upTo feed s) (later feed s) ≡ t → choose t (head.Good (sheetK s) (length (upTo feed s) + 1)) head.Wrong ≡ head.Good k next → Headed s k next
+  go true e r =
+      let n : next ≡ length (upTo feed s) + 1 = cc in
+      let l = some-line s (later feed s) refl e in
+      let o = line-some (upTo feed s) (later feed s) e in
+      let z : length (upTo feed s) + 1 ≡ suc (length (upTo feed s)) = omega arith in
+      record {
+        good = e;
+        k-is = cc;
+        next-is = n;
+        inside = omega (arith, l .1);
+        later-one = omega arith;
+        lines = ap (λ (x : ℕ). parts feed (drop x s)) (n ∙ z) ∙ l .0;
+      }
+  go false e r = let z : _≡_ {A = ℕ} 0 1 = cc in absurd (omega arith)
+
+module _ (s : List ℕ) (k next : ℕ) (h : Headed s k next) where
+  sheet-is : sheetVerdict s ≡ andThen (kVerdict k) (atPlace 11 (firstWrong k 2 (later feed s)))
+  unfolding sheetVerdict andThen
+  sheet-is =
+      ap (λ (t : Bool). andThen (choose t Good (Bad 11 1)) (andThen (kVerdict (sheetK s)) (atPlace 11 (firstWrong (sheetK s) 2 (later feed s))))) (h .good)
+      ∙ ap (λ (x : ℕ). andThen (kVerdict x) (atPlace 11 (firstWrong x 2 (later feed s)))) (sym (h .k-is))
+
+  judged-is : (v : Verdict) → sheetVerdict s ≡ v → judgedOf s ≡ settle v judged.Bad (held s)
+  unfolding judgedOf
+  judged-is v e = ap (λ (x : Verdict). settle x judged.Bad (held s)) e
+
+  pub k-bad : (n p : ℕ) → kVerdict k ≡ Bad n p → judged.Bad n p ≡ judgedOf s
+  unfolding settle andThen
+  k-bad n p e = sym (judged-is (Bad n p) (sheet-is ∙ ap (λ (x : Verdict). andThen x (atPlace 11 (firstWrong k 2 (later feed s)))) e))
+
+  module _ (e : kVerdict k ≡ Good) where
+    lines-is : sheetVerdict s ≡ atPlace 11 (firstWrong k 2 (later feed s))
+    unfolding andThen
+    lines-is = sheet-is ∙ ap (λ (x : Verdict). andThen x (atPlace 11 (firstWrong k 2 (later feed s)))) e
+
+    pub line-bad : (x : ℕ) → countOf k 0 0 0 (linesAt s next) ≡ counted.Wrong x → judged.Bad 11 x ≡ judgedOf s
+    unfolding countOf settle atPlace
+    line-bad x c = go (firstWrong k 2 (later feed s)) refl (ap (countOf k 0 0 0) (sym (h .lines)) ∙ c) where
+      go : (w : ℕ) → firstWrong k 2 (later feed s) ≡ w → countOf k 0 0 0 (later feed s) ≡ counted.Wrong x → judged.Bad 11 x ≡ judgedOf s
+      go zero q r =
+          let g : choose (eqb 0 0) (counted.Good (0 + length (lettersIn (sheetStrings s))) (0 + length (sheetStrings s)) (0 + length (weightsIn (sheetStrings s)))) (counted.Wrong 0) ≡ counted.Wrong x =
+          ap (λ (y : ℕ). choose (eqb y 0) (counted.Good (0 + length (lettersIn (sheetStrings s))) (0 + length (sheetStrings s)) (0 + length (weightsIn (sheetStrings s)))) (counted.Wrong y)) (sym q) ∙ r in
+          let z : _≡_ {A = ℕ} 0 1 = cc in
+          absurd (omega arith)
+      go (suc w) q r =
+          let g : counted.Wrong (suc w) ≡ counted.Wrong x = sym (rw (eqb·suc-zero w) refl) ∙ (ap (λ (y : ℕ). choose (eqb y 0) (counted.Good (0 + length (lettersIn (sheetStrings s))) (0 + length (sheetStrings s)) (0 + length (weightsIn (sheetStrings s)))) (counted.Wrong y)) (sym q) ∙ r) in
+          let p : suc w ≡ x = cc in
+          sym (judged-is (Bad 11 x) (lines-is ∙ (ap (atPlace 11) q ∙ ap (Bad 11) p)))
+
+    pub all-lines : (a b c : ℕ) → countOf k 0 0 0 (linesAt s next) ≡ counted.Good a b c → judged.Good k next a b c ≡ judgedOf s
+    unfolding countOf settle atPlace
+    all-lines a b c g = go (eqb (firstWrong k 2 (later feed s)) 0) refl (ap (countOf k 0 0 0) (sym (h .lines)) ∙ g) where
+      go : (t : Bool) → eqb (firstWrong k 2 (later feed s)) 0 ≡ t
+          → choose t (counted.Good (0 + length (lettersIn (sheetStrings s))) (0 + length (sheetStrings s)) (0 + length (weightsIn (sheetStrings s)))) (counted.Wrong (firstWrong k 2 (later feed s))) ≡ counted.Good a b c
+          → judged.Good k next a b c ≡ judgedOf s
+      go true q r =
+          let x : a ≡ 0 + length (lettersIn (sheetStrings s)) = cc in
+          let y : b ≡ 0 + length (sheetStrings s) = cc in
+          let z : c ≡ 0 + length (weightsIn (sheetStrings s)) = cc in
+          let u : a ≡ length (lettersIn (sheetStrings s)) = omega arith in
+          let v : b ≡ length (sheetStrings s) = omega arith in
+          let w : c ≡ length (weightsIn (sheetStrings s)) = omega arith in
+          (λ i. judged.Good (h .k-is i) (h .next-is i) (u i) (v i) (w i)) ∙ sym (judged-is Good (lines-is ∙ ap (atPlace 11) (eqb-true (firstWrong k 2 (later feed s)) 0 q)))
+      go false q r = let z : _≡_ {A = ℕ} 0 1 = cc in absurd (omega arith)

@@ -1,0 +1,15 @@
+-- `judge_k` meets its contract: the test picks the case. Assumes nothing.
+use Rattle.collection.specs.Judge.{kVerdict}
+use Rattle.sheet_read.proofs.judging.judge_k.Statement.{statement}
+use Rattle.sheet_read.proofs.judging.judge_k.Tie as tie
+
+returns : tie.Need-returns
+unfolding kVerdict
+returns c = rw (c .if1 .taken)
+
+returns-2 : tie.Need-returns-2
+unfolding kVerdict
+returns-2 c = rw (c .if1 .left)
+
+pub judge-k-spec : {M : Type 1} → statement M
+judge-k-spec = tie.close (tie.spec returns returns-2)

@@ -1,0 +1,111 @@
+// The refusals of READ, in their order: line 1 (11), k (2), the first wrong later line (11), 3, 1.
+use crate::Judged;
+use collection::Verdict;
+use sheet_lines::Counted;
+use sheet_lines::Head;
+ghost use mathlib.Core.Path.{_≡_};
+ghost use Rattle.collection.specs.Judge.{kVerdict, sizeVerdict};
+ghost use Rattle.collection.specs.Verdict.{roomVerdict, andThen};
+ghost use Rattle.sheet_read.specs.Judged.{judgedOf, judgedIn};
+
+// 2: k outside its range.
+fn judge_k(k: usize) -> Verdict
+    ensures { λ r. ⌜ r ≡ kVerdict k ⌝ }
+{
+    if (3 <= k) & (k <= 31) {
+        return Verdict::Good;
+    }
+    Verdict::Bad {
+        number: 2,
+        place: 0,
+    }
+}
+
+// 3: too many letters or strings.
+fn judge_size(letters: usize, strings: usize) -> Verdict
+    ensures { λ r. ⌜ r ≡ sizeVerdict letters strings ⌝ }
+{
+    if (letters <= 1048576) & (strings <= 65536) {
+        return Verdict::Good;
+    }
+    Verdict::Bad {
+        number: 3,
+        place: 0,
+    }
+}
+
+// A sheet's lines: what they hold, or the first refusal of 11, 2, 11.
+fn judge_sheet(s: &[u8]) -> Judged
+    ensures { λ r. ⌜ r ≡ judgedOf (now (s .entry)) ⌝ }
+{
+    let h = sheet_lines::lines::head_at(s);
+    let Head::Good { k, next } = h else {
+        return Judged::Bad {
+            number: 11,
+            place: 1,
+        };
+    };
+    let v = judge_k(k);
+    if let Verdict::Bad { number, place } = v {
+        return Judged::Bad { number, place };
+    }
+    let c = sheet_lines::inner::count_lines(k, s, next);
+    match c {
+        Counted::Good {
+            letters,
+            strings,
+            weights,
+        } => Judged::Good {
+            k,
+            next,
+            letters,
+            strings,
+            weights,
+        },
+        Counted::Wrong { line } => Judged::Bad {
+            number: 11,
+            place: line,
+        },
+    }
+}
+
+// 3, then 1: n letters, m strings and w weights for tables of the lengths a, b and c.
+fn judge_tables(n: usize, m: usize, w: usize, a: usize, b: usize, c: usize) -> Verdict
+    ensures { λ r. ⌜ r ≡ andThen (sizeVerdict n m) (andThen (roomVerdict a n) (andThen (roomVerdict b m) (roomVerdict c w))) ⌝ }
+{
+    let v = judge_size(n, m);
+    let Verdict::Good = v else {
+        return v;
+    };
+    let x = collection::judge_room(a, n);
+    let Verdict::Good = x else {
+        return x;
+    };
+    let y = collection::judge_room(b, m);
+    let Verdict::Good = y else {
+        return y;
+    };
+    collection::judge_room(c, w)
+}
+
+// A sheet and the lengths of the tables for its letters, ends and weights.
+pub(crate) fn judge_read(s: &[u8], a: usize, b: usize, c: usize) -> Judged
+    ensures { λ r. ⌜ r ≡ judgedIn (now (s .entry)) a b c ⌝ }
+{
+    let j = judge_sheet(s);
+    let Judged::Good {
+        k,
+        next,
+        letters,
+        strings,
+        weights,
+    } = j
+    else {
+        return j;
+    };
+    let v = judge_tables(letters, strings, weights, a, b, c);
+    if let Verdict::Bad { number, place } = v {
+        return Judged::Bad { number, place };
+    }
+    j
+}

@@ -1,0 +1,8 @@
+-- Laws of the sheet: its parts and numbers, what accepted bytes are, and both round trips; and of tables filled block by block.
+pub mod Tests
+pub mod Parts
+pub mod Blocks
+pub mod Numbers
+pub mod Accepted
+pub mod Written
+pub mod Calls
