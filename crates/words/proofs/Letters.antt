@@ -1,16 +1,15 @@
 -- Laws of letters: the tests and the bits that the machine takes agree with the one definition, `letter`. Assumes nothing.
-use mathlib.Core.Path.{_≡_, refl, sym, ap, ap₂, _∙_}
+use mathlib.Core.Path.{_≡_, refl, sym, ap, ap₂, _∙_, subst}
 use mathlib.Core.Bool.{Bool, true, false, _||_, false≢true}
 use mathlib.Core.List.{List, [], _∷_, map}
-use Prim.Native.Nat.{ℕ, suc, _/_, _^_, _<_}
+use Prim.Native.Nat.{ℕ, zero, suc, _/_, _^_, _<_}
 use native.Mathlib.Omega.{arith}
 use lib.Bits.{bitAnd, bitXor, and-le-r, xor-lt}
 use lib.Dec.{eqb, ltb}
 use borrow.Author.Tests.{eqb-true, ltb-true, lt-ltb}
 use Rattle.lists.specs.Choose.{choose}
-use Rattle.lists.specs.Every.{All, every}
-use Rattle.lists.proofs.Every.{every-all}
-use Rattle.words.specs.Letter.{letter, isLetter, twoBits}
+use Rattle.lists.specs.Every.{All}
+use Rattle.words.specs.Letter.{letter, isLetter, capital, twoBits}
 use Rattle.words.specs.Word.{Letters, spell}
 
 pub bits-lt : (b : ℕ) → twoBits b < 4
@@ -55,21 +54,32 @@ pub spell-bits : (bytes : List ℕ) → All (λ b. isLetter b ≡ true) bytes �
 spell-bits [] h = refl
 spell-bits (b ∷ bytes) h = ap₂ (λ (x : ℕ) (w : List ℕ). x ∷ w) (letter-bits b (h .0)) (spell-bits bytes (h .1))
 
--- two bytes that are letters with one code are one byte
-pub letter-injective : (a b : ℕ) → isLetter a ≡ true → isLetter b ≡ true → letter a ≡ letter b → a ≡ b
-unfolding isLetter letter
-letter-injective a b h k e = sym (back a h) ∙ (ap capital e ∙ back b k)
+-- the capital of a letter's code is the letter
+pub capital-letter : (b : ℕ) → isLetter b ≡ true → capital (letter b) ≡ b
+unfolding isLetter letter capital
+capital-letter b = go (eqb b 65) refl (eqb b 67) refl (eqb b 71) refl (eqb b 84) refl
   where
-    capital : ℕ → ℕ
-    capital x = choose (eqb x 0) 65 (choose (eqb x 1) 67 (choose (eqb x 2) 71 84))
+    go : (s : Bool) → eqb b 65 ≡ s → (t : Bool) → eqb b 67 ≡ t → (u : Bool) → eqb b 71 ≡ u → (v : Bool) → eqb b 84 ≡ v
+        → ltb (choose s 0 (choose t 1 (choose u 2 (choose v 3 4)))) 4 ≡ true → capital (choose s 0 (choose t 1 (choose u 2 (choose v 3 4)))) ≡ b
+    go true e t _ u _ v _ h = sym (eqb-true b 65 e)
+    go false _ true e u _ v _ h = sym (eqb-true b 67 e)
+    go false _ false _ true e v _ h = sym (eqb-true b 71 e)
+    go false _ false _ false _ true e h = sym (eqb-true b 84 e)
+    go false _ false _ false _ false _ h = absurd (false≢true h)
 
-    back : (b : ℕ) → ltb (letter b) 4 ≡ true → capital (letter b) ≡ b
-    back b = go (eqb b 65) refl (eqb b 67) refl (eqb b 71) refl (eqb b 84) refl
-      where
-        go : (s : Bool) → eqb b 65 ≡ s → (t : Bool) → eqb b 67 ≡ t → (u : Bool) → eqb b 71 ≡ u → (v : Bool) → eqb b 84 ≡ v
-            → ltb (choose s 0 (choose t 1 (choose u 2 (choose v 3 4)))) 4 ≡ true → capital (choose s 0 (choose t 1 (choose u 2 (choose v 3 4)))) ≡ b
-        go true e t _ u _ v _ h = sym (eqb-true b 65 e)
-        go false _ true e u _ v _ h = sym (eqb-true b 67 e)
-        go false _ false _ true e v _ h = sym (eqb-true b 71 e)
-        go false _ false _ false _ true e h = sym (eqb-true b 84 e)
-        go false _ false _ false _ false _ h = absurd (false≢true h)
+-- so two bytes that are letters with one code are one byte
+pub letter-injective : (a b : ℕ) → isLetter a ≡ true → isLetter b ≡ true → letter a ≡ letter b → a ≡ b
+letter-injective a b h k e = sym (capital-letter a h) ∙ (ap capital e ∙ capital-letter b k)
+
+-- the capital of a code is a letter with that code
+pub letter-capital : (x : ℕ) → x < 4 → letter (capital x) ≡ x
+unfolding letter capital
+letter-capital zero h = refl
+letter-capital (suc zero) h = refl
+letter-capital (suc (suc zero)) h = refl
+letter-capital (suc (suc (suc zero))) h = refl
+letter-capital (suc (suc (suc (suc x)))) h = absurd (omega arith)
+
+pub capital-is-letter : (x : ℕ) → x < 4 → isLetter (capital x) ≡ true
+unfolding isLetter
+capital-is-letter x h = lt-ltb (letter (capital x)) 4 (subst (λ (n : ℕ). n < 4) (sym (letter-capital x h)) h)

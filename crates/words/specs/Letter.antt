@@ -14,6 +14,10 @@ unfoldable pub isLetter : ℕ → Bool
 unfolding letter
 isLetter b = ltb (letter b) 4
 
+-- the capital of a code
+unfoldable pub capital : ℕ → ℕ
+capital x = choose (eqb x 0) 65 (choose (eqb x 1) 67 (choose (eqb x 2) 71 84))
+
 -- What the machine computes of a byte without a branch: of a letter its code, of another byte some number below 4.
 unfoldable pub twoBits : ℕ → ℕ
 twoBits b = bitXor (bitAnd (b / 2 ^ 1) 3) (bitAnd (b / 2 ^ 2) 1)

@@ -2,8 +2,10 @@
 pub mod inner;
 
 ghost use mathlib.Core.Path.{_≡_};
+ghost use Prim.Native.Nat.{_<_};
 ghost use Rattle.lists.specs.Every.{every};
-ghost use Rattle.words.specs.Letter.{isLetter, twoBits};
+ghost use Rattle.words.specs.Letter.{isLetter, capital, twoBits};
+ghost use Rattle.words.specs.Word.{paired};
 ghost use Rattle.words.specs.Turned.{turnedCode, turnsFour};
 
 // Whether a byte is a letter. No branch, so that a loop over a table becomes vector code.
@@ -31,6 +33,30 @@ pub fn letter_code(b: u8) -> u64
     ensures { λ r. ⌜ r ≡ twoBits b ⌝ }
 {
     (((b >> 1) & 3) ^ ((b >> 2) & 1)) as u64
+}
+
+// The capital of a code.
+fn capital_of(x: u64) -> u8
+    requires { ⌜ x < 4 ⌝ }
+    ensures { λ r. ⌜ r ≡ capital x ⌝ }
+{
+    if x == 0 {
+        return b'A';
+    }
+    if x == 1 {
+        return b'C';
+    }
+    if x == 2 {
+        return b'G';
+    }
+    b'T'
+}
+
+// The pair of a letter: A and T, C and G exchanged.
+pub fn turned_letter(b: u8) -> u8
+    ensures { λ r. ⌜ r ≡ capital (paired (twoBits b)) ⌝ }
+{
+    capital_of(3 - letter_code(b))
 }
 
 // Four packed letters turned.
