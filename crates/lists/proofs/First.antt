@@ -5,6 +5,8 @@ use mathlib.Core.List.{List, [], _∷_, _++_}
 use Prim.Native.Nat.{ℕ, zero, suc, _+_, _-_, _<_, _≤_}
 use native.Mathlib.Numerals.{add-one}
 use native.Mathlib.Omega.{arith}
+use borrow.Author.Tests.{eq-eqb, ne-eqb}
+use lib.Dec.{eqb}
 use lib.ListN.{length, drop, getD, drop-of-length-le}
 use lib.Seq.{drop-cons}
 use Rattle.lists.specs.Choose.{choose}
@@ -26,6 +28,35 @@ module _ {A : Type 0} (test : A → Bool) where
   pub first-end : (xs : List A) (i : ℕ) → length xs ≤ i → firstFrom test i (drop i xs) ≡ 0
   unfolding firstFrom
   first-end xs i h = rw (drop-of-length-le xs h)
+
+  -- ─── one element more behind ───────────────────────────────────────────────
+
+  first-snoc-from : (i : ℕ) (xs : List A) (x : A) → firstFrom test i (xs ++ (x ∷ [])) ≡ choose (eqb (firstFrom test i xs) 0) (choose (test x) (suc (i + length xs)) 0) (firstFrom test i xs)
+  unfolding firstFrom
+  first-snoc-from i [] x = let q : suc i ≡ suc (i + 0) = omega arith in ap (λ (n : ℕ). choose (test x) n 0) q
+  first-snoc-from i (y ∷ xs) x = go (test y) (first-snoc-from (suc i) xs x)
+    where
+      go : (t : Bool) → firstFrom test (suc i) (xs ++ (x ∷ [])) ≡ choose (eqb (firstFrom test (suc i) xs) 0) (choose (test x) (suc (suc i + length xs)) 0) (firstFrom test (suc i) xs)
+          → choose t (suc i) (firstFrom test (suc i) (xs ++ (x ∷ []))) ≡ choose (eqb (choose t (suc i) (firstFrom test (suc i) xs)) 0) (choose (test x) (suc (i + suc (length xs))) 0) (choose t (suc i) (firstFrom test (suc i) xs))
+      go true ih = sym (ap (λ (b : Bool). choose b (choose (test x) (suc (i + suc (length xs))) 0) (suc i)) (ne-eqb (suc i) 0 (λ q. omega arith)))
+      go false ih =
+          let q : suc (suc i + length xs) ≡ suc (i + suc (length xs)) = omega arith in
+          ih ∙ ap (λ (n : ℕ). choose (eqb (firstFrom test (suc i) xs) 0) (choose (test x) n 0) (firstFrom test (suc i) xs)) q
+
+  -- where none of xs meets the test, x is the first if it does
+  pub first-snoc-none : (xs : List A) (x : A) → firstThat test xs ≡ 0 → firstThat test (xs ++ (x ∷ [])) ≡ choose (test x) (length xs + 1) 0
+  first-snoc-none xs x e =
+      let q : suc (0 + length xs) ≡ length xs + 1 = omega arith in
+      first-snoc-from 0 xs x
+      ∙ (ap (λ (b : Bool). choose b (choose (test x) (suc (0 + length xs)) 0) (firstThat test xs)) (eq-eqb (firstThat test xs) 0 e) ∙ ap (λ (n : ℕ). choose (test x) n 0) q)
+
+  -- an element that does not meet the test changes nothing
+  pub first-snoc-other : (xs : List A) (x : A) → test x ≡ false → firstThat test (xs ++ (x ∷ [])) ≡ firstThat test xs
+  first-snoc-other xs x e = first-snoc-from 0 xs x ∙ go (firstThat test xs)
+    where
+      go : (n : ℕ) → choose (eqb n 0) (choose (test x) (suc (0 + length xs)) 0) n ≡ n
+      go zero = ap (λ (b : Bool). choose b (suc (0 + length xs)) 0) e
+      go (suc n) = ap (λ (b : Bool). choose b (choose (test x) (suc (0 + length xs)) 0) (suc n)) (ne-eqb (suc n) 0 (λ q. omega arith))
 
   -- ─── what it tells ─────────────────────────────────────────────────────────
 

@@ -6,7 +6,7 @@ use native.Mathlib.Nat.{add-suc, suc-add, zero-add, add-zero}
 use native.Mathlib.Numerals.{add-one}
 use native.Mathlib.Omega.{arith}
 use lib.ListN.{length, take, drop, set, getD, take-append-drop, length-set, length-append, length-drop, length-take, drop-of-length-le}
-use lib.Seq.{take-suc-set, drop-set-lt, drop-cons, drop-drop, take-all}
+use lib.Seq.{take-suc-set, drop-set-lt, drop-cons, drop-drop, take-all, take-at, drop-at, length-take-le}
 use Rattle.lists.specs.Fill.{put, fill}
 
 -- one entry more, as a loop's index counts
@@ -28,6 +28,16 @@ module _ {A : Type 0} where
 
   pub length-fill : (xs old : List A) → length xs ≤ length old → length (fill xs old) ≡ length old
   length-fill xs old h = simp (length-append, length-drop) (omega arith)
+
+  pub take-fill : (xs old : List A) (n : ℕ) → length xs ≡ n → take n (fill xs old) ≡ xs
+  take-fill xs old n e = take-at xs (drop (length xs) old) n e
+
+  pub drop-fill : (xs old : List A) (n : ℕ) → length xs ≡ n → drop n (fill xs old) ≡ drop n old
+  drop-fill xs old n e = drop-at xs (drop (length xs) old) n e ∙ ap (λ (m : ℕ). drop m old) e
+
+  -- filled, changed in its first entries and filled again is filled once
+  pub fill-again : (xs old between : List A) (n : ℕ) → length xs ≡ n → drop n between ≡ drop n old → fill xs between ≡ fill xs old
+  fill-again xs old between n e q = ap (λ (l : List A). xs ++ l) (ap (λ (m : ℕ). drop m between) e ∙ (q ∙ ap (λ (m : ℕ). drop m old) (sym e)))
 
   -- a part from `at` to the end was lent and filled: what that makes of the whole
   pub put-lent : (at : ℕ) (xs old : List A) {part : List A} → part ≡ fill xs (take (length old - at) (drop at old)) → take at old ++ (part ++ drop (length old - at) (drop at old)) ≡ put at xs old
@@ -58,6 +68,36 @@ module _ {A : Type 0} where
         size-kept = length-set table at x ∙ s .size-kept;
         room = rw length-set (omega (arith, s .room));
         ends = put-next at table rest x (inside s) ∙ s .ends;
+      }
+
+  put-append : (at : ℕ) (xs rest table : List A) → at + length xs ≤ length table → put (at + length xs) rest (put at xs table) ≡ put at (xs ++ rest) table
+  put-append at xs rest table h =
+      let front : List A = take at table ++ xs in
+      let back : List A = drop (at + length xs) table in
+      let n : length front ≡ at + length xs = length-append (take at table) xs ∙ (omega (arith, length-take-le at table (omega arith))) in
+      let size : at + length xs + length rest ≡ at + length (xs ++ rest) = omega (arith, length-append xs rest) in
+      let whole : put at xs table ≡ front ++ back = sym (append-assoc (take at table) xs back) in
+      let a : take (at + length xs) (put at xs table) ≡ front = ap (take (at + length xs)) whole ∙ take-at front back (at + length xs) n in
+      let b : drop (at + length xs + length rest) (put at xs table) ≡ drop (at + length (xs ++ rest)) table =
+      ap (drop (at + length xs + length rest)) whole
+      ∙ (sym (drop-drop (length rest) (at + length xs) (front ++ back))
+      ∙ (ap (drop (length rest)) (drop-at front back (at + length xs) n)
+      ∙ (drop-drop (length rest) (at + length xs) table ∙ ap (λ (m : ℕ). drop m table) size))) in
+      (λ i. a i ++ (rest ++ b i))
+      ∙ (append-assoc (take at table) xs (rest ++ drop (at + length (xs ++ rest)) table)
+      ∙ ap (λ (l : List A). take at table ++ l) (sym (append-assoc xs rest (drop (at + length (xs ++ rest)) table))))
+
+  -- several entries stored at once
+  pub store-many : {size at : ℕ} {table target rest : List A} (xs : List A) → Storing size table target (xs ++ rest) at → Storing size (put at xs table) target rest (at + length xs)
+  store-many {at = at} {table = table} {rest = rest} xs s =
+      let l = length-append xs rest in
+      let kept : length (put at xs table) ≡ length table =
+      length-append (take at table) (xs ++ drop (at + length xs) table)
+      ∙ (omega (arith, s .room, length-take-le at table (omega (arith, s .room)), length-append xs (drop (at + length xs) table), length-drop (at + length xs) table)) in
+      record {
+        size-kept = kept ∙ s .size-kept;
+        room = omega (arith, s .room);
+        ends = put-append at xs rest table (omega (arith, s .room)) ∙ s .ends;
       }
 
   -- what is still to be stored, said another way

@@ -1,0 +1,28 @@
+-- What the work table holds while places are judged and strings are written.
+use mathlib.Core.Path.{_≡_}
+use mathlib.Core.List.{List, [], map}
+use Prim.Native.Nat.{ℕ, suc, _≤_, _<_}
+use lib.IntN.{ℤ, natAbs}
+use lib.ListN.{length, drop, getD}
+use Rattle.lists.specs.First.{firstThat}
+use Rattle.collection.specs.Judge.{Passes}
+use Rattle.trails.specs.Places.{SignedPermutation}
+use Rattle.placing.specs.Places.{holder, firstBad}
+
+-- entry a - 1 of work names the string, from 1, that has the place a; 0 where none has
+abbrev pub Marks : ℕ → List ℕ → List ℕ → Type 0
+Marks m work places = (a : ℕ) → a < m → getD work a 0 ≡ holder (suc a) places
+
+-- what judging the places of m strings finds, r being the first bad one
+pub record Scanned (m : ℕ) (places : List ℤ) (before after : List ℕ) (r : ℕ) : Type 0 where
+  pub first : r ≡ firstBad m 0 [] places
+  pub size : length after ≡ length before
+  pub rest : drop m after ≡ drop m before
+  pub marked : r ≡ 0 → Marks m after (map natAbs places)
+
+-- what writing the strings asks: a judged collection, places that are a signed permutation, and work that names the string of each place
+pub record Placeable (k : ℕ) (letters ends weights : List ℕ) (places : List ℤ) (work : List ℕ) : Type 0 where
+  pub passes : Passes k letters ends weights
+  pub permutation : SignedPermutation (length ends) places
+  pub marked : Marks (length ends) work (map natAbs places)
+  pub work-room : length ends ≤ length work
