@@ -1,0 +1,2 @@
+-- What WRITE's steps store.
+pub mod Written
