@@ -1,10 +1,13 @@
 // Runs the bench examples of document 01 that are not starred, and some that are, and writes one line each: what was
 // asked, and the answer. The file `stdout` holds what the lines should be.
+mod sheets;
+
 use collection::Side;
-use collection::Told;
 use collection::Verdict;
 use libc::STDOUT_FILENO;
 use lookups::PlainAnswer;
+use runs::RunsAnswer;
+use runs::WeightAnswer;
 
 // The sheet of 01 after the places +1 +4 -3 -2.
 const LETTERS: [u8; 18] = *b"AAACCTGTAGGCTGAGAT";
@@ -13,7 +16,7 @@ const ENDS: [u32; 4] = [5, 9, 14, 18];
 
 const WEIGHTS: [u32; 10] = [2, 2, 5, 5, 3, 3, 7, 7, 7, 2];
 
-fn show(asked: &[u8], a: u64, b: u64) {
+pub(crate) fn show(asked: &[u8], a: u64, b: u64) {
     io::write_all(STDOUT_FILENO, asked);
     io::write_all(STDOUT_FILENO, b"\t");
     io::print_decimal(STDOUT_FILENO, a);
@@ -49,6 +52,47 @@ fn show_plain(asked: &[u8], word: &[u8]) {
         },
         PlainAnswer::Absent => show(asked, 0, 0),
         PlainAnswer::Refused { number, place } => show(asked, 100 + number as u64, place as u64),
+    }
+}
+
+fn wide(x: u32) -> u64 {
+    x as u64
+}
+
+fn show_run(weights: &[u32], firsts: &[u32], i: usize) {
+    if weights.len() <= i {
+        return;
+    }
+    if firsts.len() <= i {
+        return;
+    }
+    show(b"run", wide(weights[i]), wide(firsts[i]));
+}
+
+// Each run's weight and first handle, in a line of its own; number and place if refused.
+fn show_runs() {
+    let mut weights = [0u32; 5];
+    let mut firsts = [0u32; 5];
+    let answer = runs::runs(3, &LETTERS, &ENDS, &WEIGHTS, &mut weights, &mut firsts);
+    match answer {
+        RunsAnswer::Filled { runs } => show(b"runs", runs as u64, 0),
+        RunsAnswer::Refused { number, place } => show(b"runs refused", number as u64, place as u64),
+    }
+    show_run(&weights, &firsts, 0);
+    show_run(&weights, &firsts, 1);
+    show_run(&weights, &firsts, 2);
+    show_run(&weights, &firsts, 3);
+    show_run(&weights, &firsts, 4);
+}
+
+// The weight of a handle in the run list of the sheet, or 100 + number and the place if refused.
+fn show_weight(asked: &[u8], n: usize, handle: usize) {
+    let weights = [2u32, 5, 3, 7, 2];
+    let firsts = [1u32, 3, 5, 7, 10];
+    let answer = runs::weight(&weights, &firsts, n, handle);
+    match answer {
+        WeightAnswer::Found { weight } => show(asked, weight as u64, 0),
+        WeightAnswer::Refused { number, place } => show(asked, 100 + number as u64, place as u64),
     }
 }
 
@@ -100,4 +144,14 @@ fn main() {
     show_plain(b"GGC", b"GGC");
     show_plain(b"GGCT", b"GGCT");
     show_plain(b"cag", b"cag");
+    show_runs();
+    show_weight(b"weight of 8", 10, 8);
+    show_weight(b"weight of 9", 10, 9);
+    show_weight(b"weight of 10", 10, 10);
+    show_weight(b"weight of 11", 10, 11);
+    show_weight(b"a run past n", 9, 8);
+    sheets::read_good();
+    sheets::read_forms();
+    sheets::read_numbers();
+    sheets::read_counts();
 }
