@@ -96,60 +96,72 @@ fn show_weight(asked: &[u8], n: usize, handle: usize) {
     }
 }
 
-fn judge_all() {
+fn judge(asked: &[u8], k: usize, letters: &[u8], ends: &[u32], weights: &[u32]) {
     show_verdict(
-        b"the sheet of 01",
-        collection::judge_collection(3, &LETTERS, &ENDS, &WEIGHTS),
-    );
-    show_verdict(
-        b"k = 2",
-        collection::judge_collection(2, &LETTERS, &ENDS, &WEIGHTS),
-    );
-    let a31 = [b'A'; 31];
-    let one = [1u32; 1];
-    let end31 = [31u32; 1];
-    show_verdict(
-        b"k = 31, weight 1",
-        collection::judge_collection(31, &a31, &end31, &one),
-    );
-    show_verdict(
-        b"k = 32",
-        collection::judge_collection(32, &a31, &end31, &one),
-    );
-    let zero = [0u32; 1];
-    show_verdict(
-        b"weight 0",
-        collection::judge_collection(31, &a31, &end31, &zero),
-    );
-    let none: [u32; 0] = [];
-    let no_letters: [u8; 0] = [];
-    show_verdict(
-        b"no strings",
-        collection::judge_collection(3, &no_letters, &none, &none),
+        asked,
+        collection::judge_collection(k, letters, ends, weights),
     );
 }
 
-fn main() {
+fn judge_long(asked: &[u8], k: usize, weight: u32) {
+    let letters = [b'A'; 31];
+    let ends = [31u32; 1];
+    let weights = [weight; 1];
+    judge(asked, k, &letters, &ends, &weights);
+}
+
+fn judge_all() {
+    judge(b"the sheet of 01", 3, &LETTERS, &ENDS, &WEIGHTS);
+    judge(b"k = 2", 2, &LETTERS, &ENDS, &WEIGHTS);
+    judge_long(b"k = 31, weight 1", 31, 1);
+    judge_long(b"k = 32", 32, 1);
+    judge_long(b"weight 0", 31, 0);
+    judge(
+        b"no strings",
+        3,
+        &LETTERS[0..0],
+        &ENDS[0..0],
+        &WEIGHTS[0..0],
+    );
+}
+
+fn turn_all() {
     show(b"AACC turned", words::turned_four(5) as u64, 0);
     show(b"ACGT turned", words::turned_four(27) as u64, 0);
-    judge_all();
+}
+
+fn access_all() {
     show_access(b"handle 8", 3, 8);
     show_access(b"handle 1", 3, 1);
     show_access(b"handle 10", 3, 10);
     show_access(b"handle 11", 3, 11);
     show_access(b"k = 2, handle 1", 2, 1);
+}
+
+fn plain_all() {
     show_plain(b"CAG", b"CAG");
     show_plain(b"TTT", b"TTT");
     show_plain(b"CCC", b"CCC");
     show_plain(b"GGC", b"GGC");
     show_plain(b"GGCT", b"GGCT");
     show_plain(b"cag", b"cag");
-    show_runs();
+}
+
+fn weigh_all() {
     show_weight(b"weight of 8", 10, 8);
     show_weight(b"weight of 9", 10, 9);
     show_weight(b"weight of 10", 10, 10);
     show_weight(b"weight of 11", 10, 11);
     show_weight(b"a run past n", 9, 8);
+}
+
+fn main() {
+    turn_all();
+    judge_all();
+    access_all();
+    plain_all();
+    show_runs();
+    weigh_all();
     sheets::read_good();
     sheets::read_forms();
     sheets::read_numbers();
