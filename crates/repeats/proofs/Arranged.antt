@@ -1,6 +1,6 @@
 -- What the table holds after the sort, from what its steps leave: codes, then the numbers of the k-mers, then the sort by code. Each step leaves what the
 -- others wrote. Assumes nothing.
-use mathlib.Core.Path.{_≡_, refl, sym, ap, ap₂, subst, _∙_}
+use mathlib.Core.Path.{_≡_, sym, ap, ap₂, subst, _∙_}
 use mathlib.Core.Logic.{_⊎_, inl, inr, ⊎-elim}
 use mathlib.Core.List.{List, [], _∷_}
 use Prim.Native.Nat.{ℕ, _+_, _*_, _^_, _<_, _≤_}
@@ -23,7 +23,8 @@ use Rattle.sorting.specs.Keys.{codeAt}
 use Rattle.sorting.specs.Layout.{Laid}
 use Rattle.sorting.specs.Promises.{Sorted}
 use Rattle.sorting.proofs.Laws.{sorted-all, sorted-at, sorted-length, sorted-rise, sorted-place}
-use Rattle.repeats.specs.Codes.{canonical, heldAt, idAt, Coded, Ordered}
+use Rattle.canonical.specs.Codes.{canonical, heldAt, Coded}
+use Rattle.repeats.specs.Order.{idAt, Ordered}
 
 -- few k-mers: no more than letters
 pub few-kmers : {k : ℕ} {letters ends : List ℕ} → Ready k letters ends → length (kmers k ends) ≤ 1048576

@@ -1,8 +1,4 @@
--- Laws of CHECK.
-pub mod Turns
-pub mod Canonical
-pub mod Coded
-pub mod Stringwise
+-- Laws of CHECK: from the sorted k-mers to the first repeat, and from there to what the answer says.
 pub mod Neighbours
 pub mod Arranged
 pub mod Repeats

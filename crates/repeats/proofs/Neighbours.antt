@@ -9,7 +9,7 @@ use borrow.Author.Tests.{ltb-true, ltb-false, eqb-true, eqb-false}
 use lib.Dec.{eqb, ltb}
 use Rattle.lists.proofs.Compare.{lt-or-le, eq-or-ne}
 use Rattle.lists.proofs.Every.{and-left, and-right}
-use Rattle.repeats.specs.Codes.{Least}
+use Rattle.repeats.specs.Order.{Least}
 
 module _ (key order : ℕ → ℕ) (n : ℕ) where
   -- ─── as a loop goes over the places ────────────────────────────────────────

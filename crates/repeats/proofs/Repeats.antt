@@ -1,6 +1,6 @@
 -- What 7's place is: the test of a handle says that its word equals an earlier one, turned or not; so the least k-mer that shares its canonical code with an
 -- earlier one is the first repeat, and there is none exactly if no k-mer equals another's word or reverse complement. Assumes nothing.
-use mathlib.Core.Path.{_≡_, refl, sym, ap, ap₂, subst, _∙_}
+use mathlib.Core.Path.{_≡_, refl, sym, ap, ap₂, _∙_}
 use mathlib.Core.Bool.{Bool, true, false, _||_, true≢false}
 use mathlib.Core.Logic.{_⊎_, inl, inr, ⊎-elim}
 use mathlib.Core.List.{List, [], _∷_}
@@ -12,7 +12,7 @@ use Rattle.lists.specs.Count.{countFrom}
 use Rattle.lists.specs.Every.{All, same}
 use Rattle.lists.proofs.Compare.{lt-or-le, eq-or-ne}
 use Rattle.lists.proofs.Count.{count-at, length-count}
-use Rattle.lists.proofs.Every.{all-at, at-all, same-is, is-same, not-same}
+use Rattle.lists.proofs.Every.{all-at, at-all, is-same, not-same}
 use Rattle.lists.proofs.First.{first-none, none-first}
 use Rattle.lists.proofs.FirstAt.{first-at}
 use Rattle.words.specs.Word.{Letters, turn, wordAt}
@@ -22,8 +22,9 @@ use Rattle.collection.proofs.Kmers.{kmers-fit}
 use Rattle.lookups.specs.Located.{Ready}
 use Rattle.lookups.proofs.Asked.{word-length, word-letters}
 use Rattle.repeats.specs.Check.{some, alike, repeated, firstRepeat}
-use Rattle.repeats.specs.Codes.{canonical, heldAt, idAt, Ordered, Least}
-use Rattle.repeats.proofs.Canonical.{Alike, alike-swap, alike-canonical, canonical-alike}
+use Rattle.canonical.specs.Codes.{canonical, heldAt}
+use Rattle.repeats.specs.Order.{idAt, Ordered, Least}
+use Rattle.canonical.proofs.Alike.{Alike, alike-swap, alike-canonical, canonical-alike}
 use Rattle.repeats.proofs.Neighbours.{Twin, least-twin, twin-least}
 
 -- ─── tests ───────────────────────────────────────────────────────────────────

@@ -1,12 +1,12 @@
 -- CHECK: the collection is judged, and no word in it may repeat, turned or not.
-use mathlib.Core.Bool.{Bool, true, false, _||_}
+use mathlib.Core.Bool.{Bool, false, _||_}
 use mathlib.Core.List.{List, [], _∷_}
 use Prim.Native.Nat.{ℕ, _-_, _*_, _≤_}
 use lib.ListN.{length, replicate}
 use Rattle.lists.specs.Count.{countFrom}
 use Rattle.lists.specs.Every.{same}
 use Rattle.lists.specs.Fill.{fill}
-use Rattle.lists.specs.First.{firstThat, firstFrom}
+use Rattle.lists.specs.First.{firstThat}
 use Rattle.words.specs.Word.{turn}
 use Rattle.collection.specs.declared.Verdict.{Verdict}
 use Rattle.collection.specs.Judge.{collectionVerdict, kmerCount, Passes}

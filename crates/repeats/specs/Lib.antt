@@ -1,3 +1,3 @@
--- What CHECK answers, and what its inner functions leave in the work table.
+-- What CHECK answers, and how it finds a repeat.
 pub mod Check
-pub mod Codes
+pub mod Order

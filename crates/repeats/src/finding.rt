@@ -2,13 +2,14 @@
 ghost use mathlib.Core.Path.{_≡_};
 ghost use Prim.Native.Nat.{ℕ, _+_, _*_, _^_, _≤_, _<_};
 ghost use lib.Dec.{eqb};
-ghost use lib.ListN.{length, getD};
+ghost use lib.ListN.{length};
 ghost use Rattle.lists.specs.Count.{countFrom};
 ghost use Rattle.lists.specs.Regions.{Only};
 ghost use Rattle.collection.specs.Kmers.{kmers};
 ghost use Rattle.lookups.specs.Located.{Ready};
 ghost use Rattle.repeats.specs.Check.{firstRepeat};
-ghost use Rattle.repeats.specs.Codes.{heldAt, idAt, Least, Ordered};
+ghost use Rattle.canonical.specs.Codes.{heldAt};
+ghost use Rattle.repeats.specs.Order.{idAt, Least, Ordered};
 
 // Numbers the k-mers from 0.
 fn number_ids(ids: &mut [u32])
@@ -55,7 +56,7 @@ fn arrange(k: usize, letters: &[u8], ends: &[u32], n: usize, work: &mut [u32])
     requires { ⌜ (n ≡ length (kmers k (now ends))) × (4 * n ≤ length (now work)) ⌝ }
     ensures { λ _. ⌜ Ordered k (now (letters .entry)) (kmers k (now (ends .entry))) n (now (work .entry)) (now (work .exit)) ⌝ }
 {
-    crate::coding::code_all(k, letters, ends, n, work);
+    canonical::inner::code_all(k, letters, ends, n, work);
     let ids = n + n;
     let buf = ids + n;
     number_ids(&mut work[ids..buf]);

@@ -1,17 +1,14 @@
 // CHECK: a collection is judged, and no word in it may repeat, turned or not.
-mod coding;
 mod finding;
 
 use collection::Verdict;
 ghost use mathlib.Core.Path.{_≡_};
-ghost use Prim.Native.Nat.{ℕ, _*_, _≤_};
+ghost use Prim.Native.Nat.{_≤_};
 ghost use lib.ListN.{length, replicate};
 ghost use Rattle.lists.specs.Fill.{fill};
-ghost use Rattle.collection.specs.Judge.{kmerCount};
 ghost use Rattle.collection.specs.Verdict.{atPlace, settle};
-ghost use Rattle.lookups.specs.Located.{Ready};
 ghost use Rattle.repeats.specs.declared.CheckAnswer.the-variants.{Checked, Refused};
-ghost use Rattle.repeats.specs.Check.{checkVerdict, checkOf, outcome, firstRepeat};
+ghost use Rattle.repeats.specs.Check.{checkVerdict, checkOf, outcome};
 
 // What CHECK answers: how many k-mers it looked at, or the number and place of a refusal.
 pub enum CheckAnswer {

@@ -5,7 +5,8 @@ use mathlib.Core.Logic.{⊎-elim}
 use Prim.Native.Nat.{_+_, _-_, _≤_}
 use native.Mathlib.Omega.{arith}
 use lib.Dec.{ltb}
-use Rattle.repeats.specs.Codes.{heldAt, idAt, Least}
+use Rattle.canonical.specs.Codes.{heldAt}
+use Rattle.repeats.specs.Order.{idAt, Least}
 use Rattle.repeats.proofs.Neighbours.{least-begin, least-take, least-keep, least-end}
 use borrow.Author.Needs.{needs}
 use Rattle.repeats.proofs.finding.least_second.Statement.{statement}

@@ -1,6 +1,6 @@
 -- `same_code` meets its contract: codes are equal if both halves are. Assumes nothing.
 use Prim.Native.Nat.{_+_}
-use Rattle.repeats.proofs.Coded.{halves-test}
+use Rattle.canonical.proofs.Coded.{halves-test}
 use borrow.Author.Needs.{needs}
 use Rattle.repeats.proofs.finding.same_code.Statement.{statement}
 use Rattle.repeats.proofs.finding.same_code.Tie as tie

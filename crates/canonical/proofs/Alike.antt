@@ -1,6 +1,6 @@
 -- Canonical codes are equal exactly if the words are equal, turned or not. A code tells words of one length apart, and turning twice gives a word back. Assumes
 -- nothing.
-use mathlib.Core.Path.{_≡_, refl, sym, ap, ap₂, _∙_}
+use mathlib.Core.Path.{_≡_, sym, ap, _∙_}
 use mathlib.Core.Logic.{_⊎_, inl, inr, ⊎-elim}
 use mathlib.Core.List.{List}
 use Prim.Native.Nat.{ℕ, _<_, _≤_, min}
@@ -11,7 +11,7 @@ use Rattle.lists.proofs.Compare.{lt-or-le}
 use Rattle.words.specs.Word.{Letters, code, turn}
 use Rattle.words.proofs.Codes.{code-injective}
 use Rattle.words.proofs.Turning.{length-turn, letters-turn, turn-turn}
-use Rattle.repeats.specs.Codes.{canonical}
+use Rattle.canonical.specs.Codes.{canonical}
 
 -- the smaller of two numbers is one of them
 least-cases : (a b : ℕ) → (min a b ≡ a) ⊎ (min a b ≡ b)

@@ -4,10 +4,10 @@ use mathlib.Core.Path.{refl}
 use native.Mathlib.Omega.{arith}
 use lib.ListN.{length}
 use Rattle.collection.proofs.Kmers.{Strings-left, strings-begin, strings-on, next-string}
-use Rattle.repeats.proofs.Stringwise.{Coding, coding-begin, coding-room, coding-on, coding-end}
+use Rattle.canonical.proofs.Stringwise.{Coding, coding-begin, coding-room, coding-on, coding-end}
 use borrow.Author.Needs.{needs}
-use Rattle.repeats.proofs.coding.code_all.Statement.{statement}
-use Rattle.repeats.proofs.coding.code_all.Tie as tie
+use Rattle.canonical.proofs.inner.code_all.Statement.{statement}
+use Rattle.canonical.proofs.inner.code_all.Tie as tie
 
 abbrev Inv-loop : tie.InvT-loop
 Inv-loop k letters ends n work₀ at₀ passed₀ i₀ work at passed i = Strings-left k (length letters) ends i at passed × Coding k letters ends n i at passed work₀ work

@@ -8,8 +8,8 @@ use Rattle.lists.specs.Count.{countFrom}
 use Rattle.lists.proofs.Count.{length-count}
 use Rattle.collection.specs.Kmers.{within, kmersFrom, kmers}
 use Rattle.collection.proofs.Kmers.{kmers-next, kmers-end}
-use Rattle.repeats.specs.Codes.{Coded}
-use Rattle.repeats.proofs.Coded.{coded-none, coded-append}
+use Rattle.canonical.specs.Codes.{Coded}
+use Rattle.canonical.proofs.Coded.{coded-none, coded-append}
 
 -- i strings with `passed` k-mers have passed, the last of which ends at `before`, and the codes of these k-mers are stored
 pub record Coding (k : ℕ) (letters ends : List ℕ) (n i before passed : ℕ) (u v : List ℕ) : Type 0 where

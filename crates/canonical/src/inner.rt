@@ -1,14 +1,14 @@
 // Canonical codes of all k-mers, by rolling the codes of a word and of its reverse complement along the strings: one step a letter, whatever k is.
 ghost use mathlib.Core.Bool.{true};
 ghost use mathlib.Core.Path.{_≡_};
-ghost use Prim.Native.Nat.{ℕ, _+_, _/_, _%_, _^_, _≤_, min};
+ghost use Prim.Native.Nat.{_+_, _/_, _%_, _≤_, min};
 ghost use lib.ListN.{length};
 ghost use Rattle.lists.specs.Count.{countFrom};
 ghost use Rattle.lists.specs.Every.{every};
 ghost use Rattle.words.specs.Letter.{isLetter};
 ghost use Rattle.collection.specs.Kmers.{kmers};
 ghost use Rattle.lookups.specs.Located.{Ready};
-ghost use Rattle.repeats.specs.Codes.{Coded};
+ghost use Rattle.canonical.specs.Codes.{Coded};
 
 // The smaller of two codes.
 fn smaller(c: u64, t: u64) -> u64
@@ -64,7 +64,7 @@ fn code_string(
 }
 
 // The canonical codes of all n k-mers.
-pub(crate) fn code_all(k: usize, letters: &[u8], ends: &[u32], n: usize, work: &mut [u32])
+pub fn code_all(k: usize, letters: &[u8], ends: &[u32], n: usize, work: &mut [u32])
     requires { ⌜ Ready k (now letters) (now ends) ⌝ }
     requires { ⌜ (n ≡ length (kmers k (now ends))) × (n + n ≤ length (now work)) ⌝ }
     ensures { λ _. ⌜ Coded k (now (letters .entry)) n 0 (kmers k (now (ends .entry))) (now (work .entry)) (now (work .exit)) ⌝ }

@@ -15,7 +15,7 @@ use Rattle.lists.proofs.Compare.{lt-or-le}
 use Rattle.lists.proofs.Count.{count-append, length-count}
 use Rattle.lists.proofs.Regions.{among-refl, among-trans, among-wider}
 use Rattle.words.specs.Word.{wordAt}
-use Rattle.repeats.specs.Codes.{canonical, heldAt, Coded}
+use Rattle.canonical.specs.Codes.{canonical, heldAt, Coded}
 
 module _ (k : ℕ) (letters : List ℕ) (n : ℕ) where
   pub coded-none : (p : ℕ) (w : List ℕ) → Coded k letters n p [] w w

@@ -9,12 +9,12 @@ use Rattle.lists.proofs.Every.{every-all}
 use Rattle.words.specs.Letter.{isLetter}
 use Rattle.words.specs.Word.{code, turn, wordAt}
 use Rattle.words.proofs.Letters.{bits-lt}
-use Rattle.repeats.specs.Codes.{Coded}
-use Rattle.repeats.proofs.Coded.{coded-begin, coded-next}
-use Rattle.repeats.proofs.Turns.{Turns, first-fits, turns-begin, code-here, turned-here, turns-on}
+use Rattle.canonical.specs.Codes.{Coded}
+use Rattle.canonical.proofs.Coded.{coded-begin, coded-next}
+use Rattle.canonical.proofs.Turns.{Turns, first-fits, turns-begin, code-here, turned-here, turns-on}
 use borrow.Author.Needs.{needs}
-use Rattle.repeats.proofs.coding.code_string.Statement.{statement}
-use Rattle.repeats.proofs.coding.code_string.Tie as tie
+use Rattle.canonical.proofs.inner.code_string.Statement.{statement}
+use Rattle.canonical.proofs.inner.code_string.Tie as tie
 
 abbrev Inv-loop : tie.InvT-loop
 Inv-loop k letters at number work₀ n passed before c₀ t₀ i₀ work c t i = (i ≤ number) × Turns k letters (at + i) c t × Coded k letters n passed (countFrom at i) work₀ work
