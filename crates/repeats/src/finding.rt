@@ -41,8 +41,9 @@ fn least_second(work: &[u32], n: usize) -> usize
     let mut least = n;
     let mut i = 1;
     while i < n {
+        let x = work[ids + (i - 1)] as usize;
         let y = work[ids + i] as usize;
-        if (y < least) & same_code(work, n, work[ids + (i - 1)] as usize, y) {
+        if (y < least) & same_code(work, n, x, y) {
             least = y;
         }
         i += 1;

@@ -24,6 +24,21 @@ add-ids c = search needs
 loop-holds : tie.Need-loop-holds Inv-loop μ-loop
 loop-holds c = (omega arith, least-begin _ _ _)
 
+sub-x : tie.Need-sub-x Inv-loop μ-loop
+sub-x c = search needs
+
+add-x : tie.Need-add-x Inv-loop μ-loop
+add-x c = search needs
+
+mul-x : tie.Need-mul-x Inv-loop μ-loop
+mul-x c = search needs
+
+shared-slice-read-x : tie.Need-shared-slice-read-x Inv-loop μ-loop
+shared-slice-read-x c = search needs
+
+cast-x : tie.Need-cast-x Inv-loop μ-loop
+cast-x c = omega (arith, c .shared-slice-known2 .given (c .before .before .before .before .args .n + c .before .before .before .before .args .n + (c .before .before .loop .i - 1)))
+
 add-y : tie.Need-add-y Inv-loop μ-loop
 add-y c = search needs
 
@@ -34,22 +49,7 @@ shared-slice-read-y : tie.Need-shared-slice-read-y Inv-loop μ-loop
 shared-slice-read-y c = search needs
 
 cast-y : tie.Need-cast-y Inv-loop μ-loop
-cast-y c = omega (arith, c .shared-slice-known2 .given (c .before .before .before .before .args .n + c .before .before .before .before .args .n + c .before .before .loop .i))
-
-sub-same-code : tie.Need-sub-same-code Inv-loop μ-loop
-sub-same-code c = search needs
-
-add-same-code : tie.Need-add-same-code Inv-loop μ-loop
-add-same-code c = search needs
-
-mul-same-code : tie.Need-mul-same-code Inv-loop μ-loop
-mul-same-code c = search needs
-
-shared-slice-read-same-code : tie.Need-shared-slice-read-same-code Inv-loop μ-loop
-shared-slice-read-same-code c = search needs
-
-cast-same-code : tie.Need-cast-same-code Inv-loop μ-loop
-cast-same-code c = omega (arith, c .shared-slice-known3 .given (c .before .before .before .before .before .args .n + c .before .before .before .before .before .args .n + (c .before .before .before .loop .i - 1)))
+cast-y c = omega (arith, c .shared-slice-known3 .given (c .before .before .before .before .before .args .n + c .before .before .before .before .before .args .n + c .before .before .before .loop .i))
 
 same-code-requires : tie.Need-same-code-requires Inv-loop μ-loop
 same-code-requires c κs =
@@ -95,15 +95,15 @@ least-second-spec =
     μ-loop
     add-ids
     loop-holds
+    sub-x
+    add-x
+    mul-x
+    shared-slice-read-x
+    cast-x
     add-y
     mul-y
     shared-slice-read-y
     cast-y
-    sub-same-code
-    add-same-code
-    mul-same-code
-    shared-slice-read-same-code
-    cast-same-code
     same-code-requires
     add-i
     loop-less
