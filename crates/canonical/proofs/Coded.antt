@@ -1,6 +1,6 @@
 -- Codes in the work table: none yet, one more, and those of two rows one after the other. Entry by entry. Assumes nothing.
 use mathlib.Core.Path.{_≡_, refl, sym, ap, ap₂, _∙_}
-use mathlib.Core.Bool.{Bool, true, false, _&&_}
+use mathlib.Core.Bool.{Bool, true, false}
 use mathlib.Core.Logic.{_⊎_, inl, inr, ⊎-elim}
 use mathlib.Core.List.{List, [], _∷_, _++_}
 use Prim.Native.Nat.{ℕ, _+_, _-_, _*_, _/_, _%_, _^_, _<_, _≤_}
@@ -93,11 +93,15 @@ module _ (k : ℕ) (letters : List ℕ) (n : ℕ) where
       let t : Coded k letters n (p + length (countFrom at i)) ((at + i) ∷ []) v w = rw m (coded-one (p + i) (at + i) c h l v g f e x y) in
       rw (count-append at i 1) (coded-append p (countFrom at i) ((at + i) ∷ []) u v w (omega arith) s t)
 
--- two codes are equal exactly if both their halves are
-pub halves-test : (a b c d : ℕ) → b < 2 ^ 32 → d < 2 ^ 32 → (eqb b d && eqb a c) ≡ eqb (a * 2 ^ 32 + b) (c * 2 ^ 32 + d)
-halves-test a b c d h g = go (eqb b d) refl (eqb a c) refl
-  where
-    go : (s : Bool) → eqb b d ≡ s → (t : Bool) → eqb a c ≡ t → (s && t) ≡ eqb (a * 2 ^ 32 + b) (c * 2 ^ 32 + d)
-    go true p true q = sym (eq-eqb (a * 2 ^ 32 + b) (c * 2 ^ 32 + d) (ap₂ (λ (x y : ℕ). x * 2 ^ 32 + y) (eqb-true a c q) (eqb-true b d p)))
-    go true p false q = sym (ne-eqb (a * 2 ^ 32 + b) (c * 2 ^ 32 + d) (λ e. eqb-false a c q (omega arith)))
-    go false p t q = sym (ne-eqb (a * 2 ^ 32 + b) (c * 2 ^ 32 + d) (λ e. eqb-false b d p (omega arith)))
+-- ─── two codes by their halves ───────────────────────────────────────────────
+
+module _ (a b c d : ℕ) where
+  pub lower-differs : b < 2 ^ 32 → d < 2 ^ 32 → (b ≡ d → ⊥) → false ≡ eqb (a * 2 ^ 32 + b) (c * 2 ^ 32 + d)
+  lower-differs h g e = sym (ne-eqb (a * 2 ^ 32 + b) (c * 2 ^ 32 + d) (λ q. e (omega arith)))
+
+  pub upper-decides : b ≡ d → eqb a c ≡ eqb (a * 2 ^ 32 + b) (c * 2 ^ 32 + d)
+  upper-decides e = go (eqb a c) refl
+    where
+      go : (t : Bool) → eqb a c ≡ t → t ≡ eqb (a * 2 ^ 32 + b) (c * 2 ^ 32 + d)
+      go true q = sym (eq-eqb (a * 2 ^ 32 + b) (c * 2 ^ 32 + d) (ap₂ (λ (x y : ℕ). x * 2 ^ 32 + y) (eqb-true a c q) e))
+      go false q = sym (ne-eqb (a * 2 ^ 32 + b) (c * 2 ^ 32 + d) (λ p. eqb-false a c q (omega arith)))

@@ -23,12 +23,15 @@ fn number_ids(ids: &mut [u32])
     }
 }
 
-// Whether k-mers x and y have one code.
+// Whether k-mers x and y have one code. Lower halves mostly differ, and then the upper ones, which lie elsewhere, are not read.
 fn same_code(work: &[u32], n: usize, x: usize, y: usize) -> bool
     requires { ⌜ (x < n) × (y < n) × (n + n ≤ length (now work)) ⌝ }
     ensures { λ r. ⌜ r ≡ eqb (heldAt n (now (work .entry)) x) (heldAt n (now (work .entry)) y) ⌝ }
 {
-    (work[n + x] == work[n + y]) & (work[x] == work[y])
+    if work[n + x] != work[n + y] {
+        return false;
+    }
+    work[x] == work[y]
 }
 
 // The least k-mer that stands behind one of the same code, n where none does.
