@@ -1,5 +1,6 @@
 -- The laws of `specs/`, one file a topic.
 pub mod First
+pub mod FirstAt
 pub mod Every
 pub mod Storing
 pub mod Count
@@ -11,3 +12,4 @@ pub mod Picks
 pub mod Sorts
 pub mod Radix
 pub mod Regions
+pub mod Zeroed

@@ -1,0 +1,57 @@
+-- The loop over the strings that stores the codes of all k-mers, string by string. By the laws of `Coded`. Assumes nothing.
+use mathlib.Core.Path.{_≡_, refl, sym, ap, subst, _∙_}
+use mathlib.Core.List.{List, [], _++_, append-assoc, append-nil}
+use Prim.Native.Nat.{ℕ, _+_, _<_, _≤_}
+use native.Mathlib.Omega.{arith}
+use lib.ListN.{length, getD, drop, length-append}
+use Rattle.lists.specs.Count.{countFrom}
+use Rattle.lists.proofs.Count.{length-count}
+use Rattle.collection.specs.Kmers.{within, kmersFrom, kmers}
+use Rattle.collection.proofs.Kmers.{kmers-next, kmers-end}
+use Rattle.canonical.specs.Codes.{Coded}
+use Rattle.canonical.proofs.Coded.{coded-none, coded-append}
+
+-- i strings with `passed` k-mers have passed, the last of which ends at `before`, and the codes of these k-mers are stored
+pub record Coding (k : ℕ) (letters ends : List ℕ) (n i before passed : ℕ) (u v : List ℕ) : Type 0 where
+  pub done : List ℕ
+  pub counted : length done ≡ passed
+  pub split : done ++ kmersFrom k before (drop i ends) ≡ kmers k ends
+  pub coded : Coded k letters n 0 done u v
+
+module _ (k : ℕ) (letters ends : List ℕ) (n : ℕ) (u : List ℕ) where
+  pub coding-begin : Coding k letters ends n 0 0 0 u u
+  coding-begin = record { done = []; counted = refl; split = refl; coded = coded-none k letters n 0 u }
+
+  module _ {i before passed : ℕ} {v : List ℕ} (s : Coding k letters ends n i before passed u v) where
+    pub coding-end : length ends ≤ i → Coded k letters n 0 (kmers k ends) u v
+    coding-end l =
+        subst (λ (xs : List ℕ). Coded k letters n 0 xs u v)
+        (sym (append-nil (s .done)) ∙ (ap (λ (xs : List ℕ). s .done ++ xs) (sym (kmers-end k before ends i l)) ∙ s .split)) (s .coded)
+
+    -- the next string, that ends at e
+    module _ (all : n ≡ length (kmers k ends)) (l : i < length ends) where
+      abbrev pub row : List ℕ
+      row = countFrom before (within k before (getD ends i 0))
+
+      longer : (s .done ++ row) ++ kmersFrom k (getD ends i 0) (drop (i + 1) ends) ≡ kmers k ends
+      longer =
+          append-assoc (s .done) row (kmersFrom k (getD ends i 0) (drop (i + 1) ends))
+          ∙ (ap (λ (xs : List ℕ). s .done ++ xs) (sym (kmers-next k before ends i l)) ∙ s .split)
+
+      size : length (s .done ++ row) ≡ passed + within k before (getD ends i 0)
+      size = omega (arith, length-append (s .done) row, length-count before (within k before (getD ends i 0)), s .counted)
+
+      pub coding-room : passed + within k before (getD ends i 0) ≤ n
+      coding-room = omega (arith, size, length-append (s .done ++ row) (kmersFrom k (getD ends i 0) (drop (i + 1) ends)), ap length longer)
+
+      pub coding-on : {w : List ℕ} → Coded k letters n passed row v w → Coding k letters ends n (i + 1) (getD ends i 0) (passed + within k before (getD ends i 0)) u w
+      coding-on {w} t =
+          let p : passed ≡ 0 + length (s .done) = omega (arith, s .counted) in
+          record {
+            done = s .done ++ row;
+            counted = size;
+            split = longer;
+            coded =
+                coded-append k letters n 0 (s .done) row u v w (omega (arith, size, coding-room, length-append (s .done) row)) (s .coded)
+                (subst (λ (m : ℕ). Coded k letters n m row v w) p t);
+          }

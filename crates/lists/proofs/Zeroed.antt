@@ -1,0 +1,29 @@
+-- One value in a row, as a loop's index counts, and what filling the first entries leaves of earlier writes to them: nothing. Assumes nothing.
+use mathlib.Core.Path.{_≡_, refl, sym, ap, _∙_}
+use mathlib.Core.Logic.{inr}
+use mathlib.Core.List.{List, [], _∷_, _++_}
+use Prim.Native.Nat.{ℕ, suc, _+_, _-_, _<_, _≤_}
+use native.Mathlib.Omega.{arith}
+use lib.ListN.{length, drop, replicate, length-drop}
+use lib.Seq.{take-all}
+use Rattle.lists.specs.Fill.{fill}
+use Rattle.lists.specs.Regions.{part, Only}
+use Rattle.lists.proofs.Regions.{part-is, only-part}
+
+module _ {A : Type 0} where
+  module _ (a : A) (n i : ℕ) where
+    pub replicate-next : i < n → replicate (n - i) a ≡ a ∷ replicate (n - (i + 1)) a
+    replicate-next h = let q : n - i ≡ suc (n - (i + 1)) = omega arith in ap (λ (m : ℕ). replicate m a) q
+
+    pub replicate-end : n ≤ i → replicate (n - i) a ≡ []
+    replicate-end h = let q : n - i ≡ 0 = omega arith in ap (λ (m : ℕ). replicate m a) q
+
+  -- the table v is w but for its first n entries, and these are filled
+  pub only-fill : (n : ℕ) (xs w v : List A) → length xs ≡ n → n ≤ length w → Only 0 n w v → fill xs v ≡ fill xs w
+  only-fill n xs w v e h p = ap (λ (m : ℕ). xs ++ drop m v) e ∙ (ap (λ (l : List A). xs ++ l) behind ∙ ap (λ (m : ℕ). xs ++ drop m w) (sym e))
+    where
+      whole : (l : List A) → length l ≡ length w → drop n l ≡ part n (length w - n) l
+      whole l q = sym (part-is n (length w - n) l ∙ take-all (length w - n) (drop n l) (rw (length-drop n l) (omega arith)))
+
+      behind : drop n v ≡ drop n w
+      behind = whole v (p .size) ∙ (only-part 0 n w v p n (length w - n) (inr (omega arith)) (omega arith) ∙ sym (whole w refl))

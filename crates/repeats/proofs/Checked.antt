@@ -1,0 +1,83 @@
+-- What CHECK's answer says: it succeeds exactly if the collection passes 2 to 6, work has its 4n entries, and no two handles have equal or turned-equal words.
+-- By the cases of the verdicts. Assumes nothing.
+use mathlib.Core.Path.{_≡_, refl, sym, ap, _∙_}
+use mathlib.Core.List.{List}
+use Prim.Native.Nat.{ℕ, zero, suc, _*_, _≤_}
+use native.Mathlib.Omega.{arith}
+use borrow.Author.Tests.{le-ltb}
+use lib.ListN.{length}
+use Rattle.collection.specs.declared.Verdict.{Verdict}
+use Rattle.collection.specs.declared.Verdict.the-variants.{Good, Bad}
+use Rattle.collection.specs.Judge.{kmerCount, collectionVerdict, Passes}
+use Rattle.collection.specs.Kmers.{kmers}
+use Rattle.collection.specs.Verdict.{atPlace, settle, roomVerdict}
+use Rattle.collection.proofs.Judged.{collection-good}
+use Rattle.collection.proofs.Kmers.{kmers-counted}
+use Rattle.collection.proofs.Verdicts.{both-good, room-good, then-good, settled, place-none}
+use Rattle.lookups.specs.Located.{Ready}
+use Rattle.lookups.proofs.Asked.{judged-ready}
+use Rattle.repeats.specs.declared.CheckAnswer.the-variants.{Checked, Refused}
+use Rattle.repeats.specs.Check.{checkVerdict, checkOf, outcome, Outcome, firstRepeat, Accepted}
+use Rattle.repeats.proofs.Repeats.{none-distinct, distinct-none}
+
+-- a repeat of 0 is none
+told-none : (n m place : ℕ) → settle (atPlace 7 place) Refused (Checked n) ≡ Checked m → (place ≡ 0) × (m ≡ n)
+unfolding settle atPlace
+told-none n m zero e = (refl, cc)
+told-none n m (suc place) e = let z : _≡_ {A = ℕ} 0 1 = cc in absurd (let y : ⊥ = omega arith in y)
+
+-- an answer of success comes from a good verdict
+told-good : (v : Verdict) (work : List ℕ) (m : ℕ) (done : Outcome) → settle v (λ number place. outcome (Refused number place) work) done .answer ≡ Checked m
+    → (v ≡ Good) × (done .answer ≡ Checked m)
+unfolding settle
+told-good Good work m done e = (refl, e)
+told-good (Bad number place) work m done e = let z : _≡_ {A = ℕ} 0 1 = cc in absurd (let y : ⊥ = omega arith in y)
+
+module _ (k : ℕ) (letters ends weights : List ℕ) where
+  abbrev n : ℕ
+  n = kmerCount k (length letters) (length ends)
+
+  -- ─── 2 to 6, and 1 ─────────────────────────────────────────────────────────
+
+  -- what a collection and a room that pass keep to
+  pub record Started (room : ℕ) : Type 0 where
+    pub passes : Passes k letters ends weights
+    pub enough : 4 * n ≤ room
+    pub counted : length weights ≡ n
+    pub each : length weights ≡ length (kmers k ends)
+    pub ready : Ready k letters ends
+
+  pub check-started : (room : ℕ) → checkVerdict k letters ends weights room ≡ Good → Started room
+  unfolding checkVerdict
+  check-started room e =
+      let a = both-good (collectionVerdict k letters ends weights) _ e in
+      let j = collection-good k letters ends weights (a .0) in
+      record {
+        passes = a .0;
+        enough = room-good room _ (a .1);
+        counted = j .counted;
+        each = j .counted ∙ sym (kmers-counted (j .shape));
+        ready = judged-ready j;
+      }
+
+  check-good : (room : ℕ) → Passes k letters ends weights → 4 * n ≤ room → checkVerdict k letters ends weights room ≡ Good
+  unfolding checkVerdict roomVerdict
+  check-good room p l = then-good (roomVerdict room (4 * n)) p (rw (le-ltb room (4 * n) l))
+
+  -- ─── success ───────────────────────────────────────────────────────────────
+
+  module _ (work : List ℕ) where
+    pub check-distinct : (m : ℕ) → checkOf k letters ends weights work .answer ≡ Checked m → Accepted k letters ends weights (length work) × (m ≡ n)
+    unfolding checkOf
+    check-distinct m e =
+        let a = told-good (checkVerdict k letters ends weights (length work)) work m _ e in
+        let b = told-none n m (firstRepeat k letters ends) (a .1) in
+        let s = check-started (length work) (a .0) in
+        (record { passes = s .passes; enough = s .enough; distinct = none-distinct k letters ends (s .ready) (b .0) }, b .1)
+
+    pub distinct-check : Accepted k letters ends weights (length work) → checkOf k letters ends weights work .answer ≡ Checked n
+    unfolding checkOf
+    distinct-check s =
+        let g = check-good (length work) (s .passes) (s .enough) in
+        let p = sym (place-none 7 (distinct-none k letters ends (check-started (length work) g .ready) (s .distinct))) in
+        ap (λ (o : Outcome). o .answer) (sym (settled (λ number place. outcome (Refused number place) work) refl g)) ∙ sym (settled Refused refl p)

@@ -1,0 +1,101 @@
+-- `arrange` meets its contract: each call leaves what the others wrote, and the sort sorts by the codes that stand in the table. Assumes nothing.
+use mathlib.Core.Path.{_≡_, sym, ap, _∙_}
+use mathlib.Core.List.{List}
+use Prim.Native.Nat.{ℕ, _+_, _-_, _*_, _<_, _≤_, _^_}
+use native.Mathlib.Omega.{arith}
+use lib.ListN.{length}
+use borrow.Rule.Slice.PartMut.{putMid}
+use Rattle.lists.specs.Count.{countFrom}
+use Rattle.lists.specs.Regions.{part, Only}
+use Rattle.lists.proofs.Count.{length-count}
+use Rattle.lists.proofs.Regions.{part-lent, part-length, lent-part, lent-only}
+use Rattle.repeats.proofs.Arranged.{few-kmers, laid, numbers-inside, arranged}
+use borrow.Author.Needs.{needs}
+use Rattle.repeats.proofs.finding.arrange.Statement.{statement}
+use Rattle.repeats.proofs.finding.arrange.Tie as tie
+
+-- the table after the codes and the numbers are written
+abbrev table : tie.After-number-ids → List ℕ
+table c = let n = c .before .before .before .before .before .before .before .before .before .args .n in putMid (n + n) (n + n + n - (n + n)) (c .before .before .before .before .code-all .last .1 .1 .1 .1 .0) (c .number-ids .last .0)
+
+room : (c : tie.After-number-ids) → 4 * c .before .before .before .before .before .before .before .before .before .args .n ≤ length (c .before .before .before .before .code-all .last .1 .1 .1 .1 .0)
+room c = omega (arith, c .before .before .before .before .before .before .before .before .before .pre .1 .1, c .before .before .before .before .code-all .ensures .rest .size)
+
+numbers : (c : tie.After-number-ids) → c .number-ids .last .0 ≡ countFrom 0 (c .before .before .before .before .before .before .before .before .before .args .n)
+numbers c =
+    let n = c .before .before .before .before .before .before .before .before .before .args .n in
+    let u = c .before .before .before .before .code-all .last .1 .1 .1 .1 .0 in
+    c .number-ids .ensures ∙ ap (countFrom 0) (ap length (part-lent (n + n) n u) ∙ part-length (n + n) n u (omega (arith, room c)))
+
+counted : (c : tie.After-number-ids) → length (c .number-ids .last .0) ≡ c .before .before .before .before .before .before .before .before .before .args .n
+counted c = ap length (numbers c) ∙ length-count 0 (c .before .before .before .before .before .before .before .before .before .args .n)
+
+only : (c : tie.After-number-ids) → let n = c .before .before .before .before .before .before .before .before .before .args .n in Only (n + n) n (c .before .before .before .before .code-all .last .1 .1 .1 .1 .0) (table c)
+only c = let n = c .before .before .before .before .before .before .before .before .before .args .n in lent-only (n + n) n (c .before .before .before .before .code-all .last .1 .1 .1 .1 .0) (c .number-ids .last .0) (counted c) (omega (arith, room c))
+
+ids : (c : tie.After-number-ids) → let n = c .before .before .before .before .before .before .before .before .before .args .n in part (n + n) n (table c) ≡ countFrom 0 n
+ids c = let n = c .before .before .before .before .before .before .before .before .before .args .n in lent-part (n + n) n (c .before .before .before .before .code-all .last .1 .1 .1 .1 .0) (c .number-ids .last .0) (counted c) (omega (arith, room c)) ∙ numbers c
+
+few : (s : tie.Start) → s .args .n < 2 ^ 32
+few s = omega (arith, few-kmers (s .pre .0), s .pre .1 .0)
+
+code-all-requires : tie.Need-code-all-requires
+code-all-requires c κs = search needs
+
+add-ids : tie.Need-add-ids
+add-ids c = search needs
+
+add-buf : tie.Need-add-buf
+add-buf c = search needs
+
+mul-number-ids : tie.Need-mul-number-ids
+mul-number-ids c = search needs
+
+sub-number-ids : tie.Need-sub-number-ids
+sub-number-ids c = search needs
+
+part-number-ids-start : tie.Need-part-number-ids-start
+part-number-ids-start c = search needs
+
+part-number-ids-end : tie.Need-part-number-ids-end
+part-number-ids-end c = omega (arith, c .before .before .code-all .ensures .rest .size)
+
+number-ids-requires : tie.Need-number-ids-requires
+number-ids-requires c κs =
+    let s = c .before .before .before .before .before .before .before .before in
+    let n = s .args .n in
+    let u = c .before .before .before .code-all .last .1 .1 .1 .1 .0 in
+    omega (arith, few s, ap length (part-lent (n + n) n u), part-length (n + n) n u (omega (arith, s .pre .1 .1, c .before .before .before .code-all .ensures .rest .size)))
+
+sort-by-code-requires : tie.Need-sort-by-code-requires
+sort-by-code-requires c κs =
+    let s = c .before .before .before .before .before .before .before .before .before .before .before .before in
+    let n = s .args .n in
+    let d = c .before .before .before in
+    let size : 4 * n ≤ length (table d) = omega (arith, room d, only d .size) in
+    ((laid _ n 0 (few s) size (omega arith), laid _ n n (few s) size (omega arith)), numbers-inside n (ids d))
+
+same-length : tie.Need-same-length
+same-length c = c .before .before .sort-by-code .ensures .rest .size ∙ (only (c .before .before .before .before .before .before) .size ∙ c .before .before .before .before .before .before .before .before .before .before .code-all .ensures .rest .size)
+
+returns : tie.Need-returns
+returns c =
+    let s = c .before .before .before .before .before .before .before .before .before .before .before .before .before .before .before in
+    let d = c .before .before .before .before .before .before in
+    arranged _ _ _ (s .args .n) _ (c .before .before .before .before .before .before .before .before .before .before .code-all .last .1 .1 .1 .1 .0) (table d) _ (s .pre .1 .1) (sym (s .pre .1 .0)) (c .before .before .before .before .before .before .before .before .before .before .code-all .ensures) (only d) (ids d) (c .before .before .sort-by-code .ensures)
+
+pub arrange-spec : {M : Type 1} → statement M
+arrange-spec =
+    tie.close
+    (tie.spec
+    code-all-requires
+    add-ids
+    add-buf
+    mul-number-ids
+    sub-number-ids
+    part-number-ids-start
+    part-number-ids-end
+    number-ids-requires
+    sort-by-code-requires
+    same-length
+    returns)

@@ -1,0 +1,46 @@
+-- `first_repeat` meets its contract: the least second of the sorted k-mers is the first repeat, counted from 0. Assumes nothing.
+use mathlib.Core.Path.{sym}
+use native.Mathlib.Omega.{arith}
+use Rattle.repeats.proofs.Repeats.{repeat-none, repeat-inside, repeat-found}
+use borrow.Author.Needs.{needs}
+use Rattle.repeats.proofs.finding.first_repeat.Statement.{statement}
+use Rattle.repeats.proofs.finding.first_repeat.Tie as tie
+
+arrange-requires : tie.Need-arrange-requires
+arrange-requires c κs = search needs
+
+least-second-requires : tie.Need-least-second-requires
+least-second-requires c κs = (omega (arith, c .before .before .before .before .before .before .before .before .pre .1 .1, c .before .before .before .arrange .ensures .rest .size), c .before .before .before .arrange .ensures .inside)
+
+add-result : tie.Need-add-result
+add-result c =
+    let s = c .before .before .before .before .before .before .before .before .before .before in
+    omega (arith, repeat-inside _ _ _ (s .pre .0) _ (s .pre .1 .0) _ _ (c .before .before .before .before .before .arrange .ensures) _ (c .before .least-second .ensures) (c .if1 .left))
+
+same-length : tie.Need-same-length
+same-length c = c .before .before .before .before .before .arrange .ensures .rest .size
+
+returns : tie.Need-returns
+returns c =
+    let s = c .before .before .before .before .before .before .before .before .before .before in
+    (sym (repeat-none _ _ _ (s .pre .0) _ (s .pre .1 .0) _ _ (c .before .before .before .before .before .arrange .ensures) _ (c .before .least-second .ensures) (c .if1 .taken)), c .before .before .before .before .before .arrange .ensures .rest)
+
+same-length-2 : tie.Need-same-length-2
+same-length-2 c = c .before .before .before .before .before .arrange .ensures .rest .size
+
+returns-2 : tie.Need-returns-2
+returns-2 c =
+    let s = c .before .before .before .before .before .before .before .before .before .before in
+    (sym (repeat-found _ _ _ (s .pre .0) _ (s .pre .1 .0) _ _ (c .before .before .before .before .before .arrange .ensures) _ (c .before .least-second .ensures) (c .if1 .left)), c .before .before .before .before .before .arrange .ensures .rest)
+
+pub first-repeat-spec : {M : Type 1} → statement M
+first-repeat-spec =
+    tie.close
+    (tie.spec
+    arrange-requires
+    least-second-requires
+    add-result
+    same-length
+    returns
+    same-length-2
+    returns-2)

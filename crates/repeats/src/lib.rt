@@ -1,0 +1,74 @@
+// CHECK: a collection is judged, and no word in it may repeat, turned or not.
+mod finding;
+
+use collection::Verdict;
+ghost use mathlib.Core.Path.{_≡_};
+ghost use Prim.Native.Nat.{_≤_};
+ghost use lib.ListN.{length, replicate};
+ghost use Rattle.lists.specs.Fill.{fill};
+ghost use Rattle.collection.specs.Verdict.{atPlace, settle};
+ghost use Rattle.repeats.specs.declared.CheckAnswer.the-variants.{Checked, Refused};
+ghost use Rattle.repeats.specs.Check.{checkVerdict, checkOf, outcome};
+
+// What CHECK answers: how many k-mers it looked at, or the number and place of a refusal.
+pub enum CheckAnswer {
+    Checked { kmers: usize },
+    Refused { number: u32, place: usize },
+}
+
+// 2 to 6, then 1: `room` entries of work are lent.
+fn judge_check(k: usize, letters: &[u8], ends: &[u32], weights: &[u32], room: usize) -> Verdict
+    ensures { λ r. ⌜ r ≡ checkVerdict k (now (letters .entry)) (now (ends .entry)) (now (weights .entry)) room ⌝ }
+{
+    let a = collection::judge_collection(k, letters, ends, weights);
+    let Verdict::Good = a else {
+        return a;
+    };
+    let n = collection::inner::kmer_count(k, letters.len(), ends.len());
+    collection::judge_room(room, 4 * n)
+}
+
+// Sets the first n entries of a table to 0.
+fn zero(table: &mut [u32], n: usize)
+    requires { ⌜ n ≤ length (now table) ⌝ }
+    ensures { λ _. ⌜ now (table .exit) ≡ fill (replicate n 0) (now (table .entry)) ⌝ }
+{
+    let mut i = 0;
+    while i < n {
+        table[i] = 0;
+        i += 1;
+    }
+}
+
+// 7: a word repeats, first at a handle; 0 where none does.
+fn answer(repeat: usize, n: usize) -> CheckAnswer
+    ensures { λ r. ⌜ r ≡ settle (atPlace 7 repeat) Refused (Checked n) ⌝ }
+{
+    if repeat == 0 {
+        return CheckAnswer::Checked { kmers: n };
+    }
+    CheckAnswer::Refused {
+        number: 7,
+        place: repeat,
+    }
+}
+
+// CHECK: 2 to 6, 1, then 7, at the lowest handle whose word or its reverse complement stands earlier. Its 4n entries of work are 0 afterwards.
+pub fn check(
+    k: usize,
+    letters: &[u8],
+    ends: &[u32],
+    weights: &[u32],
+    work: &mut [u32],
+) -> CheckAnswer
+    ensures { λ r. ⌜ outcome r (now (work .exit)) ≡ checkOf k (now (letters .entry)) (now (ends .entry)) (now (weights .entry)) (now (work .entry)) ⌝ }
+{
+    let v = judge_check(k, letters, ends, weights, work.len());
+    if let Verdict::Bad { number, place } = v {
+        return CheckAnswer::Refused { number, place };
+    }
+    let n = weights.len();
+    let repeat = finding::first_repeat(k, letters, ends, n, work);
+    zero(work, 4 * n);
+    answer(repeat, n)
+}
