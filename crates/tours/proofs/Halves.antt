@@ -77,9 +77,9 @@ module _ (f : ℕ → ℕ) where
   none-unused flags w h =
       none-from 0 flags w
       (λ i l z.
-        let a : (2 * (0 + i)) / 2 ≡ i = omega arith in
-        let b : (2 * (0 + i) + 1) / 2 ≡ i = omega arith in
-        (h (2 * (0 + i)) (rw a l) (rw a z), h (2 * (0 + i) + 1) (rw b l) (rw b z)))
+      let a : (2 * (0 + i)) / 2 ≡ i = omega arith in
+      let b : (2 * (0 + i) + 1) / 2 ≡ i = omega arith in
+      (h (2 * (0 + i)) (rw a l) (rw a z), h (2 * (0 + i) + 1) (rw b l) (rw b z)))
 
   -- an unused one does
   pub some-unused : (flags : List ℕ) (c : ℕ) → c / 2 < length flags → getD flags (c / 2) 0 ≡ 0 → 1 ≤ occurs (f c) (weights (unused f 0 flags))

@@ -3,3 +3,4 @@ pub mod Regions
 pub mod Halves
 pub mod Rows
 pub mod Steps
+pub mod Tours

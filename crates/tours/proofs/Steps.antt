@@ -38,6 +38,13 @@ still-used used i k l z = go (ℕ-discrete k i)
     go (yes e) = absurd (omega (arith, getD-set-same used i 1 0 l, ap (λ (x : ℕ). getD (set used i 1) x 0) e))
     go (no e) = sym (getD-set-other used i k 1 0 e) ∙ z
 
+flags-set : (used : List ℕ) (i : ℕ) → i < length used → ((e : ℕ) → getD used e 0 ≤ 1) → (e : ℕ) → getD (set used i 1) e 0 ≤ 1
+flags-set used i l h e = go (ℕ-discrete e i)
+  where
+    go : Dec (e ≡ i) → getD (set used i 1) e 0 ≤ 1
+    go (yes p) = rw (p, getD-set-same used i 1 0 l) (omega arith)
+    go (no p) = rw (getD-set-other used i e 1 0 p) (h e)
+
 cursors-used : (m : ℕ) (t : Tables) (n c : ℕ) → c / 2 < length (t .used) → Cursors m t → Cursors m (taken t n c)
 cursors-used m t n c l k v b =
     record { low = k v b .low; high = k v b .high; passed = record { all-used = λ q h e z. k v b .passed .all-used q h e (still-used (t .used) (c / 2) (getD (t .rows) q 0 / 2) l z) } }
@@ -111,6 +118,7 @@ module _ {m : ℕ} {t₀ : Tables} {s z₀ : ℕ} {t : Tables} {n z here : ℕ} 
       stack-size = g .between .stack-size;
       cursors-size = length-set (t .cursors) v e ∙ g .between .cursors-size;
       high = g .between .high;
+      flags = g .between .flags;
       listed = g .between .listed;
     };
     room = g .room;
@@ -202,6 +210,7 @@ module _ {m : ℕ} {t₀ : Tables} {s z₀ : ℕ} {t : Tables} {n z here : ℕ} 
         stack-size = length-set (t .stack) n c ∙ g .between .stack-size;
         cursors-size = g .between .cursors-size;
         high = g .between .high;
+        flags = flags-set (t .used) (c / 2) in-used (g .between .flags);
         listed = listed-now;
       };
       room = omega (arith, g .room, take-fewer);
@@ -257,6 +266,7 @@ module _ {m : ℕ} {t₀ : Tables} {s z₀ : ℕ} {t : Tables} {n z here : ℕ} 
           stack-size = length-set (t .stack) (z - 1) back ∙ g .between .stack-size;
           cursors-size = g .between .cursors-size;
           high = omega (arith, g .between .high);
+          flags = g .between .flags;
           listed = listed-back;
         };
         room = omega (arith, g .room);

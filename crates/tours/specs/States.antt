@@ -61,6 +61,7 @@ pub record Between (m : ℕ) (t : Tables) (T : List ℕ) (z : ℕ) : Type 0 wher
   pub stack-size : length (t .stack) ≡ 3 * m
   pub cursors-size : length (t .cursors) ≡ 3 * m
   pub high : z ≤ 3 * m
+  pub flags : (e : ℕ) → getD (t .used) e 0 ≤ 1
   -- each string is unused, or stands there once
   pub listed : (e : ℕ) → e < m → occurs e (numbers T) + occurs e (numbers (drop z (t .stack))) ≡ getD (t .used) e 0
 
@@ -89,6 +90,18 @@ strings m t = numbered (near m (t .verts)) 0 m
 pub record Begun (m : ℕ) (t : Tables) : Type 0 where
   pub ready : Ready m t (3 * m)
   pub spokes : Reordered (spoked (2 * m) (strings m t)) (left m t)
+
+-- The walk from the hub and `walks` later walks gave back the halves from entry z on.
+pub record Touring (m : ℕ) (t : Tables) (z walks : ℕ) : Type 0 where
+  pub ready : Ready m t z
+  pub toured : Toured (2 * m) (strings m t) walks (left m t) (along m t (drop z (t .stack)))
+
+-- String i is used after a visit, by a walk from it if it was not before.
+pub record Visited (m : ℕ) (t u : Tables) (i z walks : ℕ) : Type 0 where
+  pub same : Same t u
+  pub touring : Touring m u z walks
+  pub grown : (e : ℕ) → getD (u .used) e 0 ≡ 0 → getD (t .used) e 0 ≡ 0
+  pub is-used : getD (u .used) i 0 ≡ 0 → ⊥
 
 -- All strings are used: the halves from entry z on are the walk from the hub and `walks` later walks.
 pub record Done (m : ℕ) (t u : Tables) (z walks : ℕ) : Type 0 where

@@ -5,7 +5,7 @@ ghost use lib.ListN.{length, getD, set};
 ghost use Rattle.tours.specs.Layout.{Fits, tables};
 ghost use Rattle.tours.specs.Halves.{near as near', other as other'};
 ghost use Rattle.tours.specs.Rows.{Graph, Cursor, Cursors, Sought, Answer};
-ghost use Rattle.tours.specs.States.{taken, returned, Found, Ready, Walked, Begun, Done};
+ghost use Rattle.tours.specs.States.{taken, returned, Found, Ready, Walked, Begun, Touring, Visited, Done};
 
 // Where the halves of all walks start, and how many walks there were after the first.
 pub struct Tour {
@@ -146,4 +146,37 @@ fn walk(work: &mut [u32], m: usize, s: usize, z: usize) -> usize
             here = give_back(work, m, n, top);
         }
     }
+}
+
+// Walks from string i, if it is still unused.
+fn visit(work: &mut [u32], m: usize, i: usize, tour: Tour) -> Tour
+    requires { ⌜ Fits m (now work) × (i < m) ⌝ }
+    requires { ⌜ (tour .walks ≤ i) × Touring m (tables m (now work)) (tour .start) (tour .walks) ⌝ }
+    ensures { λ r. ⌜ (r .walks ≤ i + 1) × Visited m (tables m (now (work .entry))) (tables m (now (work .exit))) i (r .start) (r .walks) ⌝ }
+{
+    if work[2 * m + i] != 0 {
+        return tour;
+    }
+    let s = near(work, m, 2 * i);
+    let top = tour.start;
+    let start = walk(work, m, s, top);
+    Tour {
+        start,
+        walks: tour.walks + 1,
+    }
+}
+
+// All walks: one from the hub, which uses the spokes, and then one from each string that is still unused.
+pub fn walk_all(work: &mut [u32], m: usize) -> Tour
+    requires { ⌜ Fits m (now work) × Begun m (tables m (now work)) ⌝ }
+    ensures { λ r. ⌜ Done m (tables m (now (work .entry))) (tables m (now (work .exit))) (r .start) (r .walks) ⌝ }
+{
+    let start = walk(work, m, 2 * m, 3 * m);
+    let mut tour = Tour { start, walks: 0 };
+    let mut i = 0;
+    while i < m {
+        tour = visit(work, m, i, tour);
+        i += 1;
+    }
+    tour
 }

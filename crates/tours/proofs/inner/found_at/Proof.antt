@@ -50,7 +50,7 @@ near-requires : tie.Need-near-requires
 near-requires c κs = search needs
 
 returns : tie.Need-returns
-returns c = 
+returns c =
     let p = c .before .before .before .before .before .before .pre in
     let h = c .before .before .wide .ensures ∙ row-at _ _ _ (c .before .before .before .before .if1 .taken) in
     let a = c .before .before .before .before .before .before .args in

@@ -34,12 +34,12 @@ add-n : tie.Need-add-n Inv-loop μ-loop
 add-n c = search needs
 
 loop-less : tie.Need-loop-less Inv-loop μ-loop
-loop-less c = 
+loop-less c =
     let f = going-found (c .before .before .before .before .before .before .before .before .before .loop .inv .1) (c .before .before .before .before .before .before .before .find .ensures) in
     omega (arith, took-fewer (f .0) (f .1) (c .before .before .before .before .if1 .taken) (c .before .before .take .ensures .0), ap length (found-left (c .before .before .before .before .before .before .before .find .ensures)))
 
 loop-again : tie.Need-loop-again Inv-loop μ-loop
-loop-again c = 
+loop-again c =
     let f = going-found (c .before .before .before .before .before .before .before .before .before .loop .inv .1) (c .before .before .before .before .before .before .before .find .ensures) in
     (fits-same (c .before .before .before .before .before .before .before .before .before .loop .inv .0) (omega arith), going-took (f .0) (f .1) (c .before .before .before .before .if1 .taken) (c .before .before .take .ensures .0) (c .before .before .take .ensures .1))
 
@@ -64,7 +64,7 @@ loop-less-2 c =
     omega (arith, ap length (gave-left (f .0) (f .1) (c .before .before .give-back .ensures .0)), ap length (found-left (c .before .before .before .before .before .before .before .before .find .ensures)), c .before .before .before .before .if2 .left)
 
 loop-again-2 : tie.Need-loop-again-2 Inv-loop μ-loop
-loop-again-2 c = 
+loop-again-2 c =
     let f = going-found (c .before .before .before .before .before .before .before .before .before .before .loop .inv .1) (c .before .before .before .before .before .before .before .before .find .ensures) in
     (fits-same (c .before .before .before .before .before .before .before .before .before .before .loop .inv .0) (omega arith), going-gave (f .0) (f .1) (c .before .before .before .before .before .if1 .left) (c .before .before .before .before .if2 .left) (c .before .before .give-back .ensures .0) (c .before .before .give-back .ensures .1))
 
