@@ -1,0 +1,3 @@
+-- Laws of the stages, one file a stage.
+pub mod Ladder
+pub mod EndWeights
