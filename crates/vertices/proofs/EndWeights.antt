@@ -56,20 +56,23 @@ unfolding endsFrom
 length-ends k before [] ws = refl
 length-ends k before (e ∷ ends) ws = ap suc (length-ends k e ends (drop (within k before e) ws))
 
+pub length-keys : (k : ℕ) (ends ws : List ℕ) → length (weights (endsFrom k 0 ends ws)) ≡ 2 * length ends
+length-keys k ends ws = omega (arith, length-weights (endsFrom k 0 ends ws), length-ends k 0 ends ws)
+
 -- ─── one string more ─────────────────────────────────────────────────────────
 
 module _ (k before : ℕ) (ends ws : List ℕ) (i passed : ℕ) (l : i < length ends) where
   pub ends-next : weights (endsFrom k before (drop i ends) (drop passed ws))
       ≡ getD ws passed 0 ∷ (getD ws (passed + (within k before (getD ends i 0) - 1)) 0
-        ∷ weights (endsFrom k (getD ends i 0) (drop (i + 1) ends) (drop (passed + within k before (getD ends i 0)) ws)))
+      ∷ weights (endsFrom k (getD ends i 0) (drop (i + 1) ends) (drop (passed + within k before (getD ends i 0)) ws)))
   unfolding endsFrom weights
   ends-next =
       let z : passed + 0 ≡ passed = omega arith in
       ap (λ (L : List ℕ). weights (endsFrom k before L (drop passed ws))) (drop-next ends i 0 l)
       ∙ (ap₂ (λ (x y : ℕ). x ∷ (y ∷ weights (endsFrom k (getD ends i 0) (drop (i + 1) ends) (drop (within k before (getD ends i 0)) (drop passed ws)))))
-        (getD-drop passed ws 0 0 ∙ ap (λ (j : ℕ). getD ws j 0) z) (getD-drop passed ws (within k before (getD ends i 0) - 1) 0)
+      (getD-drop passed ws 0 0 ∙ ap (λ (j : ℕ). getD ws j 0) z) (getD-drop passed ws (within k before (getD ends i 0) - 1) 0)
       ∙ ap (λ (L : List ℕ). getD ws passed 0 ∷ (getD ws (passed + (within k before (getD ends i 0) - 1)) 0 ∷ weights (endsFrom k (getD ends i 0) (drop (i + 1) ends) L)))
-        (drop-drop (within k before (getD ends i 0)) passed ws))
+      (drop-drop (within k before (getD ends i 0)) passed ws))
 
   -- the weights that are left are those of the strings that are left
   pub left-next : passed + length (kmersFrom k before (drop i ends)) ≡ length ws

@@ -1,11 +1,13 @@
 -- Laws of numbers at equal steps.
-use mathlib.Core.Path.{_≡_, refl, ap, _∙_}
+use mathlib.Core.Path.{_≡_, refl, ap, sym, subst, _∙_}
 use mathlib.Core.List.{List, [], _∷_}
 use Prim.Native.Nat.{ℕ, zero, suc, _+_, _-_, _*_, _^_, _<_, _≤_}
 use native.Mathlib.Nat.{suc-mul, zero-mul}
 use native.Mathlib.Omega.{arith}
 use lib.ListN.{length, getD, set, replicate}
 use Rattle.lists.specs.Fill.{put}
+use Rattle.lists.specs.Regions.{part, Apart}
+use Rattle.lists.proofs.Puts.{put-part, put-other}
 use Rattle.lists.proofs.Storing.{Storing, begin-at, inside, store, restated, stored}
 use Rattle.vertices.specs.Ladder.{ladder}
 
@@ -74,3 +76,16 @@ module _ {at n first step : ℕ} {w₀ w : List ℕ} {x i : ℕ} (c : Climbing a
 
   pub climb-end : n ≤ i → w ≡ put at (ladder first step n) w₀
   climb-end h = stored (restated (ladder-end x step n i h) (c .storing))
+
+-- ─── the table with a ladder in it ───────────────────────────────────────────
+
+module _ (at n x step : ℕ) (w : List ℕ) {v : List ℕ} (e : v ≡ put at (ladder x step n) w) (h : at + n ≤ length w) where
+  pub ladder-part : part at n v ≡ ladder x step n
+  ladder-part =
+      subst (λ (k : ℕ). part at k v ≡ ladder x step n) (length-ladder x step n)
+      (subst (λ (u : List ℕ). part at (length (ladder x step n)) u ≡ ladder x step n) (sym e) (put-part at (ladder x step n) w (omega (arith, length-ladder x step n))))
+
+  pub ladder-other : (b k : ℕ) → Apart b k at n → b + k ≤ length w → part b k v ≡ part b k w
+  ladder-other b k d l =
+      subst (λ (u : List ℕ). part b k u ≡ part b k w) (sym e)
+      (put-other at (ladder x step n) w (omega (arith, length-ladder x step n)) b k (subst (Apart b k at) (sym (length-ladder x step n)) d) l)

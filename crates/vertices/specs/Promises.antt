@@ -33,6 +33,11 @@ pub record Ordered (m : ℕ) (keys w : List ℕ) : Type 0 where
   pub keys-are : part (12 * m) (2 * m) w ≡ keys
   pub order-is : part (5 * m) (2 * m) w ≡ sortBy (keyAt keys) (countFrom 0 (2 * m))
 
+-- the order has numbers of ends only, and the weights rise in it
+pub record Rising (m : ℕ) (keys order : List ℕ) : Type 0 where
+  pub low : (q : ℕ) → q < 2 * m → getD order q 0 < 2 * m
+  pub rises : (p q : ℕ) → p ≤ q → q < 2 * m → keyed keys order p ≤ keyed keys order q
+
 -- Each end has its vertex; nothing else differs from w.
 pub record Named (m : ℕ) (keys order w v : List ℕ) : Type 0 where
   pub vertex : (q : ℕ) → q < 2 * m → getD (part 0 (2 * m) v) (getD order q 0) 0 ≡ firstOf (keyed keys order) q

@@ -11,7 +11,7 @@ ghost use Rattle.trails.specs.Strings.{weights as endsIn};
 ghost use Rattle.tours.specs.Layout.{Fits};
 ghost use Rattle.vertices.specs.EndWeights.{endsFrom};
 ghost use Rattle.vertices.specs.Ladder.{ladder};
-ghost use Rattle.vertices.specs.Promises.{Strung, Ordered, Named, Blank, Marked, LaidOut};
+ghost use Rattle.vertices.specs.Promises.{Strung, Ordered, Rising, Named, Blank, Marked, LaidOut};
 
 // A number as an index.
 fn wide(x: u32) -> usize
@@ -51,4 +51,82 @@ fn write_weights(k: usize, ends: &[u32], weights: &[u32], work: &mut [u32], at: 
         before = e;
         i += 1;
     }
+}
+
+// The end weights at 12m, and their numbers at 5m in the order of the weights.
+fn order_ends(k: usize, ends: &[u32], weights: &[u32], work: &mut [u32])
+    requires { ⌜ Strung k (now ends) (now weights) × Fits (length (now ends)) (now work) ⌝ }
+    ensures { λ _. ⌜ Ordered (length (now (ends .entry))) (endsIn (endsFrom k 0 (now (ends .entry)) (now (weights .entry)))) (now (work .exit)) ⌝ }
+{
+    let m = ends.len();
+    write_weights(k, ends, weights, work, 12 * m);
+    write_ladder(work, 5 * m, 2 * m, 0, 1);
+    sorting::inner::sort_by_weight(work, 12 * m, 5 * m, 9 * m, 2 * m);
+}
+
+// The vertex of place q, whose weight is x: that of the place before, v, if the weight there is the same.
+fn vertex_of(x: u32, before: u32, v: usize, q: usize) -> usize
+    ensures { λ r. ⌜ r ≡ choose (eqb x before) v q ⌝ }
+{
+    if x == before {
+        return v;
+    }
+    q
+}
+
+// Gives each end its vertex: the first place in the order with its weight.
+fn name_vertices(work: &mut [u32], m: usize)
+    requires { ⌜ Fits m (now work) ⌝ }
+    requires { ⌜ Rising m (part (12 * m) (2 * m) (now work)) (part (5 * m) (2 * m) (now work)) ⌝ }
+    ensures { λ _. ⌜ Named m (part (12 * m) (2 * m) (now (work .entry))) (part (5 * m) (2 * m) (now (work .entry))) (now (work .entry)) (now (work .exit)) ⌝ }
+{
+    let mut v: usize = 0;
+    let mut before: u32 = 0;
+    let mut q: usize = 0;
+    while q < 2 * m {
+        let c = wide(work[5 * m + q]);
+        let x = work[12 * m + c];
+        v = vertex_of(x, before, v, q);
+        before = x;
+        work[c] = v as u32;
+        q += 1;
+    }
+}
+
+// The hub's row, all cursors, and the flags: strings unused, spokes used.
+fn blank(work: &mut [u32], m: usize)
+    requires { ⌜ Fits m (now work) ⌝ }
+    ensures { λ _. ⌜ Blank m (now (work .entry)) (now (work .exit)) ⌝ }
+{
+    write_ladder(work, 7 * m, 2 * m, (2 * m) as u32, 2);
+    write_ladder(work, 9 * m, 3 * m, 0, 1);
+    write_ladder(work, 2 * m, m, 0, 0);
+    write_ladder(work, 3 * m, 2 * m, 1, 0);
+}
+
+// Turns the flag of a vertex's spoke for each end at it, so that the spokes to odd vertices are unused.
+fn mark_odd(work: &mut [u32], m: usize)
+    requires { ⌜ Fits m (now work) ⌝ }
+    requires { ⌜ All (λ x. x < 2 * m) (part 0 (2 * m) (now work)) ⌝ }
+    requires { ⌜ part (3 * m) (2 * m) (now work) ≡ ladder 1 0 (2 * m) ⌝ }
+    ensures { λ _. ⌜ Marked m (now (work .entry)) (now (work .exit)) ⌝ }
+{
+    let mut c = 0;
+    while c < 2 * m {
+        let at = 3 * m + wide(work[c]);
+        work[at] = 1 - work[at];
+        c += 1;
+    }
+}
+
+// Lays out the table for the walks.
+pub fn lay_out(k: usize, ends: &[u32], weights: &[u32], work: &mut [u32])
+    requires { ⌜ Strung k (now ends) (now weights) × Fits (length (now ends)) (now work) ⌝ }
+    ensures { λ _. ⌜ LaidOut k (length (now (ends .entry))) (now (ends .entry)) (now (weights .entry)) (now (work .exit)) ⌝ }
+{
+    let m = ends.len();
+    order_ends(k, ends, weights, work);
+    name_vertices(work, m);
+    blank(work, m);
+    mark_odd(work, m);
 }
