@@ -13,3 +13,4 @@ pub mod Sorts
 pub mod Radix
 pub mod Regions
 pub mod Zeroed
+pub mod Puts

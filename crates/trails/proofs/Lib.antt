@@ -11,4 +11,5 @@ pub mod Walk
 pub mod Hub
 pub mod Upper
 pub mod Bounds
+pub mod Renamed
 pub mod Examples

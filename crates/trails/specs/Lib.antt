@@ -5,3 +5,4 @@ pub mod Paths
 pub mod Places
 pub mod Groups
 pub mod Bounds
+pub mod Renamed

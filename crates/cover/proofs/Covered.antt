@@ -1,0 +1,164 @@
+-- The halves of all walks give places with the fewest paths: without the spokes they are an order that has the least number of paths,
+-- and the places put the strings into that order.
+use mathlib.Core.Path.{_≡_, refl, ap, ap₂, sym, _∙_, subst}
+use mathlib.Core.Bool.{Bool, true, false}
+use mathlib.Core.List.{List, [], _∷_, _++_, map, append-nil}
+use Prim.Native.Nat.{ℕ, zero, suc, _+_, _-_, _*_, _/_, _<_, _≤_}
+use native.Mathlib.Omega.{arith}
+use native.Mathlib.Decide.{ℕ-discrete}
+use lib.IntN.{ℤ, pos}
+use lib.ListN.{length, getD, drop, length-map, length-append, length-drop, drop-of-length-le}
+use Rattle.lists.specs.Fill.{put}
+use Rattle.trails.specs.Counting.{occurs, oddly, sumBelow}
+use Rattle.trails.specs.Groups.{countOdd, oddWeights, least}
+use Rattle.trails.specs.Paths.{pathCount}
+use Rattle.trails.specs.Places.{signed, SignedPermutation, arranged}
+use Rattle.trails.specs.Renamed.{Renamed}
+use Rattle.trails.specs.Strings.{Ends, front, back, turned, weights}
+use Rattle.trails.proofs.Arranged.{marked, marked-permutation, marked-arranged}
+use Rattle.trails.proofs.Counting.{oddly-le}
+use Rattle.trails.proofs.Hub.{spokes, spoked, limit, unspoked}
+use Rattle.trails.proofs.Orders.{length-reordered}
+use Rattle.trails.proofs.Paths.{paths-none, paths-append, chain-one-path}
+use Rattle.trails.proofs.Renamed.{renamed-length, renamed-paths, renamed-least}
+use Rattle.trails.proofs.Upper.{toured-reordered, toured-answer, toured-least}
+use Rattle.tours.specs.Layout.{Tables}
+use Rattle.tours.specs.Halves.{near, gone, numbered}
+use Rattle.tours.specs.Rows.{Graph}
+use Rattle.tours.specs.States.{along, numbers, strings, Done}
+use Rattle.tours.proofs.Tours.{hub-fresh}
+use Rattle.cover.specs.Cover.{Fewest}
+use Rattle.vertices.specs.Ladder.{ladder}
+use Rattle.vertices.proofs.Ladder.{length-ladder}
+use Rattle.cover.specs.Placing.{placeAll, Covering}
+use Rattle.cover.proofs.Placing.{marks, names-placed, length-all, unspoked-marks}
+
+-- ─── how many spokes there are ───────────────────────────────────────────────
+
+length-spokes : (h : ℕ) (ws : List ℕ) (n : ℕ) → length (spokes h ws n) ≡ sumBelow n (oddly ws)
+unfolding spokes sumBelow
+length-spokes h ws zero = refl
+length-spokes h ws (suc n) = go (ℕ-discrete (oddly ws n) 0) (length-spokes h ws n)
+  where
+    go : Dec (oddly ws n ≡ 0) → length (spokes h ws n) ≡ sumBelow n (oddly ws) → length (spokes h ws (suc n)) ≡ oddly ws n + sumBelow n (oddly ws)
+    go (yes e) ih = rw e (omega (arith, ih))
+    go (no q) ih = let e : oddly ws n ≡ 1 = omega (arith, oddly-le ws n) in rw e (omega (arith, ih))
+
+length-spoked : (h : ℕ) (L : List Ends) → length (spoked h L) ≡ oddWeights L + length L
+unfolding oddWeights countOdd
+length-spoked h L = omega (arith, length-append (spokes h (weights L) (limit L)) L, length-spokes h (weights L) (limit L))
+
+length-numbered : (f : ℕ → ℕ) (e n : ℕ) → length (numbered f e n) ≡ n
+unfolding numbered
+length-numbered f e zero = refl
+length-numbered f e (suc n) = ap suc (length-numbered f (suc e) n)
+
+-- there are not more paths than strings
+paths-few : (L : List Ends) → pathCount L ≤ length L
+paths-few [] = omega (arith, paths-none)
+paths-few (s ∷ L) = omega (arith, paths-append (s ∷ []) L, chain-one-path (front s) (s ∷ []) (back s) (refl, refl), paths-few L)
+
+-- a table that is written over as a whole
+put-all : {A : Type 0} (xs w : List A) → length xs ≡ length w → put 0 xs w ≡ xs
+put-all xs w e =
+    let l : length w ≤ 0 + length xs = omega arith in
+    ap (λ (L : List _). xs ++ L) (drop-of-length-le w l) ∙ append-nil xs
+
+-- ─── the places ──────────────────────────────────────────────────────────────
+
+module _ {m : ℕ} {t u : Tables} {z walks : ℕ} (g : Graph m (t .verts) (t .rows)) (d : Done m t u z walks) where
+  abbrev halves : List ℕ
+  halves = drop z (u .stack)
+
+  in-order : unspoked (2 * m) (along m t halves) ≡ map (marked turned (0, 0) (strings m t)) (marks m halves)
+  in-order = unspoked-marks m (t .verts) (g .verts-low) halves
+
+  count-strings : length (strings m t) ≡ m
+  count-strings = length-numbered (near m (t .verts)) 0 m
+
+  count-marks : length (marks m halves) ≡ m
+  count-marks =
+      omega (
+        arith,
+        length-map (marks m halves) (marked turned (0, 0) (strings m t)),
+        ap length in-order,
+        length-reordered (toured-reordered (hub-fresh m t g) (d .toured)),
+        count-strings,
+      )
+
+  -- O is what the stack has beyond the strings
+  odd-count : oddWeights (strings m t) + m + z ≡ 3 * m
+  odd-count =
+      omega (
+        arith,
+        length-reordered (d .toured .all),
+        length-spoked (2 * m) (strings m t),
+        count-strings,
+        length-map halves (gone (near m (t .verts))),
+        length-drop z (u .stack),
+        d .size,
+        d .high,
+      )
+
+  pub start-low : z ≤ 2 * m
+  start-low = omega (arith, odd-count)
+
+  -- the number of paths
+  paths-counted : (2 * m - z) / 2 + walks ≡ least (strings m t)
+  paths-counted = omega (arith, odd-count, toured-answer (hub-fresh m t g) (d .toured))
+
+  pub paths-low : (2 * m - z) / 2 + walks ≤ m
+  paths-low =
+      omega (
+        arith,
+        paths-counted,
+        toured-least (hub-fresh m t g) (d .toured),
+        paths-few (unspoked (2 * m) (along m t halves)),
+        length-reordered (toured-reordered (hub-fresh m t g) (d .toured)),
+        count-strings,
+      )
+
+  module _ (ps : List ℤ) (l : length ps ≡ m) where
+    each-placed : (n : ℕ) → n < m
+        → (getD (marks m halves) n (0, false) .0 < m) × (getD (placeAll m 0 halves ps) (getD (marks m halves) n (0, false) .0) (pos 0) ≡ signed (suc n) (getD (marks m halves) n (0, false) .1))
+    each-placed n b =
+        let r = names-placed m 0 halves ps l (λ e h. omega (arith, d .once e h)) n (omega (arith, count-marks)) in
+        let q : 0 + suc n ≡ suc n = omega arith in
+        (r .0, r .1 ∙ ap (λ (i : ℕ). signed i (getD (marks m halves) n (0, false) .1)) q)
+
+    places-size : length (placeAll m 0 halves ps) ≡ m
+    places-size = length-all m 0 halves ps ∙ l
+
+    places-permute : SignedPermutation m (placeAll m 0 halves ps)
+    places-permute = marked-permutation turned (0, 0) m (placeAll m 0 halves ps) (strings m t) (marks m halves) places-size count-strings count-marks each-placed
+
+    places-least : pathCount (arranged turned (placeAll m 0 halves ps) (strings m t)) ≡ least (strings m t)
+    places-least =
+        ap pathCount
+        (marked-arranged turned (0, 0) m (placeAll m 0 halves ps) (strings m t) (marks m halves) places-size count-strings count-marks each-placed ∙ sym in-order)
+        ∙ toured-least (hub-fresh m t g) (d .toured)
+
+    -- ─── the same for the strings by their weights ───────────────────────────
+
+    module _ {L : List Ends} (r : Renamed L (strings m t)) where
+      permute-named : SignedPermutation (length (strings m t)) (placeAll m 0 halves ps)
+      permute-named = subst (λ (n : ℕ). SignedPermutation n (placeAll m 0 halves ps)) (sym count-strings) places-permute
+
+      covered-fewest : Fewest L (placeAll m 0 halves ps)
+      covered-fewest = record {
+        permutation = subst (λ (n : ℕ). SignedPermutation n (placeAll m 0 halves ps)) (sym (renamed-length r)) permute-named;
+        fewest = renamed-paths r (placeAll m 0 halves ps) permute-named ∙ (places-least ∙ renamed-least r);
+      }
+
+      covered-paths : (2 * m - z) / 2 + walks ≡ least L
+      covered-paths = paths-counted ∙ renamed-least r
+
+      -- what the call leaves: qs are the places, v the table of zeros
+      pub covering : {qs : List ℤ} (w : List ℕ) {v : List ℕ} → qs ≡ placeAll m 0 halves ps → v ≡ put 0 (ladder 0 0 (16 * m)) w → length w ≡ 16 * m
+          → Covering L m qs v ((2 * m - z) / 2 + walks)
+      covering {qs} w {v} e f s = record {
+        paths = covered-paths;
+        places-fewest = subst (Fewest L) (sym e) covered-fewest;
+        places-size = ap length e ∙ places-size;
+        work-zero = f ∙ put-all (ladder 0 0 (16 * m)) w (length-ladder 0 0 (16 * m) ∙ sym s);
+      }

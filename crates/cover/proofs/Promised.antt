@@ -1,0 +1,125 @@
+-- COVER's promise from its verdict: refused, with no strings, and done.
+use mathlib.Core.Path.{_≡_, refl, ap, sym, _∙_, subst}
+use mathlib.Core.List.{List, [], _∷_, _++_}
+use Prim.Native.Nat.{ℕ, zero, suc, _+_, _*_, _<_, _≤_}
+use native.Mathlib.Omega.{arith}
+use lib.IntN.{ℤ}
+use lib.ListN.{length, take, drop, replicate, length-replicate}
+use lib.Seq.{length-take-le}
+use Rattle.lists.specs.Fill.{fill}
+use Rattle.collection.specs.declared.Verdict.{Verdict}
+use Rattle.collection.specs.declared.Verdict.the-variants.{Good, Bad}
+use Rattle.collection.specs.Judge.{collectionVerdict}
+use Rattle.collection.specs.Kmers.{kmers}
+use Rattle.collection.specs.Strings.{stringsFrom}
+use Rattle.collection.specs.Verdict.{andThen, settle, roomVerdict}
+use Rattle.collection.proofs.Judged.{Judged, collection-good, shape-long}
+use Rattle.collection.proofs.Kmers.{kmers-counted}
+use Rattle.collection.proofs.Verdicts.{both-good, room-good, refused, settled}
+use Rattle.trails.specs.Groups.{least}
+use Rattle.trails.specs.Strings.{Ends}
+use Rattle.trails.specs.Places.{SignedPermutation, arrangedTo}
+use Rattle.trails.proofs.Bounds.{no-strings}
+use Rattle.trails.proofs.Paths.{paths-none}
+use Rattle.tours.specs.Layout.{Fits}
+use Rattle.vertices.specs.EndWeights.{endWeights, endsFrom}
+use Rattle.vertices.specs.Ladder.{ladder}
+use Rattle.vertices.specs.Promises.{Strung}
+use Rattle.vertices.proofs.EndWeights.{end-weights}
+use Rattle.vertices.proofs.Ladder.{ladder-zeros}
+use Rattle.cover.specs.declared.CoverAnswer.{CoverAnswer}
+use Rattle.cover.specs.declared.CoverAnswer.the-variants.{Covered, Refused}
+use Rattle.cover.specs.Cover.{coverVerdict, Fewest, PlacesAfter, CoverOf}
+use Rattle.cover.specs.Placing.{Covering}
+
+-- ─── what a good verdict tells ───────────────────────────────────────────────
+
+pub record Roomy (k : ℕ) (letters ends weights : List ℕ) (places : List ℤ) (work : List ℕ) : Type 0 where
+  pub judged : Judged k letters ends weights
+  pub places-room : length ends ≤ length places
+  pub work-room : 16 * length ends ≤ length work
+
+pub cover-good : (k : ℕ) (letters ends weights : List ℕ) (places : List ℤ) (work : List ℕ) → coverVerdict k letters ends weights places work ≡ Good → Roomy k letters ends weights places work
+unfolding coverVerdict
+cover-good k letters ends weights places work h =
+    let a = both-good (collectionVerdict k letters ends weights) _ h in
+    let b = both-good (roomVerdict (length places) (length ends)) _ (a .1) in
+    record {
+      judged = collection-good k letters ends weights (a .0);
+      places-room = room-good (length places) (length ends) (b .0);
+      work-room = room-good (length work) (16 * length ends) (b .1);
+    }
+
+module _ {k : ℕ} {letters ends weights : List ℕ} {places : List ℤ} {work : List ℕ} (r : Roomy k letters ends weights places work) where
+  counted : length weights ≡ length (kmers k ends)
+  counted = r .judged .counted ∙ sym (kmers-counted (r .judged .shape))
+
+  pub strung : Strung k ends weights
+  strung = record {
+    ends-long = shape-long (r .judged .shape);
+    few-letters = omega (arith, r .judged .shape .last, r .judged .shape .N-high);
+    counted = counted;
+    in-range = r .judged .all-weights;
+  }
+
+  pub same-ends : endsFrom k 0 ends weights ≡ endWeights k letters ends weights
+  same-ends = sym (end-weights k letters ends weights (r .judged .shape .long) counted)
+
+  -- the parts that are lent
+  pub work-fits : (length ends ≡ 0 → ⊥) → Fits (length ends) (take (16 * length ends) work)
+  work-fits h = record { some = omega arith; few = r .judged .shape .m-high; size = length-take-le (16 * length ends) work (r .work-room) }
+
+  pub places-fit : length (take (length ends) places) ≡ length ends
+  places-fit = length-take-le (length ends) places (r .places-room)
+
+-- ─── the three ends of a call ────────────────────────────────────────────────
+
+module _ {verdict : Verdict} {strings : List Ends} {m : ℕ} {places : List ℤ} {work : List ℕ} where
+  pub cover-refused : {number place : ℕ} → verdict ≡ Bad number place → CoverOf verdict strings m places work (Refused number place) places work
+  cover-refused e = record {
+    answered = refused Refused _ e;
+    cleared = refused (λ number place. work) _ e;
+    placed = subst (λ (v : Verdict). PlacesAfter v strings places places) (sym e) refl;
+  }
+
+  pub cover-done : verdict ≡ Good → {qs places' : List ℤ} {v work' : List ℕ} {n : ℕ} → Covering strings m qs v n → places' ≡ qs ++ drop m places → work' ≡ v ++ drop (16 * m) work
+      → CoverOf verdict strings m places work (Covered m n) places' work'
+  cover-done e {qs} {places'} {v} {work'} {n} c p w = record {
+    answered = settled Refused (ap (Covered m) (c .paths)) e;
+    cleared = settled (λ number place. work) (w ∙ zeros) e;
+    placed = subst (λ (x : Verdict). PlacesAfter x strings places places') (sym e) (qs, p ∙ ap (λ (i : ℕ). qs ++ drop i places) (sym (c .places-size)), c .places-fewest);
+  }
+    where
+      zeros : v ++ drop (16 * m) work ≡ fill (replicate (16 * m) 0) work
+      zeros =
+          ap (λ (x : List ℕ). x ++ drop (16 * m) work) (c .work-zero ∙ ladder-zeros (16 * m))
+          ∙ ap (λ (i : ℕ). replicate (16 * m) 0 ++ drop i work) (sym (length-replicate (16 * m) 0))
+
+-- no strings: nothing to fill
+nothing-permuted : SignedPermutation 0 []
+nothing-permuted = record { number = refl; range = tt; once = λ k a b. absurd (omega arith) }
+
+fewest-none : Fewest [] []
+unfolding arrangedTo
+fewest-none = record { permutation = nothing-permuted; fewest = paths-none ∙ sym (no-strings .2) }
+
+no-ends : (k : ℕ) (letters ends weights : List ℕ) → length ends ≡ 0 → endWeights k letters ends weights ≡ []
+unfolding endWeights stringsFrom
+no-ends k letters [] weights e = refl
+no-ends k letters (x ∷ ends) weights e = absurd (omega arith)
+
+pub cover-none : {verdict : Verdict} (k : ℕ) (letters ends weights : List ℕ) {places : List ℤ} {work : List ℕ} → verdict ≡ Good → length ends ≡ 0
+    → CoverOf verdict (endWeights k letters ends weights) (length ends) places work (Covered 0 0) places work
+cover-none {verdict} k letters ends weights {places} {work} e z =
+    subst (λ (m : ℕ). CoverOf verdict (endWeights k letters ends weights) m places work (Covered 0 0) places work) (sym z)
+    (subst (λ (L : List Ends). CoverOf verdict L 0 places work (Covered 0 0) places work) (sym (no-ends k letters ends weights z))
+    (cover-done e (record { paths = sym (no-strings .2); places-fewest = fewest-none; places-size = refl; work-zero = nil }) refl refl))
+  where
+    nil : [] ≡ ladder 0 0 (16 * 0)
+    nil = unfold ladder in refl
+
+-- all strings covered, in parts of the lent tables
+pub cover-all : {verdict : Verdict} {k : ℕ} {letters ends weights : List ℕ} {places : List ℤ} {work : List ℕ} → Roomy k letters ends weights places work → verdict ≡ Good
+    → {qs : List ℤ} {v : List ℕ} {n : ℕ} → Covering (endsFrom k 0 ends weights) (length ends) qs v n
+    → CoverOf verdict (endWeights k letters ends weights) (length ends) places work (Covered (length ends) n) (qs ++ drop (length ends) places) (v ++ drop (16 * length ends) work)
+cover-all {ends = ends} r e {qs} {v} {n} c = cover-done e (subst (λ (L : List Ends). Covering L (length ends) qs v n) (same-ends r) c) refl refl

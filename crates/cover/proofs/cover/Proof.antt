@@ -1,0 +1,88 @@
+-- `cover` meets its contract: the verdict, then the strings covered in parts of the lent tables (proofs/Promised).
+use mathlib.Core.Path.{_≡_, sym, _∙_}
+use native.Mathlib.Omega.{arith}
+use Rattle.cover.proofs.Promised.{cover-good, strung, work-fits, places-fit, cover-refused, cover-none, cover-all}
+use borrow.Author.Needs.{needs}
+use Rattle.cover.proofs.cover.Statement.{statement}
+use Rattle.cover.proofs.cover.Tie as tie
+
+judge-cover-requires : tie.Need-judge-cover-requires
+judge-cover-requires c κs = search needs
+
+enum-known-v : tie.Need-enum-known-v
+enum-known-v c = search needs
+
+same-length : tie.Need-same-length
+same-length c = search needs
+
+same-length-2 : tie.Need-same-length-2
+same-length-2 c = search needs
+
+returns : tie.Need-returns
+returns c = cover-refused (sym (c .before .before .before .judge-cover .ensures) ∙ c .before .v .given .1)
+
+enum-told : tie.Need-enum-told
+enum-told c = search needs
+
+same-length-3 : tie.Need-same-length-3
+same-length-3 c = search needs
+
+same-length-4 : tie.Need-same-length-4
+same-length-4 c = search needs
+
+returns-2 : tie.Need-returns-2
+returns-2 c = cover-none _ _ _ _ (sym (c .before .before .before .judge-cover .ensures) ∙ c .before .enum-told .given .1) (c .if1 .taken)
+
+mul-need : tie.Need-mul-need
+mul-need c = let r = cover-good _ _ _ _ _ _ (sym (c .before .before .before .judge-cover .ensures) ∙ c .before .enum-told .given .1) in omega (arith, r .judged .shape .m-high)
+
+slice-relend-prefix-cover-strings : tie.Need-slice-relend-prefix-cover-strings
+slice-relend-prefix-cover-strings c = cover-good _ _ _ _ _ _ (sym (c .before .before .before .judge-cover .ensures) ∙ c .before .enum-told .given .1) .places-room
+
+slice-aggregate-cover-strings : tie.Need-slice-aggregate-cover-strings
+slice-aggregate-cover-strings c = sym (places-fit (cover-good _ _ _ _ _ _ (sym (c .before .before .before .before .judge-cover .ensures) ∙ c .before .before .enum-told .given .1)))
+
+slice-relend-prefix-cover-strings-2 : tie.Need-slice-relend-prefix-cover-strings-2
+slice-relend-prefix-cover-strings-2 c = cover-good _ _ _ _ _ _ (sym (c .before .before .before .before .judge-cover .ensures) ∙ c .before .before .enum-told .given .1) .work-room
+
+slice-aggregate-cover-strings-2 : tie.Need-slice-aggregate-cover-strings-2
+slice-aggregate-cover-strings-2 c = sym (work-fits (cover-good _ _ _ _ _ _ (sym (c .before .before .before .before .before .judge-cover .ensures) ∙ c .before .before .before .enum-told .given .1)) (c .before .before .if1 .left) .size)
+
+cover-strings-requires : tie.Need-cover-strings-requires
+cover-strings-requires c κs =
+    let r = cover-good _ _ _ _ _ _ (sym (c .before .before .before .before .before .judge-cover .ensures) ∙ c .before .before .before .enum-told .given .1) in
+    (strung r, work-fits r (c .before .before .if1 .left), places-fit r)
+
+same-length-5 : tie.Need-same-length-5
+same-length-5 c = search needs
+
+same-length-6 : tie.Need-same-length-6
+same-length-6 c = search needs
+
+returns-3 : tie.Need-returns-3
+returns-3 c =
+    let e = sym (c .before .before .before .before .before .before .before .before .before .judge-cover .ensures) ∙ c .before .before .before .before .before .before .before .enum-told .given .1 in
+    cover-all (cover-good _ _ _ _ _ _ e) e (c .before .before .before .cover-strings .ensures)
+
+pub cover-spec : {M : Type 1} → statement M
+cover-spec =
+    tie.close
+    (tie.spec
+    judge-cover-requires
+    enum-known-v
+    same-length
+    same-length-2
+    returns
+    enum-told
+    same-length-3
+    same-length-4
+    returns-2
+    mul-need
+    slice-relend-prefix-cover-strings
+    slice-aggregate-cover-strings
+    slice-relend-prefix-cover-strings-2
+    slice-aggregate-cover-strings-2
+    cover-strings-requires
+    same-length-5
+    same-length-6
+    returns-3)

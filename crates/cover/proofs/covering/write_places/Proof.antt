@@ -1,0 +1,75 @@
+-- `write_places` meets its contract: each turn is one half (proofs/Placing).
+use mathlib.Core.Path.{refl, _∙_}
+use Prim.Native.Nat.{_-_, _*_}
+use native.Mathlib.Omega.{arith}
+use Rattle.tours.specs.Layout.{tables}
+use Rattle.tours.proofs.Regions.{stack-at, stack-size}
+use Rattle.cover.proofs.Placing.{Standing, standing-on, standing-end}
+use borrow.Author.Needs.{needs}
+use Rattle.cover.proofs.covering.write_places.Statement.{statement}
+use Rattle.cover.proofs.covering.write_places.Tie as tie
+
+abbrev Inv-loop : tie.InvT-loop
+Inv-loop work m start places₀ n₀ p₀ places n p = Standing m start (tables m work .stack) places₀ places n p
+
+abbrev μ-loop : tie.MeasureT-loop
+μ-loop work m start places₀ n₀ p₀ places n p = 3 * m - p
+
+loop-holds : tie.Need-loop-holds Inv-loop μ-loop
+loop-holds c = record { inside = c .before .pre .1; few = omega arith; size = c .before .pre .2; rest = refl }
+
+mul-loop : tie.Need-mul-loop Inv-loop μ-loop
+mul-loop c = omega (arith, c .before .before .pre .0 .few)
+
+mul-wide : tie.Need-mul-wide Inv-loop μ-loop
+mul-wide c = search needs
+
+add-wide : tie.Need-add-wide Inv-loop μ-loop
+add-wide c = search needs
+
+mul-wide-2 : tie.Need-mul-wide-2 Inv-loop μ-loop
+mul-wide-2 c = search needs
+
+shared-slice-read-wide : tie.Need-shared-slice-read-wide Inv-loop μ-loop
+shared-slice-read-wide c = search needs
+
+wide-requires : tie.Need-wide-requires Inv-loop μ-loop
+wide-requires c κs = search needs
+
+place-one-requires : tie.Need-place-one-requires Inv-loop μ-loop
+place-one-requires c κs = (c .before .before .before .before .loop .inv .size, omega (arith, c .before .before .before .before .before .before .pre .0 .few, c .before .before .before .before .loop .inv .few))
+
+add-p : tie.Need-add-p Inv-loop μ-loop
+add-p c = search needs
+
+loop-less : tie.Need-loop-less Inv-loop μ-loop
+loop-less c = search needs
+
+loop-again : tie.Need-loop-again Inv-loop μ-loop
+loop-again c = standing-on (c .before .before .before .before .before .before .loop .inv) (stack-size (c .before .before .before .before .before .before .before .before .pre .0)) (c .before .before .before .before .before .loop-test .taken) _ (c .before .before .before .wide .ensures ∙ stack-at _ _ _ (c .before .before .before .before .before .loop-test .taken)) (c .before .place-one .ensures .0) (c .before .place-one .ensures .1)
+
+same-length : tie.Need-same-length Inv-loop μ-loop
+same-length c = omega (arith, c .before .loop .inv .size, c .before .before .before .pre .2)
+
+returns : tie.Need-returns Inv-loop μ-loop
+returns c = standing-end (c .before .loop .inv) (stack-size (c .before .before .before .pre .0)) (c .loop-test .left)
+
+pub write-places-spec : {M : Type 1} → statement M
+write-places-spec =
+    tie.close
+    (tie.spec
+    Inv-loop
+    μ-loop
+    loop-holds
+    mul-loop
+    mul-wide
+    add-wide
+    mul-wide-2
+    shared-slice-read-wide
+    wide-requires
+    place-one-requires
+    add-p
+    loop-less
+    loop-again
+    same-length
+    returns)

@@ -1,0 +1,3 @@
+-- What COVER promises.
+pub mod Cover
+pub mod Placing

@@ -1,0 +1,2 @@
+-- What "fewest runs" means of a collection.
+pub mod Fewest

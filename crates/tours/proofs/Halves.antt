@@ -1,0 +1,87 @@
+-- Laws of halves: where they start, what stays unused when one is taken, and when none is left at a vertex.
+use mathlib.Core.Path.{_≡_, refl, ap, ap₂, sym, _∙_, subst}
+use mathlib.Core.List.{List, [], _∷_, _++_}
+use Prim.Native.Nat.{ℕ, zero, suc, _+_, _-_, _*_, _/_, _%_, _≤_, _<_}
+use native.Mathlib.Omega.{arith}
+use native.Mathlib.Decide.{ℕ-discrete}
+use borrow.Author.Tests.{lt-ltb, le-ltb, eq-eqb, ne-eqb}
+use lib.ListN.{length, getD, set}
+use Rattle.trails.specs.Counting.{agree, occurs}
+use Rattle.trails.specs.Strings.{Ends, weights}
+use Rattle.trails.proofs.Counting.{agree-same, agree-other}
+use Rattle.trails.proofs.Orders.{Reordered, keep, turn, exchange, both, unmoved, occurs-reordered}
+use Rattle.tours.specs.Halves.{near, other, gone, unused}
+
+-- ─── where a half starts ─────────────────────────────────────────────────────
+
+module _ (m : ℕ) (verts : List ℕ) (c : ℕ) where
+  pub near-string : c < 2 * m → near m verts c ≡ getD verts c 0
+  unfolding near
+  near-string h = rw (lt-ltb c (2 * m) h)
+
+  pub near-hub : 2 * m ≤ c → c % 2 ≡ 0 → near m verts c ≡ 2 * m
+  unfolding near
+  near-hub h e = rw (le-ltb c (2 * m) h, eq-eqb (c % 2) 0 e)
+
+  pub near-spoke : 2 * m ≤ c → (c % 2 ≡ 0 → ⊥) → near m verts c ≡ c / 2 - m
+  unfolding near
+  near-spoke h e = rw (le-ltb c (2 * m) h, ne-eqb (c % 2) 0 e)
+
+-- ─── one more is used ────────────────────────────────────────────────────────
+
+module _ (f : ℕ → ℕ) where
+  use-one : (e : ℕ) (flags : List ℕ) (i : ℕ) → i < length flags → getD flags i 0 ≡ 0
+      → Reordered (unused f e flags) ((f (2 * (e + i)), f (2 * (e + i) + 1)) ∷ unused f e (set flags i 1))
+  unfolding unused
+  use-one e [] i l z = absurd (omega arith)
+  use-one e (zero ∷ flags) zero l z = let q : e + 0 ≡ e = omega arith in rw q (unmoved _)
+  use-one e (zero ∷ flags) (suc i) l z =
+      let q : e + suc i ≡ suc e + i = omega arith in
+      rw q (both (keep (use-one (suc e) flags i (omega arith) z)) exchange)
+  use-one e (suc n ∷ flags) zero l z = absurd (omega arith)
+  use-one e (suc n ∷ flags) (suc i) l z = let q : e + suc i ≡ suc e + i = omega arith in rw q (use-one (suc e) flags i (omega arith) z)
+
+  -- half c is used, as it is gone along
+  pub use-half : (flags : List ℕ) (c : ℕ) → c / 2 < length flags → getD flags (c / 2) 0 ≡ 0 → Reordered (unused f 0 flags) (gone f c ∷ unused f 0 (set flags (c / 2) 1))
+  use-half flags c l z = go (ℕ-discrete (c % 2) 0)
+    where
+      go : Dec (c % 2 ≡ 0) → Reordered (unused f 0 flags) (gone f c ∷ unused f 0 (set flags (c / 2) 1))
+      go (yes p) =
+          let a : 2 * (0 + c / 2) ≡ c = omega arith in
+          let b : 2 * (0 + c / 2) + 1 ≡ other c = omega arith in
+          subst (λ (s : Ends). Reordered (unused f 0 flags) (s ∷ unused f 0 (set flags (c / 2) 1))) (ap₂ (λ (x y : ℕ). (f x, f y)) a b) (use-one 0 flags (c / 2) l z)
+      go (no p) =
+          let a : 2 * (0 + c / 2) ≡ other c = omega arith in
+          let b : 2 * (0 + c / 2) + 1 ≡ c = omega arith in
+          both (subst (λ (s : Ends). Reordered (unused f 0 flags) (s ∷ unused f 0 (set flags (c / 2) 1))) (ap₂ (λ (x y : ℕ). (f x, f y)) a b) (use-one 0 flags (c / 2) l z)) (turn (unmoved _))
+
+  -- ─── none is left ──────────────────────────────────────────────────────────
+
+  none-from : (e : ℕ) (flags : List ℕ) (w : ℕ) → ((i : ℕ) → i < length flags → getD flags i 0 ≡ 0 → (f (2 * (e + i)) ≡ w → ⊥) × (f (2 * (e + i) + 1) ≡ w → ⊥))
+      → occurs w (weights (unused f e flags)) ≡ 0
+  unfolding unused occurs weights
+  none-from e [] w h = refl
+  none-from e (zero ∷ flags) w h =
+      let p = h 0 (omega arith) refl in
+      let q : e + 0 ≡ e = omega arith in
+      omega (
+        arith,
+        agree-other w (f (2 * e)) (λ r. p .0 (ap (λ (x : ℕ). f (2 * x)) q ∙ sym r)),
+        agree-other w (f (2 * e + 1)) (λ r. p .1 (ap (λ (x : ℕ). f (2 * x + 1)) q ∙ sym r)),
+        none-from (suc e) flags w (λ i l z. let q : e + suc i ≡ suc e + i = omega arith in rw q at (h (suc i) (omega arith) z)),
+      )
+  none-from e (suc n ∷ flags) w h = none-from (suc e) flags w (λ i l z. let q : e + suc i ≡ suc e + i = omega arith in rw q at (h (suc i) (omega arith) z))
+
+  -- no unused half starts at w
+  pub none-unused : (flags : List ℕ) (w : ℕ) → ((c : ℕ) → c / 2 < length flags → getD flags (c / 2) 0 ≡ 0 → f c ≡ w → ⊥) → occurs w (weights (unused f 0 flags)) ≡ 0
+  none-unused flags w h =
+      none-from 0 flags w
+      (λ i l z.
+      let a : (2 * (0 + i)) / 2 ≡ i = omega arith in
+      let b : (2 * (0 + i) + 1) / 2 ≡ i = omega arith in
+      (h (2 * (0 + i)) (rw a l) (rw a z), h (2 * (0 + i) + 1) (rw b l) (rw b z)))
+
+  -- an unused one does
+  pub some-unused : (flags : List ℕ) (c : ℕ) → c / 2 < length flags → getD flags (c / 2) 0 ≡ 0 → 1 ≤ occurs (f c) (weights (unused f 0 flags))
+  unfolding occurs weights
+  some-unused flags c l z = omega (arith, occurs-reordered (use-half flags c l z) (f c), agree-same (f c) (f c) refl)

@@ -1,0 +1,6 @@
+-- Laws of walks over the table, one file a topic.
+pub mod Regions
+pub mod Halves
+pub mod Rows
+pub mod Steps
+pub mod Tours

@@ -1,0 +1,71 @@
+-- Laws of the search along a row: where it stops without an unused half, none is left; and cursors stay right.
+use mathlib.Core.Path.{_≡_, refl, ap, sym, _∙_}
+use mathlib.Core.Logic.{_⊎_, inl, inr}
+use mathlib.Core.List.{List}
+use Prim.Native.Nat.{ℕ, zero, suc, _+_, _-_, _*_, _/_, _%_, _≤_, _<_}
+use native.Mathlib.Omega.{arith}
+use native.Mathlib.Decide.{ℕ-discrete, decLt}
+use lib.ListN.{length, getD, set}
+use lib.Seq.{getD-set-same, getD-set-other}
+use Rattle.tours.specs.Layout.{Tables}
+use Rattle.tours.specs.Halves.{near}
+use Rattle.tours.specs.Rows.{InRow, Graph, Passed, Cursor, Cursors, Sought, Answer}
+use Rattle.tours.specs.States.{moved}
+use Rattle.tours.proofs.Halves.{near-spoke, none-unused}
+
+pub passed-more : {rows used : List ℕ} {p e : ℕ} → Passed rows used p e → (getD used (getD rows e 0 / 2) 0 ≡ 0 → ⊥) → Passed rows used p (e + 1)
+passed-more {rows} {used} {p} {e} h n = record { all-used = λ q k l z. go q k l z (ℕ-discrete q e) }
+  where
+    go : (q : ℕ) → p ≤ q → q < e + 1 → getD used (getD rows q 0 / 2) 0 ≡ 0 → Dec (q ≡ e) → ⊥
+    go q k l z (yes i) = n (rw i at z)
+    go q k l z (no i) = h .all-used q k (omega arith) z
+
+module _ {m : ℕ} {t : Tables} {v e : ℕ} (c : Cursor m (t .rows) (t .used) v (getD (t .cursors) v 0)) (s : Sought m t v (getD (t .cursors) v 0) e) where
+  -- the search goes on where the cursor stood
+  pub passed-all : Passed (t .rows) (t .used) v e
+  passed-all = record { all-used = λ q k l z. go q k l z (decLt q (getD (t .cursors) v 0)) }
+    where
+      go : (q : ℕ) → v ≤ q → q < e → getD (t .used) (getD (t .rows) q 0 / 2) 0 ≡ 0 → Dec (q < getD (t .cursors) v 0) → ⊥
+      go q k l z (yes i) = c .passed .all-used q k i z
+      go q k l z (no i) = s .passed .all-used q (omega arith) l z
+
+  -- the cursor moves to where it stopped
+  pub cursors-moved : Cursors m t → v < length (t .cursors) → Cursors m (moved t v e)
+  cursors-moved all b x l = go (ℕ-discrete x v)
+    where
+      go : Dec (x ≡ v) → Cursor m (t .rows) (t .used) x (getD (set (t .cursors) v e) x 0)
+      go (yes p) = rw (p, getD-set-same (t .cursors) v e 0 b) (record { low = omega (arith, c .low, s .low); high = s .high; passed = passed-all })
+      go (no p) = rw (getD-set-other (t .cursors) v x e 0 p) (all x l)
+
+  -- no unused half at v is left, where the search stopped at none and v's own spoke is used
+  pub absent : Graph m (t .verts) (t .rows) → length (t .used) ≡ 3 * m
+      → (e < 4 * m → near m (t .verts) (getD (t .rows) e 0) ≡ v → ⊥) → (v < 2 * m → getD (t .used) (m + v) 0 ≡ 0 → ⊥) → Answer m t v (6 * m)
+  absent g u stop own = inl (refl, none-unused (near m (t .verts)) (t .used) v (λ h l z q. go h (omega arith) z q (decLt h (2 * m)) (ℕ-discrete (h % 2) 0)))
+    where
+      in-row : (h : ℕ) → getD (t .used) (h / 2) 0 ≡ 0 → near m (t .verts) h ≡ v → InRow (near m (t .verts)) (t .rows) (4 * m) h → ⊥
+      in-row h z q r = go (decLt (r .at) e)
+        where
+          low : v ≤ r .at
+          low = omega (arith, r .behind)
+
+          go : Dec (r .at < e) → ⊥
+          go (yes l) = passed-all .all-used (r .at) low l (rw (r .is) z)
+          go (no l) = stop (omega (arith, r .inside)) (r .one-row e (omega (arith, c .low, s .low)) (omega arith) ∙ q)
+
+      go : (h : ℕ) → h < 6 * m → getD (t .used) (h / 2) 0 ≡ 0 → near m (t .verts) h ≡ v → Dec (h < 2 * m) → Dec (h % 2 ≡ 0) → ⊥
+      go h b z q (yes l) d = in-row h z q (g .in-row h b (inl l))
+      go h b z q (no l) (yes d) = in-row h z q (g .in-row h b (inr d))
+      go h b z q (no l) (no d) =
+          let w : h / 2 - m ≡ v = sym (near-spoke m (t .verts) h (omega arith) d) ∙ q in
+          let k : h / 2 ≡ m + v = omega arith in
+          own (omega arith) (rw k at z)
+
+  -- where it stopped at v's row, the half there is unused
+  pub present : Graph m (t .verts) (t .rows) → e < 4 * m → near m (t .verts) (getD (t .rows) e 0) ≡ v → Answer m t v (getD (t .rows) e 0)
+  present g l q = inr (g .rows-low e l, s .stop l q, q)
+
+-- v's own spoke is unused
+pub own-spoke : (m : ℕ) (t : Tables) (v : ℕ) → v < 2 * m → getD (t .used) (m + v) 0 ≡ 0 → Answer m t v (2 * (m + v) + 1)
+own-spoke m t v l z =
+    let a : (2 * (m + v) + 1) / 2 ≡ m + v = omega arith in
+    inr (omega arith, rw a z, near-spoke m (t .verts) (2 * (m + v) + 1) (omega arith) (λ e. omega arith) ∙ omega arith)

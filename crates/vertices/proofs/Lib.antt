@@ -1,0 +1,10 @@
+-- Laws of the stages, one file a stage.
+pub mod Ladder
+pub mod EndWeights
+pub mod Ordering
+pub mod Firsts
+pub mod Naming
+pub mod Marking
+pub mod Blanks
+pub mod Spokes
+pub mod LaidOut

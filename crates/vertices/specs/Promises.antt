@@ -1,0 +1,64 @@
+-- What the stages ask and leave: the end weights in order, the vertices, the spokes to odd vertices.
+use mathlib.Core.Bool.{true}
+use mathlib.Core.Path.{_≡_}
+use mathlib.Core.List.{List}
+use Prim.Native.Nat.{ℕ, _+_, _*_, _%_, _≤_, _<_}
+use lib.ListN.{length, getD}
+use Rattle.lists.specs.Count.{countFrom}
+use Rattle.lists.specs.Every.{All}
+use Rattle.lists.specs.Pick.{sortBy}
+use Rattle.lists.specs.Regions.{part, Only}
+use Rattle.collection.specs.Judge.{lastEnd, isWeight}
+use Rattle.collection.specs.Kmers.{kmers}
+use Rattle.collection.specs.Long.{Long}
+use Rattle.sorting.specs.Keys.{keyAt}
+use Rattle.trails.specs.Counting.{occurs}
+use Rattle.trails.specs.Renamed.{Renamed}
+use Rattle.trails.specs.Strings.{weights}
+use Rattle.tours.specs.Layout.{tables}
+use Rattle.tours.specs.States.{strings, Begun}
+use Rattle.vertices.specs.EndWeights.{endsFrom}
+use Rattle.vertices.specs.Firsts.{firstOf, keyed}
+use Rattle.vertices.specs.Ladder.{ladder}
+
+-- judged ends and weights
+pub record Strung (k : ℕ) (ends ws : List ℕ) : Type 0 where
+  pub ends-long : Long k ends
+  pub few-letters : lastEnd 0 ends ≤ 1048576
+  pub counted : length ws ≡ length (kmers k ends)
+  pub in-range : All (λ w. isWeight w ≡ true) ws
+
+-- the end weights by their numbers, and these numbers in the order of the weights
+pub record Ordered (m : ℕ) (keys w : List ℕ) : Type 0 where
+  pub keys-are : part (12 * m) (2 * m) w ≡ keys
+  pub order-is : part (5 * m) (2 * m) w ≡ sortBy (keyAt keys) (countFrom 0 (2 * m))
+
+-- the order has numbers of ends only, and the weights rise in it
+pub record Rising (m : ℕ) (keys order : List ℕ) : Type 0 where
+  pub low : (q : ℕ) → q < 2 * m → getD order q 0 < 2 * m
+  pub rises : (p q : ℕ) → p ≤ q → q < 2 * m → keyed keys order p ≤ keyed keys order q
+
+-- Each end has its vertex; nothing else differs from w.
+pub record Named (m : ℕ) (keys order w v : List ℕ) : Type 0 where
+  pub vertex : (q : ℕ) → q < 2 * m → getD (part 0 (2 * m) v) (getD order q 0) 0 ≡ firstOf (keyed keys order) q
+  pub rest : Only 0 (2 * m) w v
+
+-- The other regions are as walks want them, but that all spokes are marked as used.
+pub record Blank (m : ℕ) (w v : List ℕ) : Type 0 where
+  pub verts : part 0 (2 * m) v ≡ part 0 (2 * m) w
+  pub order : part (5 * m) (2 * m) v ≡ part (5 * m) (2 * m) w
+  pub hub : part (7 * m) (2 * m) v ≡ ladder (2 * m) 2 (2 * m)
+  pub cursors : part (9 * m) (3 * m) v ≡ ladder 0 1 (3 * m)
+  pub unused : part (2 * m) m v ≡ ladder 0 0 m
+  pub even : part (3 * m) (2 * m) v ≡ ladder 1 0 (2 * m)
+
+-- The spokes to vertices that are met oddly often are unused; nothing else differs from w.
+pub record Marked (m : ℕ) (w v : List ℕ) : Type 0 where
+  pub odd : (x : ℕ) → x < 2 * m → (getD (part (3 * m) (2 * m) v) x 0 + occurs x (part 0 (2 * m) w)) % 2 ≡ 1
+  pub flags : (x : ℕ) → x < 2 * m → getD (part (3 * m) (2 * m) v) x 0 ≤ 1
+  pub rest : Only (3 * m) (2 * m) w v
+
+-- The table is ready for the walks, over the strings with vertices in place of weights.
+pub record LaidOut (k m : ℕ) (ends ws w : List ℕ) : Type 0 where
+  pub begun : Begun m (tables m w)
+  pub renamed : Renamed (endsFrom k 0 ends ws) (strings m (tables m w))
