@@ -21,7 +21,7 @@ use Rattle.collection.specs.Kmers.{kmers, wordOf, Distinct}
 use Rattle.collection.proofs.Kmers.{kmers-fit}
 use Rattle.lookups.specs.Located.{Ready}
 use Rattle.lookups.proofs.Asked.{word-length, word-letters}
-use Rattle.repeats.specs.Check.{some, alike, repeated, firstRepeat}
+use Rattle.repeats.specs.Check.{anyThat, alike, repeated, firstRepeat}
 use Rattle.canonical.specs.Codes.{canonical, heldAt}
 use Rattle.repeats.specs.Order.{idAt, Ordered, Least}
 use Rattle.canonical.proofs.Alike.{Alike, alike-swap, alike-canonical, canonical-alike}
@@ -30,20 +30,20 @@ use Rattle.repeats.proofs.Neighbours.{Twin, least-twin, twin-least}
 -- ─── tests ───────────────────────────────────────────────────────────────────
 
 module _ {A : Type 0} (test : A → Bool) (d : A) where
-  some-at : (xs : List A) (i : ℕ) → i < length xs → test (getD xs i d) ≡ true → some test xs ≡ true
-  unfolding some
-  some-at [] i l e = absurd (not-suc-le-zero l)
-  some-at (x ∷ xs) zero l e = rw e
-  some-at (x ∷ xs) (suc i) l e = go (test x) (some-at xs i (omega arith) e)
+  any-at : (xs : List A) (i : ℕ) → i < length xs → test (getD xs i d) ≡ true → anyThat test xs ≡ true
+  unfolding anyThat
+  any-at [] i l e = absurd (not-suc-le-zero l)
+  any-at (x ∷ xs) zero l e = rw e
+  any-at (x ∷ xs) (suc i) l e = go (test x) (any-at xs i (omega arith) e)
     where
-      go : (b : Bool) → some test xs ≡ true → (b || some test xs) ≡ true
+      go : (b : Bool) → anyThat test xs ≡ true → (b || anyThat test xs) ≡ true
       go true h = refl
       go false h = h
 
-  none-some : (xs : List A) → All (λ x. test x ≡ false) xs → some test xs ≡ false
-  unfolding some
-  none-some [] h = refl
-  none-some (x ∷ xs) h = rw (h .0) (none-some xs (h .1))
+  none-any : (xs : List A) → All (λ x. test x ≡ false) xs → anyThat test xs ≡ false
+  unfolding anyThat
+  none-any [] h = refl
+  none-any (x ∷ xs) h = rw (h .0) (none-any xs (h .1))
 
 alike-test : (u v : List ℕ) → Alike u v → alike u v ≡ true
 unfolding alike
@@ -77,14 +77,14 @@ module _ (k : ℕ) (letters ends : List ℕ) where
   again-repeated : (x : ℕ) → Again x → repeated k letters ends (1 + x) ≡ true
   unfolding repeated earlier
   again-repeated x a =
-      some-at (earlier x) 0 (countFrom 1 (1 + x - 1)) (a .0) (omega (arith, length-count 1 (1 + x - 1), a .1))
+      any-at (earlier x) 0 (countFrom 1 (1 + x - 1)) (a .0) (omega (arith, length-count 1 (1 + x - 1), a .1))
       (ap (earlier x) (count-at 1 (1 + x - 1) (a .0) (omega (arith, a .1)))
       ∙ (ap₂ alike (word-of x) (word-of (a .0)) ∙ alike-test (word x) (word (a .0)) (a .2)))
 
   not-again : (x : ℕ) → (Again x → ⊥) → repeated k letters ends (1 + x) ≡ false
   unfolding repeated earlier
   not-again x h =
-      none-some (earlier x) 0 (countFrom 1 (1 + x - 1))
+      none-any (earlier x) 0 (countFrom 1 (1 + x - 1))
       (at-all (λ j. earlier x j ≡ false) 0 (countFrom 1 (1 + x - 1))
       (λ y l.
       let g : y < 1 + x - 1 = omega (arith, length-count 1 (1 + x - 1)) in

@@ -18,9 +18,9 @@ use Rattle.repeats.specs.declared.CheckAnswer.the-variants.{Checked, Ref
 -- ─── 7 ───────────────────────────────────────────────────────────────────────
 
 -- the test holds of some element
-unfoldable pub some : {A : Type 0} → (A → Bool) → List A → Bool
-some test [] = false
-some test (x ∷ xs) = test x || some test xs
+unfoldable pub anyThat : {A : Type 0} → (A → Bool) → List A → Bool
+anyThat test [] = false
+anyThat test (x ∷ xs) = test x || anyThat test xs
 
 -- two words are equal, turned or not
 unfoldable pub alike : List ℕ → List ℕ → Bool
@@ -29,7 +29,7 @@ alike u v = same u v || same u (turn v)
 -- the word of a handle equals the word of an earlier one, turned or not
 unfoldable pub repeated : ℕ → List ℕ → List ℕ → ℕ → Bool
 repeated k letters ends handle =
-    some (λ earlier. alike (wordOf k letters ends handle) (wordOf k letters ends earlier)) (countFrom 1 (handle - 1))
+    anyThat (λ earlier. alike (wordOf k letters ends handle) (wordOf k letters ends earlier)) (countFrom 1 (handle - 1))
 
 -- 7's place: the lowest handle equal to an earlier one, turned or not; 0 where there is none. Handles are 1 to n.
 unfoldable pub firstRepeat : ℕ → List ℕ → List ℕ → ℕ

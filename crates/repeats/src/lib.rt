@@ -53,7 +53,7 @@ fn answer(repeat: usize, n: usize) -> CheckAnswer
     }
 }
 
-// CHECK: 2 to 6, 1, then 7, at the lowest handle whose word or its reverse complement stands earlier. Its 4n entries of work are 0 afterwards.
+// CHECK: 2 to 6, 1, then 7, at the lowest handle whose word or its reverse complement stands earlier. After 7 and after success the first 4n entries of work are 0.
 pub fn check(
     k: usize,
     letters: &[u8],
