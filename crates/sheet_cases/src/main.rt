@@ -1,6 +1,10 @@
-// Sheets on which READ and WRITE are run: for each it writes `y` where they answer as document 01 says, else `n`.
+// Runs READ and WRITE on sheets from standard input, and writes for each `y` where they answer as document 01 says, else `n`.
+// The sheets are parted by `~`. Each has a mark before it: `=` for a sheet that is read and written back, `1` `2` `3` for a
+// wrong line of that number, `k` for a k out of range, `r` for a sheet that the tables have no room for.
 use sheet_text::ReadAnswer;
 use sheet_text::WriteAnswer;
+ghost use Prim.Native.Nat.{_<_, _≤_};
+ghost use lib.ListN.{length};
 
 // Writes `y` or `n`.
 fn say(good: bool) {
@@ -97,62 +101,51 @@ fn same(sheet: &[u8]) -> bool {
     back(sheet, &mut letters, &mut ends, &mut weights, &mut out)
 }
 
-// Line 1.
-fn heads() {
-    say(refused(b"", 11, 1));
-    say(refused(b"K\t3", 11, 1));
-    say(refused(b"K\t03\n", 11, 1));
-    say(refused(b"K\t00\n", 11, 1));
-    say(refused(b"K\t007\n", 11, 1));
-    say(refused(b"K\t100\n", 11, 1));
-    say(refused(b"K\t3\r\n", 11, 1));
-    say(refused(b"K\t3\t\n", 11, 1));
-    say(refused(b"K 3\n", 11, 1));
-    say(refused(b"S\tACG\t1\nK\t3\n", 11, 1));
-    say(refused(b"K\t0\n", 2, 0));
-    say(refused(b"K\t2\nX", 2, 0));
-    say(refused(b"K\t32\n", 2, 0));
-    say(refused(b"K\t99\n", 2, 0));
-    say(same(b"K\t3\n"));
-    say(same(b"K\t31\n"));
+// Whether a sheet has the answer that its mark says.
+fn answers(mark: u8, sheet: &[u8]) -> bool {
+    match mark {
+        b'=' => same(sheet),
+        b'1' => refused(sheet, 11, 1),
+        b'2' => refused(sheet, 11, 2),
+        b'3' => refused(sheet, 11, 3),
+        b'k' => refused(sheet, 2, 0),
+        b'r' => refused(sheet, 1, 0),
+        _ => false,
+    }
 }
 
-// Later lines.
-fn lines() {
-    say(same(b"K\t3\nS\tACG\t1\n"));
-    say(refused(b"K\t3\n\n", 11, 2));
-    say(refused(b"K\t3\nS\tACG\t1", 11, 2));
-    say(refused(b"K\t3\nS\tACG\t1\r\n", 11, 2));
-    say(refused(b"K\t3\nS\tACG\t1\n\0", 11, 3));
-    say(refused(b"K\t3\nS\tACG\n", 11, 2));
-    say(refused(b"K\t3\nS\tACG\t\n", 11, 2));
-    say(refused(b"K\t3\nS\tACG\t1\t1\n", 11, 2));
-    say(refused(b"K\t3\nS\tAC\n", 11, 2));
-    say(refused(b"K\t3\nS\tACN\t1\n", 11, 2));
-    say(refused(b"K\t3\nS\tacg\t1\n", 11, 2));
-    say(refused(b"K\t3\nK\tACG\t1\n", 11, 2));
+// Where the case at a place ends: at the next `~`, or at the end.
+fn case_end(cases: &[u8], at: usize) -> usize
+    requires { ⌜ at < length (now cases) ⌝ }
+    ensures { λ r. ⌜ (at < r) × (r ≤ length (now (cases .entry))) ⌝ }
+{
+    let mut i = at + 1;
+    while i < cases.len() {
+        if cases[i] == b'~' {
+            return i;
+        }
+        i += 1;
+    }
+    i
 }
 
-// Weights.
-fn weights() {
-    say(same(b"K\t3\nS\tACG\t16777215\n"));
-    say(refused(b"K\t3\nS\tACG\t0\n", 11, 2));
-    say(refused(b"K\t3\nS\tACG\t16777216\n", 11, 2));
-    say(refused(b"K\t3\nS\tACG\t01\n", 11, 2));
-    say(refused(b"K\t3\nS\tACG\t4294967297\n", 11, 2));
-    say(refused(b"K\t3\nS\tACG\t18446744073709551617\n", 11, 2));
-    say(refused(b"K\t3\nS\tACG\t-1\n", 11, 2));
+// One case after the other.
+fn run(cases: &[u8]) {
+    let mut at = 0;
+    while at < cases.len() {
+        let e = case_end(cases, at);
+        say(answers(cases[at], &cases[at + 1..e]));
+        if e == cases.len() {
+            return;
+        }
+        at = e + 1;
+    }
 }
 
 fn main() {
-    heads();
-    lines();
-    weights();
-    say(same(b"K\t3\nS\tAAACC\t2\t2\t5\nS\tAGAT\t7\t2\nS\tCAGCC\t7\t7\t3\nS\tTACA\t3\t5\n"));
-    say(refused(
-        b"K\t3\nS\tACGTACGTACGTACGTACGTACGTACGTACGTA\t1\t1\t1\t1\t1\t1\t1\t1\t1\t1\t1\t1\t1\t1\t1\t1\t1\t1\t1\t1\t1\t1\t1\t1\t1\t1\t1\t1\t1\t1\t1\n",
-        1,
-        0,
-    ));
+    let mut buffer = io::buffer();
+    let got = libc::read(0, &mut buffer);
+    let n = io::count(got, &buffer);
+    run(&buffer[..n]);
     io::write_all(1, b"\n");
 }
