@@ -76,7 +76,7 @@ weight-good i f v next h = go (isWeightField f) refl h where
   go true e r = (e, cc)
   go false e r = let z : _≡_ {A = ℕ} 0 1 = cc in absurd (omega arith)
 
-pub weight-wrong : (i : ℕ) (f : List ℕ) → weightOf i f ≡ weight.Wrong → isWeightField f ≡ false
+weight-wrong : (i : ℕ) (f : List ℕ) → weightOf i f ≡ weight.Wrong → isWeightField f ≡ false
 unfolding weightOf
 weight-wrong i f h = go (isWeightField f) refl h where
   go : (t : Bool) → isWeightField f ≡ t → choose t (weight.Good (value f) (i + length f)) weight.Wrong ≡ weight.Wrong → isWeightField f ≡ false
@@ -281,7 +281,7 @@ letters-length l h =
 
 -- ─── a whole line ────────────────────────────────────────────────────────────
 
-abbrev pub lineWith : ℕ → ℕ → Tail → Line
+abbrev lineWith : ℕ → ℕ → Tail → Line
 lineWith n w (tail.Good next) = line.Good next n w
 lineWith n w tail.Wrong = line.Wrong
 
@@ -406,7 +406,7 @@ module _ (s : List ℕ) (at : ℕ) where
 
   -- the answer by the letters and what follows them; n is how many letters there are, e where they end, w how many weights are wanted
   module _ (k n e w : ℕ) (h : marked (drop at s) ≡ true) (p : e ≡ at + 2 + span (drop (at + 2) s)) (q : n ≡ e - (at + 2)) (r : w ≡ n + 1 - k) where
-    pub line-answer : lineAt k s at ≡ choose (ltb n k) line.Wrong (lineWith n w (tailAt s e w))
+    line-answer : lineAt k s at ≡ choose (ltb n k) line.Wrong (lineWith n w (tailAt s e w))
     line-answer =
         let x : List ℕ = drop (at + 2) s in
         let l : List ℕ = upTo feed x in
