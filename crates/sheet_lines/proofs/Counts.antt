@@ -41,9 +41,9 @@ later-short sep (b ∷ r) = go (eqb b sep) (later-short sep r) where
   go false h = omega (arith, h)
 
 -- a field is no longer than the line
-entry-short : (fs : List (List ℕ)) (n : ℕ) → length ((stringOf fs) .letters) ≤ n → length fs ≤ n → (length ((stringOf fs) .letters) ≤ n) × (length ((stringOf fs) .weights) ≤ n)
-entry-short [] n p q = (p, omega arith)
-entry-short (f ∷ fs) n p q = (p, omega (arith, length-map fs value))
+string-short : (fs : List (List ℕ)) (n : ℕ) → length ((stringOf fs) .letters) ≤ n → length fs ≤ n → (length ((stringOf fs) .letters) ≤ n) × (length ((stringOf fs) .weights) ≤ n)
+string-short [] n p q = (p, omega arith)
+string-short (f ∷ fs) n p q = (p, omega (arith, length-map fs value))
 
 first-short : (sep : ℕ) (r : List ℕ) → length ((stringOf (later sep r)) .letters) ≤ length r
 unfolding later
@@ -129,7 +129,7 @@ module _ (k : ℕ) (s : List ℕ) (i : ℕ) where
       let o : next ≡ i + suc (length (upTo feed r)) = omega (arith, f .next-is) in
       let d : drop next s ≡ drop (suc (length (upTo feed r))) r = ap (λ (x : ℕ). drop x s) o ∙ sym (drop-drop (suc (length (upTo feed r))) i s) in
       let q : linesAt s next ≡ f .m ∷ f .rest = ap (parts feed) d ∙ (p .0 ∙ f .more) in
-      let e = entry-short (later tab (upTo feed r)) (length (upTo feed r)) (first-short tab (upTo feed r)) (omega (arith, later-short tab (upTo feed r))) in
+      let e = string-short (later tab (upTo feed r)) (length (upTo feed r)) (first-short tab (upTo feed r)) (omega (arith, later-short tab (upTo feed r))) in
       let x = length-drop i s in
       record {
         inside = omega (arith, p .1, f .next-is);

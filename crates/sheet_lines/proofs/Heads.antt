@@ -34,9 +34,6 @@ number-free c f p h = every-more _ _ (λ b q. clear-digit c b p q) f (number-all
 -- ─── a good line 1 ───────────────────────────────────────────────────────────
 
 module _ (f rest : List ℕ) (h : isNumber f ≡ true) (l : length f ≤ 2) where
-  text : List ℕ
-  text = (75 ∷ (9 ∷ f)) ++ (10 ∷ rest)
-
   line-free : Free feed (75 ∷ (9 ∷ f))
   line-free = free-next feed 75 _ (λ e. omega arith) (free-next feed 9 _ (λ e. omega arith) (number-free feed f (omega arith) h))
 
@@ -51,7 +48,7 @@ module _ (f rest : List ℕ) (h : isNumber f ≡ true) (l : length f ≤ 2) wher
   unfolding isKLine
   good-line = and-both (ap (isMark 75) (up-first tab (75 ∷ []) f (mark-free 75 (λ e. omega arith)))) (ap isK fields ∙ and-both h (le-leb (length f) 2 l))
 
-  pub head-yes : headIn ((75 ∷ (9 ∷ f)) ++ (10 ∷ rest)) ≡ head.Good (value f) (length f + 2 + 1)
+  head-yes : headIn ((75 ∷ (9 ∷ f)) ++ (10 ∷ rest)) ≡ head.Good (value f) (length f + 2 + 1)
   unfolding headOf
   head-yes =
       let a = up-first feed (75 ∷ (9 ∷ f)) rest line-free in
@@ -90,7 +87,7 @@ head-text s (m ∷ ms) e h =
     one-field (upTo feed s) (later tab (upTo feed s)) (t .1) (mark-is 75 _ (t .0)) refl s m ms refl e
 
 -- a sheet whose line 1 cannot be such a text is refused
-pub head-no : (s : List ℕ) → (Text s → ⊥) → headIn s ≡ head.Wrong
+head-no : (s : List ℕ) → (Text s → ⊥) → headIn s ≡ head.Wrong
 unfolding headOf
 head-no s h = go (isHead (upTo feed s) (later feed s)) refl where
   go : (t : Bool) → isHead (upTo feed s) (later feed s) ≡ t → choose t (head.Good (kOf (later tab (upTo feed s))) (length (upTo feed s) + 1)) head.Wrong ≡ head.Wrong

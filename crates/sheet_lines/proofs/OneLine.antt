@@ -28,11 +28,11 @@ use Rattle.sheet_text.proofs.Parts.{up-next, up-stop, later-next, later-stop}
 -- ─── parts from a place on ───────────────────────────────────────────────────
 
 -- inside the first part, what is left of it is the first part of what is left
-pub within : (sep n : ℕ) (r : List ℕ) → n ≤ length (upTo sep r) → (upTo sep (drop n r) ≡ drop n (upTo sep r)) × (later sep (drop n r) ≡ later sep r)
+pub inside-part : (sep n : ℕ) (r : List ℕ) → n ≤ length (upTo sep r) → (upTo sep (drop n r) ≡ drop n (upTo sep r)) × (later sep (drop n r) ≡ later sep r)
 unfolding upTo later
-within sep zero r h = (refl, refl)
-within sep (suc n) [] h = absurd (omega arith)
-within sep (suc n) (b ∷ r) h = go (eqb b sep) h (within sep n r) where
+inside-part sep zero r h = (refl, refl)
+inside-part sep (suc n) [] h = absurd (omega arith)
+inside-part sep (suc n) (b ∷ r) h = go (eqb b sep) h (inside-part sep n r) where
   go : (t : Bool) → suc n ≤ length (choose t [] (b ∷ upTo sep r)) → (n ≤ length (upTo sep r) → (upTo sep (drop n r) ≡ drop n (upTo sep r)) × (later sep (drop n r) ≡ later sep r))
       → (upTo sep (drop n r) ≡ drop (suc n) (choose t [] (b ∷ upTo sep r))) × (later sep (drop n r) ≡ choose t (upTo sep r ∷ later sep r) (later sep r))
   go true g w = absurd (omega arith)
@@ -76,7 +76,7 @@ weight-good i f v next h = go (isWeightField f) refl h where
   go true e r = (e, cc)
   go false e r = let z : _≡_ {A = ℕ} 0 1 = cc in absurd (omega arith)
 
-pub weight-wrong : (i : ℕ) (f : List ℕ) → weightOf i f ≡ weight.Wrong → isWeightField f ≡ false
+weight-wrong : (i : ℕ) (f : List ℕ) → weightOf i f ≡ weight.Wrong → isWeightField f ≡ false
 unfolding weightOf
 weight-wrong i f h = go (isWeightField f) refl h where
   go : (t : Bool) → isWeightField f ≡ t → choose t (weight.Good (value f) (i + length f)) weight.Wrong ≡ weight.Wrong → isWeightField f ≡ false
@@ -96,7 +96,7 @@ tail-list : (j i next : ℕ) (l : List ℕ) (ms : List (List ℕ)) → isWeightF
 unfolding tailOf upTo later every
 tail-list j i next l [] g e = refl
 tail-list j i next l (m ∷ ms) g e =
-    let w = within tab (length (upTo tab l)) l (omega arith) in
+    let w = inside-part tab (length (upTo tab l)) l (omega arith) in
     let u : upTo tab (drop (length (upTo tab l)) l) ≡ [] = w .0 ∙ drop-length (upTo tab l) in
     let s = up-short tab l in
     let d = length-drop (length (upTo tab l)) l in
@@ -205,7 +205,7 @@ module _ (s : List ℕ) (i : ℕ) where
         let g = weight-good _ _ v next w in
         let l : List ℕ = upTo feed (drop (i + 1) s) in
         let n : ℕ = length (upTo tab l) in
-        let m = within feed n (drop (i + 1) s) (up-short tab l) in
+        let m = inside-part feed n (drop (i + 1) s) (up-short tab l) in
         let d : drop next s ≡ drop n (drop (i + 1) s) = ap (λ (x : ℕ). drop x s) (g .1) ∙ sym (drop-drop n (i + 1) s) in
         let p : upTo feed (drop next s) ≡ drop n l = ap (upTo feed) d ∙ m .0 in
         let q : later feed (drop next s) ≡ later feed (drop (i + 1) s) = ap (later feed) d ∙ m .1 in
@@ -273,7 +273,7 @@ is-empty (b ∷ l) h = never h
 letters-length : (l : List ℕ) → isEmpty (upTo tab (drop (span l) l)) ≡ true → length (upTo tab l) ≡ span l
 letters-length l h =
     let w = span-up tab tab-other l .1 in
-    let e = within tab (span l) l w .0 in
+    let e = inside-part tab (span l) l w .0 in
     let n = is-empty (upTo tab (drop (span l) l)) h in
     let d = length-drop (span l) (upTo tab l) in
     let q : length (upTo tab (drop (span l) l)) ≡ length (drop (span l) (upTo tab l)) = ap length e in
@@ -281,7 +281,7 @@ letters-length l h =
 
 -- ─── a whole line ────────────────────────────────────────────────────────────
 
-abbrev pub lineWith : ℕ → ℕ → Tail → Line
+abbrev lineWith : ℕ → ℕ → Tail → Line
 lineWith n w (tail.Good next) = line.Good next n w
 lineWith n w tail.Wrong = line.Wrong
 
@@ -310,7 +310,7 @@ line-list k i l (m ∷ ms) = go (isEmpty (upTo tab (drop (span l) l))) refl wher
       let n : length (upTo tab l) ≡ span l = letters-length l e in
       let u = span-up tab tab-other l .1 in
       let s = up-short tab l in
-      let w : later tab (drop (span l) l) ≡ later tab l = within tab (span l) l u .1 in
+      let w : later tab (drop (span l) l) ≡ later tab l = inside-part tab (span l) l u .1 in
       let d = length-drop (span l) l in
       rw (e, w, a, n)
       (same-answer k (span l) (span l + 1 - k) (i + suc (suc (length l)) + 1) (i + 2 + span l + length (drop (span l) l) + 1) (length (map value (later tab l)))
@@ -406,7 +406,7 @@ module _ (s : List ℕ) (at : ℕ) where
 
   -- the answer by the letters and what follows them; n is how many letters there are, e where they end, w how many weights are wanted
   module _ (k n e w : ℕ) (h : marked (drop at s) ≡ true) (p : e ≡ at + 2 + span (drop (at + 2) s)) (q : n ≡ e - (at + 2)) (r : w ≡ n + 1 - k) where
-    pub line-answer : lineAt k s at ≡ choose (ltb n k) line.Wrong (lineWith n w (tailAt s e w))
+    line-answer : lineAt k s at ≡ choose (ltb n k) line.Wrong (lineWith n w (tailAt s e w))
     line-answer =
         let x : List ℕ = drop (at + 2) s in
         let l : List ℕ = upTo feed x in
@@ -414,7 +414,7 @@ module _ (s : List ℕ) (at : ℕ) where
         let su = span-up feed feed-other x in
         let m : span l ≡ n = omega (arith, su .0) in
         let d : drop e s ≡ drop (span x) x = ap (λ (y : ℕ). drop y s) p ∙ sym (drop-drop (span x) (at + 2) s) in
-        let v = within feed (span x) x (su .1) in
+        let v = inside-part feed (span x) x (su .1) in
         let a : upTo feed (drop e s) ≡ drop (span l) l = ap (upTo feed) d ∙ (v .0 ∙ ap (λ (y : ℕ). drop y l) (sym (su .0))) in
         let b : later feed (drop e s) ≡ later feed x = ap (later feed) d ∙ v .1 in
         let g : at + 2 + span l ≡ e = omega arith in

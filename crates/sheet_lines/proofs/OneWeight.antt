@@ -144,7 +144,7 @@ walk-field i (b ∷ f) = go (isDigit b) refl (eqb b 48) refl where
 
 -- ─── the field at a place ────────────────────────────────────────────────────
 
-pub field-none : (s : List ℕ) (i : ℕ) → length s ≤ i → field (drop i s) ≡ []
+field-none : (s : List ℕ) (i : ℕ) → length s ≤ i → field (drop i s) ≡ []
 unfolding field upTo
 field-none s i h = rw (drop-of-length-le s h)
 
@@ -167,19 +167,19 @@ unfolding upTo
 none-up = refl
 
 module _ (s : List ℕ) (i : ℕ) (h : i < length s) where
-  pub field-next : (getD s i 0 ≡ 9 → ⊥) → (getD s i 0 ≡ 10 → ⊥) → field (drop i s) ≡ getD s i 0 ∷ field (drop (i + 1) s)
+  field-next : (getD s i 0 ≡ 9 → ⊥) → (getD s i 0 ≡ 10 → ⊥) → field (drop i s) ≡ getD s i 0 ∷ field (drop (i + 1) s)
   unfolding field
   field-next p q = ap (upTo tab) (up-next feed s i h q) ∙ tab-next (getD s i 0) _ p
 
-  pub field-tab : getD s i 0 ≡ 9 → field (drop i s) ≡ []
+  field-tab : getD s i 0 ≡ 9 → field (drop i s) ≡ []
   unfolding field
   field-tab p = ap (upTo tab) (up-next feed s i h (λ e. omega arith)) ∙ tab-stop (getD s i 0) _ p
 
-  pub field-feed : getD s i 0 ≡ 10 → field (drop i s) ≡ []
+  field-feed : getD s i 0 ≡ 10 → field (drop i s) ≡ []
   unfolding field
   field-feed p = ap (upTo tab) (up-stop feed s i h p) ∙ none-up
 
-  pub field-end : isEnd (getD s i 0) ≡ true → field (drop i s) ≡ []
+  field-end : isEnd (getD s i 0) ≡ true → field (drop i s) ≡ []
   field-end e = go (eqb (getD s i 0) 9) refl e where
     go : (t : Bool) → eqb (getD s i 0) 9 ≡ t → choose t true (eqb (getD s i 0) 10) ≡ true → field (drop i s) ≡ []
     go true e r = field-tab (eqb-true _ _ e)

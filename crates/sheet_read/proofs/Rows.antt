@@ -22,7 +22,7 @@ use Rattle.sheet_lines.specs.declared.Line.{Line}
 use Rattle.sheet_lines.specs.declared.Line.the-variants as line
 use Rattle.sheet_text.proofs.Tests.{never}
 use Rattle.sheet_text.proofs.Accepted.{choose-zero}
-use Rattle.sheet_lines.proofs.OneLine.{up-take, take-up, within, tab-other, feed-other, up-short, span-up, line-unmarked, line-few, line-bad, line-good, front, front-up}
+use Rattle.sheet_lines.proofs.OneLine.{up-take, take-up, inside-part, tab-other, feed-other, up-short, span-up, line-unmarked, line-few, line-bad, line-good, front, front-up}
 use Rattle.lists.proofs.Storing.{Storing, begin, inside, store, restated, stored}
 use Rattle.collection.proofs.Strings.{ends-length}
 use Rattle.sheet_text.proofs.Blocks.{block-room, store-block}
@@ -54,15 +54,15 @@ pub record Row (k q : ℕ) (s : List ℕ) (i e : ℕ) : Type 0 where
   pub inside : f + 1 ≤ length s
   pub after : i < f
   pub lines : firstWrong k (suc (suc q)) (linesAt s (f + 1)) ≡ 0
-  pub entries : stringsOf (linesAt s i) ≡ string (take (e - (i + 2)) (drop (i + 2) s)) (weightsAt s e) ∷ stringsOf (linesAt s (f + 1))
+  pub strings-are : stringsOf (linesAt s i) ≡ string (take (e - (i + 2)) (drop (i + 2) s)) (weightsAt s e) ∷ stringsOf (linesAt s (f + 1))
 
 front-fields : (l : List ℕ) → stringOf (later tab (83 ∷ (9 ∷ l))) ≡ string (upTo tab l) (map value (later tab l))
 unfolding later
 front-fields l = refl
 
-entries-next : (l m : List ℕ) (ms : List (List ℕ)) → stringsOf (l ∷ (m ∷ ms)) ≡ stringOf (later tab l) ∷ stringsOf (m ∷ ms)
+strings-next : (l m : List ℕ) (ms : List (List ℕ)) → stringsOf (l ∷ (m ∷ ms)) ≡ stringOf (later tab l) ∷ stringsOf (m ∷ ms)
 unfolding stringsOf
-entries-next l m ms = refl
+strings-next l m ms = refl
 
 module _ (k q : ℕ) (s : List ℕ) (i e : ℕ) (h : firstWrong k (suc q) (linesAt s i) ≡ 0) (l : i < length s) (p : e ≡ i + 2 + span (drop (i + 2) s)) where
   not-wrong : lineAt k s i ≡ line.Wrong → ⊥
@@ -100,9 +100,9 @@ module _ (k q : ℕ) (s : List ℕ) (i e : ℕ) (h : firstWrong k (suc q) (lines
       let b : upTo tab l2 ≡ take n x = up-take tab l2 ∙ (ap (λ (y : ℕ). take y l2) a ∙ take-up feed n x (omega (arith, up-short tab l2, a))) in
       let su = span-up feed feed-other x in
       let de : drop e s ≡ drop (span x) x = ap (λ (y : ℕ). drop y s) p ∙ sym (drop-drop (span x) (i + 2) s) in
-      let ue : upTo feed (drop e s) ≡ drop (span x) l2 = ap (upTo feed) de ∙ within feed (span x) x (su .1) .0 in
+      let ue : upTo feed (drop e s) ≡ drop (span x) l2 = ap (upTo feed) de ∙ inside-part feed (span x) x (su .1) .0 in
       let st = span-up tab tab-other l2 in
-      let le : later tab (upTo feed (drop e s)) ≡ later tab l2 = ap (later tab) ue ∙ within tab (span x) l2 (omega (arith, su .0, st .1)) .1 in
+      let le : later tab (upTo feed (drop e s)) ≡ later tab l2 = ap (later tab) ue ∙ inside-part tab (span x) l2 (omega (arith, su .0, st .1)) .1 in
       let hm : firstWrong k (suc q) (upTo feed r ∷ (f .m ∷ f .rest)) ≡ 0 = ap (λ (y : List (List ℕ)). firstWrong k (suc q) (upTo feed r ∷ y)) (sym (f .more)) ∙ h in
       record {
         start = omega arith;
@@ -113,9 +113,9 @@ module _ (k q : ℕ) (s : List ℕ) (i e : ℕ) (h : firstWrong k (suc q) (lines
         inside = omega (arith, o .1, length-drop i s);
         after = omega (arith, ap length fr);
         lines = ap (firstWrong k (suc (suc q))) ln ∙ wrong-next k q (upTo feed r) (f .m) (f .rest) hm;
-        entries =
+        strings-are =
             ap (λ (y : List (List ℕ)). stringsOf (upTo feed r ∷ y)) (f .more)
-            ∙ (entries-next (upTo feed r) (f .m) (f .rest) ∙ (λ y. (fe ∙ (λ v. string (b v) (map value (sym le v)))) y ∷ stringsOf (sym ln y)));
+            ∙ (strings-next (upTo feed r) (f .m) (f .rest) ∙ (λ y. (fe ∙ (λ v. string (b v) (map value (sym le v)))) y ∷ stringsOf (sym ln y)));
       }
 
   pub row : Row k q s i e
@@ -163,10 +163,10 @@ module _ {k : ℕ} {s : List ℕ} {a b c : ℕ} {A B C : List ℕ} {i e n m w : 
       let x : List ℕ = take (e - (i + 2)) (drop (i + 2) s) in
       let u : Str = string x (weightsAt s e) in
       let z : length x ≡ e - (i + 2) = length-take-le (e - (i + 2)) (drop (i + 2) s) (omega (arith, length-drop (i + 2) s, r .start)) in
-      let l : lettersIn (left s i) ≡ x ++ lettersIn (left s (r .f + 1)) = ap lettersIn (r .entries) ∙ letters-cons u _ in
+      let l : lettersIn (left s i) ≡ x ++ lettersIn (left s (r .f + 1)) = ap lettersIn (r .strings-are) ∙ letters-cons u _ in
       let v : endsIn n (left s i) ≡ (n + (e - (i + 2))) ∷ endsIn (n + (e - (i + 2))) (left s (r .f + 1)) =
-      ap (endsIn n) (r .entries) ∙ (ends-cons n u _ ∙ ap (λ (y : ℕ). (n + y) ∷ endsIn (n + y) (left s (r .f + 1))) z) in
-      let y : weightsIn (left s i) ≡ weightsAt s e ++ weightsIn (left s (r .f + 1)) = ap weightsIn (r .entries) ∙ weights-cons u _ in
+      ap (endsIn n) (r .strings-are) ∙ (ends-cons n u _ ∙ ap (λ (y : ℕ). (n + y) ∷ endsIn (n + y) (left s (r .f + 1))) z) in
+      let y : weightsIn (left s i) ≡ weightsAt s e ++ weightsIn (left s (r .f + 1)) = ap weightsIn (r .strings-are) ∙ weights-cons u _ in
       record {
         size = z;
         letters-room = omega (arith, block-room x (lettersIn (left s (r .f + 1))) (restated l (st .letters)), z);

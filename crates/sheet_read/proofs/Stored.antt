@@ -19,7 +19,7 @@ use Rattle.sheet_lines.specs.declared.Tail.{Tail}
 use Rattle.sheet_lines.specs.declared.Tail.the-variants as tail
 use Rattle.sheet_text.proofs.Tests.{both, never}
 use Rattle.sheet_text.proofs.Parts.{up-next}
-use Rattle.sheet_lines.proofs.OneLine.{weight-value, within, up-short, byte-here, weight-good, tail-ended, tail-unended}
+use Rattle.sheet_lines.proofs.OneLine.{weight-value, inside-part, up-short, byte-here, weight-good, tail-ended, tail-unended}
 
 -- ─── weights ─────────────────────────────────────────────────────────────────
 
@@ -35,10 +35,10 @@ weights-next s i v next h w =
     let g = weight-good _ _ v next w in
     let l : List ℕ = upTo feed (drop (i + 1) s) in
     let n : ℕ = length (upTo tab l) in
-    let m = within feed n (drop (i + 1) s) (up-short tab l) in
+    let m = inside-part feed n (drop (i + 1) s) (up-short tab l) in
     let d : drop next s ≡ drop n (drop (i + 1) s) = ap (λ (x : ℕ). drop x s) (g .1) ∙ sym (drop-drop n (i + 1) s) in
     let p : upTo feed (drop next s) ≡ drop n l = ap (upTo feed) d ∙ m .0 in
-    let q : later tab (drop n l) ≡ later tab l = within tab n l (omega arith) .1 in
+    let q : later tab (drop n l) ≡ later tab l = inside-part tab n l (omega arith) .1 in
     let y = b .1 in
     let a : upTo feed (drop i s) ≡ getD s i 0 ∷ l = up-next feed s i (b .0) (λ e. omega arith) in
     let c : later tab (upTo feed (drop i s)) ≡ upTo tab l ∷ later tab l = ap (later tab) a ∙ tab-later _ l (b .1) in

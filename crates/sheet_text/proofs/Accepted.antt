@@ -46,7 +46,7 @@ fields-text k (f ∷ fs) h =
     rw (weights-text fs (u .1))
 
 -- a good line is what its string is written as
-pub line-text : (k : ℕ) (l : List ℕ) → isStringLine k l ≡ true → stringText (stringOf (later tab l)) ≡ l
+line-text : (k : ℕ) (l : List ℕ) → isStringLine k l ≡ true → stringText (stringOf (later tab l)) ≡ l
 unfolding isStringLine
 line-text k l h =
     let t = both (isMark 83 (upTo tab l)) _ h in
@@ -64,7 +64,7 @@ empty [] h = refl
 empty (b ∷ l) h = absurd (omega arith)
 
 -- lines none of which is wrong are what their strings are written as
-pub lines-text : (k i : ℕ) (ls : List (List ℕ)) → firstWrong k (suc i) ls ≡ 0 → joined feed ls ≡ feed ∷ linesText (stringsOf ls)
+lines-text : (k i : ℕ) (ls : List (List ℕ)) → firstWrong k (suc i) ls ≡ 0 → joined feed ls ≡ feed ∷ linesText (stringsOf ls)
 unfolding firstWrong joined linesText stringsOf
 lines-text k i [] h = absurd (omega arith)
 lines-text k i (l ∷ []) h = rw (empty l (eqb-true _ _ (choose-zero (eqb (length l) 0) 0 i h .0)))

@@ -41,7 +41,7 @@ pub record Within (bs : List ℕ) (letters ends weights : ℕ) : Type 0 where
   pub ends-room : sheetM bs ≤ ends
   pub weights-room : sheetWeights bs ≤ weights
 
-pub size-good : {N m : ℕ} → sizeVerdict N m ≡ Good → (N ≤ 1048576) × (m ≤ 65536)
+size-good : {N m : ℕ} → sizeVerdict N m ≡ Good → (N ≤ 1048576) × (m ≤ 65536)
 unfolding sizeVerdict
 size-good {N} {m} h =
     let t = both (leb N 1048576) _ (test-good _ 3 0 Good h .0) in

@@ -96,12 +96,12 @@ unfolding isString
 good-fields k s h =
     and-both (and-both (le-leb k _ (h .whole .long)) (h .letters)) (and-both (eq-eqb _ _ (length-map (s .weights) digits ∙ h .whole .counted)) (good-weights (s .weights) (h .weights)))
 
-pub written-line : (k : ℕ) (s : Str) → Holds k s → isStringLine k (stringText s) ≡ true
+written-line : (k : ℕ) (s : Str) → Holds k s → isStringLine k (stringText s) ≡ true
 unfolding isStringLine
 written-line k s h =
     and-both (ap (isMark 83) (up-first tab (83 ∷ []) _ (mark-free 83 (λ e. omega arith)))) (ap (isString k) (fields-of k s h) ∙ good-fields k s h)
 
-pub written-string : (k : ℕ) (s : Str) → Holds k s → stringOf (later tab (stringText s)) ≡ s
+written-string : (k : ℕ) (s : Str) → Holds k s → stringOf (later tab (stringText s)) ≡ s
 written-string k s h = ap stringOf (fields-of k s h) ∙ ap (string (s .letters)) (values (s .weights))
 
 line-free : (k : ℕ) (s : Str) → Holds k s → Free feed (stringText s)

@@ -13,7 +13,7 @@ here : (j : ℕ) (d : List ℕ) (x : ℕ) → j < length d → getD (set d j x) 
 here j d x h = rw (getD-set-same, drop-set-lt (suc j) d j x (omega arith))
 
 -- what is still to be stored stands in front of what is stored
-pub put-back : (o : ℕ) (d ys : List ℕ) (x : ℕ) → o + length ys < length d → put o ys (set d (o + length ys) x) ≡ put o (ys ++ (x ∷ [])) d
+put-back : (o : ℕ) (d ys : List ℕ) (x : ℕ) → o + length ys < length d → put o ys (set d (o + length ys) x) ≡ put o (ys ++ (x ∷ [])) d
 put-back o d ys x h =
     let j : ℕ = o + length ys in
     let a : take o (set d j x) ≡ take o d = take-set-le o d j x (omega arith) in

@@ -18,7 +18,7 @@ use Rattle.sheet_text.specs.Parts.{tab, feed}
 use Rattle.sheet_text.specs.Sheet.{string}
 use Rattle.sheet_text.specs.Text.{weightsText, linesText, writeText}
 use Rattle.sheet_text.proofs.Blocks.{block-room, store-block}
-use Rattle.sheet_write.specs.Written.{headLine, stringLine}
+use Rattle.sheet_write.specs.Written.{headLine, stringLine, linesLeft}
 use Rattle.sheet_lines.proofs.Copied.{take-size}
 use Rattle.sheet_write.proofs.Texts.{weights-next, weights-end, lines-cons, line-length, sheet-lines}
 
@@ -133,11 +133,7 @@ module _ (letters weights out : List ℕ) (b e w n at : ℕ) (fits : (b ≤ e) �
 
 -- ─── all lines ───────────────────────────────────────────────────────────────
 
--- the text of the strings from string i on, the first of which starts at letter `before` and weight w
-abbrev pub linesLeft : ℕ → List ℕ → List ℕ → List ℕ → ℕ → ℕ → ℕ → List ℕ
-linesLeft k letters ends weights i before w = linesText (stringsFrom k before (drop before letters) (drop i ends) (drop w weights))
-
--- they are still to be stored, from p on; the last ends at `total`
+-- the lines from string i on are still to be stored, from p on; the last ends at `total`
 pub record Lining (k : ℕ) (letters ends weights : List ℕ) (size total : ℕ) (target out : List ℕ) (before w p i : ℕ) : Type 0 where
   pub left : Strings-left k (length letters) ends i before w
   pub counted : length weights ≡ w + length (kmersFrom k before (drop i ends))
