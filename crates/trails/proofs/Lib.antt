@@ -12,3 +12,4 @@ pub mod Hub
 pub mod Upper
 pub mod Bounds
 pub mod Examples
+pub mod Kept
