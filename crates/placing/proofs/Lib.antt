@@ -5,3 +5,4 @@ pub mod Turning
 pub mod Parts
 pub mod Placements
 pub mod Permutation
+pub mod Applying

@@ -81,10 +81,11 @@ module _ {k : ℕ} {letters ends weights : List ℕ} {places : List ℤ} {work :
   named j l =
       let q = p .permutation in
       let e = p .marked j l in
-      let f = holder-found (suc j) (map natAbs places) (omega (arith, q .once (suc j) (omega arith) (omega arith))) in
-      (omega (arith, e, f .0),
-      omega (arith, e, f .0, f .1, length-map places natAbs, q .number),
-      sym (map-at natAbs (pos 0) places (getD work j 0 - 1)) ∙ (ap (λ (n : ℕ). getD (map natAbs places) (n - 1) 0) e ∙ f .2))
+      let f = holder-found (suc j) (map natAbs places) (omega (arith, q .once (suc j) (omega arith) (omega arith))) in (
+        omega (arith, e, f .0),
+        omega (arith, e, f .0, f .1, length-map places natAbs, q .number),
+        sym (map-at natAbs (pos 0) places (getD work j 0 - 1)) ∙ (ap (λ (n : ℕ). getD (map natAbs places) (n - 1) 0) e ∙ f .2),
+      )
 
   pub part-asked : (j : ℕ) → j < length ends → Long k ends × (getD work j 0 - 1 < length ends) × (length places ≡ length ends)
   part-asked j l = (long, named j l .1, p .permutation .number)

@@ -124,7 +124,13 @@ pub(crate) fn place_strings(
     let mut kmer = 0;
     let mut j = 0;
     while j < ends.len() {
-        let Part { start, end, first, last, turned } = part_of(k, ends, signed, work[j] as usize - 1);
+        let Part {
+            start,
+            end,
+            first,
+            last,
+            turned,
+        } = part_of(k, ends, signed, work[j] as usize - 1);
         write_letters(turned, &letters[start..end], new_letters, at);
         write_column(turned, &weights[first..last], new_weights, kmer);
         at += end - start;

@@ -1,78 +1,60 @@
+-- `apply` meets its contract: the tables judged, then the places, then the strings written and work zeroed. Assumes nothing.
+use native.Mathlib.Omega.{arith}
+use Rattle.placing.proofs.Applying.{tables-good, apply-refused, apply-refused-places, placeable, apply-filled}
 use borrow.Author.Needs.{needs}
 use Rattle.placing.proofs.apply.Statement.{statement}
 use Rattle.placing.proofs.apply.Tie as tie
-use Rattle.placing.proofs.apply.Reads as reads
-use Rattle.placing.proofs.apply.Lts as lts
-use Rattle.placing.proofs.placed.judge_tables.Reads as judge-tables-reads
-use Rattle.placing.proofs.placed.place_strings.Reads as place-strings-reads
-use Rattle.placing.proofs.places.judge_places.Reads as judge-places-reads
-use Rattle.placing.proofs.places.zero_first.Reads as zero-first-reads
 
--- src/lib.rt:37:9
 judge-tables-requires : tie.Need-judge-tables-requires
 judge-tables-requires c κs = search needs
 
--- src/lib.rt:47:27
 enum-known-a : tie.Need-enum-known-a
 enum-known-a c = search needs
 
--- src/lib.rt:48:9
 returns : tie.Need-returns
-returns c = ?
+returns c = let a = c .before .before .before .before .before .before .before .before .before .before .before .args in apply-refused (a .k) (a .letters .now) (a .ends .now) (a .weights .now) (a .signed .now) (a .new-letters .now) (a .new-ends .now) (a .new-weights .now) (a .work .now) (c .before .before .before .judge-tables .ensures) (c .before .a .given .1)
 
 enum-told : tie.Need-enum-told
 enum-told c = search needs
 
--- src/lib.rt:50:9
 judge-places-requires : tie.Need-judge-places-requires
-judge-places-requires c κs = ?
+judge-places-requires c κs = let a = c .before .before .before .before .before .before .before .before .before .before .before .args in let r = tables-good (a .k) (a .letters .now) (a .ends .now) (a .weights .now) (a .signed .now) (a .new-letters .now) (a .new-ends .now) (a .new-weights .now) (a .work .now) (c .before .before .before .judge-tables .ensures) (c .before .enum-told .given .1) in (r .few, r .work-room)
 
--- src/lib.rt:51:27
 enum-known-b : tie.Need-enum-known-b
 enum-known-b c = search needs
 
--- src/lib.rt:52:9
 zero-first-requires : tie.Need-zero-first-requires
-zero-first-requires c κs = ?
+zero-first-requires c κs = let a = c .before .before .before .before .before .before .before .before .before .before .before .before .before .before .before .before .before .before .args in omega (arith, tables-good (a .k) (a .letters .now) (a .ends .now) (a .weights .now) (a .signed .now) (a .new-letters .now) (a .new-ends .now) (a .new-weights .now) (a .work .now) (c .before .before .before .before .before .before .before .before .before .before .judge-tables .ensures) (c .before .before .before .before .before .before .before .before .enum-told .given .1) .work-room, (c .before .before .before .before .before .before .judge-places .ensures) .size)
 
--- src/lib.rt:53:9
 same-length : tie.Need-same-length
 same-length c = search needs
 
--- src/lib.rt:53:9
 returns-2 : tie.Need-returns-2
-returns-2 c = ?
+returns-2 c = let a = c .before .before .before .before .before .before .before .before .before .before .before .before .before .before .before .before .before .before .before .before .before .args in apply-refused-places (a .k) (a .letters .now) (a .ends .now) (a .weights .now) (a .signed .now) (a .new-letters .now) (a .new-ends .now) (a .new-weights .now) (a .work .now) (c .before .before .before .before .before .before .before .before .before .before .before .before .before .judge-tables .ensures) (c .before .before .before .before .before .before .before .before .before .before .before .enum-told .given .1) (c .before .before .before .before .before .before .before .before .before .judge-places .ensures) (c .before .before .before .before .before .b .given .1) (c .before .before .zero-first .ensures)
 
 enum-told-2 : tie.Need-enum-told-2
 enum-told-2 c = search needs
 
--- src/lib.rt:55:5
 place-strings-requires : tie.Need-place-strings-requires
-place-strings-requires c κs = ?
+place-strings-requires c κs = let a = c .before .before .before .before .before .before .before .before .before .before .before .before .before .before .before .before .before .before .before .before .args in let r = tables-good (a .k) (a .letters .now) (a .ends .now) (a .weights .now) (a .signed .now) (a .new-letters .now) (a .new-ends .now) (a .new-weights .now) (a .work .now) (c .before .before .before .before .before .before .before .before .before .before .before .before .judge-tables .ensures) (c .before .before .before .before .before .before .before .before .before .before .enum-told .given .1) in (placeable (a .k) (a .letters .now) (a .ends .now) (a .weights .now) (a .signed .now) (a .new-letters .now) (a .new-ends .now) (a .new-weights .now) (a .work .now) (c .before .before .before .before .before .before .before .before .before .before .before .before .judge-tables .ensures) (c .before .before .before .before .before .before .before .before .before .before .enum-told .given .1) (c .before .before .before .before .before .before .before .before .judge-places .ensures) (c .before .before .before .before .enum-told2 .given .1), r .letters-room, r .ends-room, r .weights-room)
 
--- src/lib.rt:66:5
 zero-first-requires-2 : tie.Need-zero-first-requires-2
-zero-first-requires-2 c κs = ?
+zero-first-requires-2 c κs = let a = c .before .before .before .before .before .before .before .before .before .before .before .before .before .before .before .before .before .before .before .before .before .before .before .before .before .before .before .before .args in omega (arith, tables-good (a .k) (a .letters .now) (a .ends .now) (a .weights .now) (a .signed .now) (a .new-letters .now) (a .new-ends .now) (a .new-weights .now) (a .work .now) (c .before .before .before .before .before .before .before .before .before .before .before .before .before .before .before .before .before .before .before .before .judge-tables .ensures) (c .before .before .before .before .before .before .before .before .before .before .before .before .before .before .before .before .before .before .enum-told .given .1) .work-room, (c .before .before .before .before .before .before .before .before .before .before .before .before .before .before .before .before .judge-places .ensures) .size)
 
--- src/lib.rt:24:1
 same-length-2 : tie.Need-same-length-2
 same-length-2 c = search needs
 
--- src/lib.rt:24:1
 same-length-3 : tie.Need-same-length-3
 same-length-3 c = search needs
 
--- src/lib.rt:24:1
 same-length-4 : tie.Need-same-length-4
 same-length-4 c = search needs
 
--- src/lib.rt:24:1
 same-length-5 : tie.Need-same-length-5
 same-length-5 c = search needs
 
--- src/lib.rt:24:1
 returns-3 : tie.Need-returns-3
-returns-3 c = ?
+returns-3 c = let a = c .before .before .before .before .before .before .before .before .before .before .before .before .before .before .before .before .before .before .before .before .before .before .before .before .before .before .before .before .before .before .before .args in apply-filled (a .k) (a .letters .now) (a .ends .now) (a .weights .now) (a .signed .now) (a .new-letters .now) (a .new-ends .now) (a .new-weights .now) (a .work .now) (c .before .before .before .before .before .before .before .before .before .before .before .before .before .before .before .before .before .before .before .before .before .before .before .judge-tables .ensures) (c .before .before .before .before .before .before .before .before .before .before .before .before .before .before .before .before .before .before .before .before .before .enum-told .given .1) (c .before .before .before .before .before .before .before .before .before .before .before .before .before .before .before .before .before .before .before .judge-places .ensures) (c .before .before .before .before .before .before .before .before .before .before .before .before .before .before .before .enum-told2 .given .1) (c .before .before .before .before .before .before .before .before .before .before .place-strings .ensures) (c .before .before .zero-first2 .ensures)
 
 pub apply-spec : {M : Type 1} → statement M
 apply-spec =

@@ -56,12 +56,12 @@ is-turned-requires c κs = search needs
 
 returns : tie.Need-returns
 returns c = record {
-      start-is = c .before .before .before .start-of .ensures;
-      end-is = refl;
-      first-is = ap (λ (s : ℕ). s - c .before .before .before .before .before .args .i * (c .before .before .before .before .before .args .k - 1)) (c .before .before .before .start-of .ensures);
-      last-is = ap (λ (s : ℕ). s - c .before .before .before .before .before .args .i * (c .before .before .before .before .before .args .k - 1) + within (c .before .before .before .before .before .args .k) s (getD (c .before .before .before .before .before .args .ends .now) (c .before .before .before .before .before .args .i) 0)) (c .before .before .before .start-of .ensures);
-      turned-is = c .is-turned .ensures ∙ ap isTurned (kept (getD (c .before .before .before .before .before .args .signed .now) (c .before .before .before .before .before .args .i) (pos 0)) (c .before .is-turned-arg .given));
-    }
+  start-is = c .before .before .before .start-of .ensures;
+  end-is = refl;
+  first-is = ap (λ (s : ℕ). s - c .before .before .before .before .before .args .i * (c .before .before .before .before .before .args .k - 1)) (c .before .before .before .start-of .ensures);
+  last-is = ap (λ (s : ℕ). s - c .before .before .before .before .before .args .i * (c .before .before .before .before .before .args .k - 1) + within (c .before .before .before .before .before .args .k) s (getD (c .before .before .before .before .before .args .ends .now) (c .before .before .before .before .before .args .i) 0)) (c .before .before .before .start-of .ensures);
+  turned-is = c .is-turned .ensures ∙ ap isTurned (kept (getD (c .before .before .before .before .before .args .signed .now) (c .before .before .before .before .before .args .i) (pos 0)) (c .before .is-turned-arg .given));
+}
 
 pub part-of-spec : {M : Type 1} → statement M
 part-of-spec =
