@@ -2,3 +2,7 @@
 pub mod Signs
 pub mod Marking
 pub mod Turning
+pub mod Parts
+pub mod Placements
+pub mod Permutation
+pub mod Applying

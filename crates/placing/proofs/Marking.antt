@@ -1,4 +1,4 @@
--- Judging signed places by marks in the work table; places that pass are a signed permutation. Assumes nothing.
+-- Judging signed places by marks in the work table, one place after the other. Assumes nothing.
 use mathlib.Core.Path.{_≡_, refl, sym, ap, ap₂, _∙_, subst}
 use mathlib.Core.Bool.{Bool, true, false, not, _||_}
 use mathlib.Core.List.{List, [], _∷_, _++_, map}

@@ -4,3 +4,4 @@ pub mod Places
 pub mod Apply
 pub mod Marks
 pub mod Judged
+pub mod Parts

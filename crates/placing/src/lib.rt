@@ -3,6 +3,10 @@ mod placed;
 mod places;
 mod writing;
 
+use collection::Verdict;
+ghost use mathlib.Core.Path.{_≡_};
+ghost use Rattle.placing.specs.Apply.{outcome, applyOf};
+
 // What APPLY answers: how many letters, ends and weights it filled.
 pub enum ApplyAnswer {
     Filled {
@@ -14,4 +18,55 @@ pub enum ApplyAnswer {
         number: u32,
         place: usize,
     },
+}
+
+// APPLY: each string once, at its place, turned where the place is negative, its weights turned with it.
+pub fn apply(
+    k: usize,
+    letters: &[u8],
+    ends: &[u32],
+    weights: &[u32],
+    signed: &[i32],
+    new_letters: &mut [u8],
+    new_ends: &mut [u32],
+    new_weights: &mut [u32],
+    work: &mut [u32],
+) -> ApplyAnswer
+    ensures { λ r. ⌜ outcome r (now («new_letters» .exit)) (now («new_ends» .exit)) (now («new_weights» .exit)) (now (work .exit)) ≡ applyOf k (now (letters .entry)) (now (ends .entry)) (now (weights .entry)) (now (signed .entry)) (now («new_letters» .entry)) (now («new_ends» .entry)) (now («new_weights» .entry)) (now (work .entry)) ⌝ }
+{
+    let a = placed::judge_tables(
+        k,
+        letters,
+        ends,
+        weights,
+        new_letters.len(),
+        new_ends.len(),
+        new_weights.len(),
+        work.len(),
+    );
+    if let Verdict::Bad { number, place } = a {
+        return ApplyAnswer::Refused { number, place };
+    }
+    let b = places::judge_places(signed, work, ends.len());
+    if let Verdict::Bad { number, place } = b {
+        places::zero_first(work, ends.len());
+        return ApplyAnswer::Refused { number, place };
+    }
+    placed::place_strings(
+        k,
+        letters,
+        ends,
+        weights,
+        signed,
+        work,
+        new_letters,
+        new_ends,
+        new_weights,
+    );
+    places::zero_first(work, ends.len());
+    ApplyAnswer::Filled {
+        letters: letters.len(),
+        ends: ends.len(),
+        weights: weights.len(),
+    }
 }

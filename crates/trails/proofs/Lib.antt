@@ -13,3 +13,4 @@ pub mod Upper
 pub mod Bounds
 pub mod Renamed
 pub mod Examples
+pub mod Kept
