@@ -1,20 +1,111 @@
 -- Reordering keeps the runs inside the strings, so the runs of the reordered weights are R - m + paths, and their fewest are R - m + E + O/2.
 -- Assumes nothing.
-use mathlib.Core.Path.{_≡_, refl, sym, ap, _∙_, subst}
-use mathlib.Core.List.{List, [], _∷_, map, reverse}
+use mathlib.Core.Path.{_≡_, refl, sym, ap, ap₂, _∙_, subst}
+use mathlib.Core.List.{List, [], _∷_, _++_, map, reverse, reverse-cons, reverse-reverse}
 use Prim.Native.Nat.{ℕ, _+_, _-_, _≤_}
 use native.Mathlib.Omega.{arith}
 use lib.IntN.{ℤ}
-use lib.ListN.{length, length-map}
+use lib.ListN.{length, getD, length-append, length-map, length-reverse}
+use lib.Seq.{getD-append-seam}
+use Rattle.lists.specs.Count.{sum}
+use Rattle.lists.specs.Every.{All}
+use Rattle.lists.proofs.Every.{all-map}
 use Rattle.collection.specs.Judge.{Passes}
-use Rattle.collection.specs.Strings.{Str, strings, weightsIn}
+use Rattle.collection.specs.Strings.{Str, strings}
+use Rattle.collection.proofs.Judged.{Judged, collection-good}
+use Rattle.collection.proofs.Strings.{Whole, strings-whole, strings-ends, ends-length}
 use Rattle.runs.specs.Runs.{runCount, innerRuns}
-use Rattle.trails.specs.Groups.{least}
+use Rattle.runs.proofs.Joined.{count-reverse}
 use Rattle.trails.specs.Paths.{pathCount}
 use Rattle.trails.specs.Places.{SignedPermutation, arranged}
 use Rattle.trails.specs.Strings.{Ends, turned}
+use Rattle.trails.proofs.Arranged.{length-arranged, map-arranged}
+use Rattle.trails.proofs.Bounds.{none-fewer, one-reaches}
+use Rattle.trails.proofs.Kept.{all-arranged, total-arranged}
 use Rattle.vertices.specs.EndWeights.{endsOf, endWeights}
+use Rattle.cover.specs.Cover.{Fewest}
 use Rattle.placing.specs.Turned.{turnStr}
-use Rattle.placing.specs.Apply.{reordered}
 use Rattle.fewest.specs.Fewest.{runsAt, leastRuns, FewestRuns}
 use Rattle.fewest.proofs.RunsPaths.{inside, HasWeight, runs-paths}
+
+-- ─── a string turned ─────────────────────────────────────────────────────────
+
+-- the last of weights the other way round is their first
+last-reversed : (ws : List ℕ) → getD (reverse ws) (length (reverse ws) - 1) 0 ≡ getD ws 0 0
+last-reversed [] = refl
+last-reversed (w ∷ ws) =
+    let e : reverse (w ∷ ws) ≡ reverse ws ++ (w ∷ []) = reverse-cons w ws in
+    let n : length (reverse (w ∷ ws)) - 1 ≡ length (reverse ws) = omega (arith, ap length e, length-append (reverse ws) (w ∷ [])) in
+    ap₂ (λ (l : List ℕ) (i : ℕ). getD l i 0) e n ∙ getD-append-seam (reverse ws) w [] 0
+
+-- and their first is the last
+first-reversed : (ws : List ℕ) → getD (reverse ws) 0 0 ≡ getD ws (length ws - 1) 0
+first-reversed ws = sym (last-reversed (reverse ws)) ∙ ap (λ (l : List ℕ). getD l (length l - 1) 0) (reverse-reverse ws)
+
+-- a string turned has its end weights turned
+ends-turned : (s : Str) → endsOf (turnStr s) ≡ turned (endsOf s)
+ends-turned s = λ i. (first-reversed (s .weights) i, last-reversed (s .weights) i)
+
+-- ─── runs of the reordered weights ───────────────────────────────────────────
+
+has-run : (ws : List ℕ) → 1 ≤ length ws → 1 ≤ runCount ws
+unfolding Rattle.runs.specs.Runs.runs
+has-run [] h = absurd (omega arith)
+has-run (w ∷ ws) h = omega arith
+
+inside-enough : (ss : List Str) → All HasWeight ss → length ss ≤ inside ss
+unfolding sum
+inside-enough [] h = omega arith
+inside-enough (s ∷ ss) h = omega (arith, has-run (s .weights) (h .0), inside-enough ss (h .1))
+
+module _ (k : ℕ) (letters ends weights : List ℕ) (passes : Passes k letters ends weights) where
+  ss : List Str
+  ss = strings k letters ends weights
+
+  j : Judged k letters ends weights
+  j = collection-good k letters ends weights passes
+
+  whole : All (Whole k) ss
+  unfolding ss
+  whole = strings-whole weights (j .shape) (j .counted)
+
+  some-weights : All HasWeight ss
+  some-weights = all-map (λ s w. let l = w .long in let c = w .counted in let z : 1 ≤ length (s .weights) = omega arith in z) ss whole
+
+  string-count : length ss ≡ length ends
+  unfolding ss
+  string-count = sym (ends-length 0 (strings k letters ends weights)) ∙ ap length (strings-ends weights (j .shape) (j .counted))
+
+  end-count : length (endWeights k letters ends weights) ≡ length ends
+  unfolding endWeights ss
+  end-count = length-map (strings k letters ends weights) endsOf ∙ string-count
+
+  enough : length ends ≤ innerRuns k letters ends weights
+  unfolding innerRuns ss
+  enough = subst (λ (n : ℕ). n ≤ inside (strings k letters ends weights)) string-count (inside-enough (strings k letters ends weights) some-weights)
+
+  -- for any order and turning: runs and strings together are R and the paths together
+  pub runs-at : (places : List ℤ) → SignedPermutation (length ends) places
+      → runsAt k letters ends weights places + length ends ≡ innerRuns k letters ends weights + pathCount (arranged turned places (endWeights k letters ends weights))
+  unfolding innerRuns endWeights ss
+  runs-at places perm =
+      let all : List Str = strings k letters ends weights in
+      let a = runs-paths (arranged turnStr places all) (all-arranged turnStr HasWeight (λ s h. subst (λ (n : ℕ). 1 ≤ n) (sym (length-reverse (s .weights))) h) places all some-weights) in
+      let n = length-arranged turnStr (record { letters = []; weights = [] }) (length ends) places all perm string-count in
+      let t = total-arranged turnStr (λ s. runCount (s .weights)) inside refl (λ s r. refl) (λ s. count-reverse (s .weights)) (length ends) places all perm string-count in
+      let e = map-arranged turnStr turned endsOf ends-turned places all in
+      omega (arith, a, n, t, ap pathCount e)
+
+  -- the fewest runs of any order and turning are R - m + E + O/2
+  pub fewest-runs : FewestRuns k letters ends weights (leastRuns k letters ends weights)
+  fewest-runs =
+      let es : List Ends = endWeights k letters ends weights in
+      let r = one-reaches es in
+      record {
+        none-fewer = λ places perm. omega (arith, runs-at places perm, enough, none-fewer es places (subst (λ (n : ℕ). SignedPermutation n places) (sym end-count) perm));
+        reached = (r .0, subst (λ (n : ℕ). SignedPermutation n (r .0)) end-count (r .1), omega (arith, runs-at (r .0) (subst (λ (n : ℕ). SignedPermutation n (r .0)) end-count (r .1)), enough, r .2));
+      }
+
+  -- places with the least number of paths, as COVER gives them, have the fewest runs
+  pub cover-fewest : (places : List ℤ) → Fewest (endWeights k letters ends weights) places → runsAt k letters ends weights places ≡ leastRuns k letters ends weights
+  cover-fewest places f = omega (arith, runs-at places (subst (λ (n : ℕ). SignedPermutation n places) end-count (f .permutation)), enough, f .fewest)
