@@ -87,7 +87,7 @@ module _ (k : ℕ) (letters ends weights : List ℕ) (passes : Passes k letters 
   -- for any order and turning: runs and strings together are R and the paths together
   pub runs-at : (places : List ℤ) → SignedPermutation (length ends) places
       → runsAt k letters ends weights places + length ends ≡ innerRuns k letters ends weights + pathCount (arranged turned places (endWeights k letters ends weights))
-  unfolding innerRuns endWeights ss
+  unfolding innerRuns endWeights ss sum
   runs-at places perm =
       let all : List Str = strings k letters ends weights in
       let a = runs-paths (arranged turnStr places all) (all-arranged turnStr HasWeight (λ s h. subst (λ (n : ℕ). 1 ≤ n) (sym (length-reverse (s .weights))) h) places all some-weights) in
