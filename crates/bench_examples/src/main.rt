@@ -1,11 +1,12 @@
 // Runs the bench examples of document 01 that are not starred, and some that are, and writes one line each: what was
 // asked, and the answer. The file `stdout` holds what the lines should be.
-mod sheets;
+mod reordering;
 
 use collection::Side;
 use collection::Verdict;
 use libc::STDOUT_FILENO;
 use lookups::PlainAnswer;
+use repeats::CheckAnswer;
 use runs::RunsAnswer;
 use runs::WeightAnswer;
 
@@ -155,6 +156,27 @@ fn weigh_all() {
     show_weight(b"a run past n", 9, 8);
 }
 
+// How many k-mers CHECK looked at, or 100 + number and the place if it refuses.
+fn show_check(asked: &[u8], k: usize, letters: &[u8], ends: &[u32], weights: &[u32]) {
+    let mut work = [0u32; 64];
+    let answer = repeats::check(k, letters, ends, weights, &mut work);
+    match answer {
+        CheckAnswer::Checked { kmers } => show(asked, kmers as u64, 0),
+        CheckAnswer::Refused { number, place } => show(asked, 100 + number as u64, place as u64),
+    }
+}
+
+fn check_all() {
+    show_check(b"the sheet checked", 3, &LETTERS, &ENDS, &WEIGHTS);
+    let two = [3u32, 6];
+    let one = [1u32; 2];
+    show_check(b"ACG and CGT", 3, b"ACGCGT", &two, &one);
+    show_check(b"ACG and GTC", 3, b"ACGGTC", &two, &one);
+    let four = [4u32; 1];
+    let weight = [1u32; 1];
+    show_check(b"ACGT is its own pair", 4, b"ACGT", &four, &weight);
+}
+
 fn main() {
     turn_all();
     judge_all();
@@ -162,8 +184,6 @@ fn main() {
     plain_all();
     show_runs();
     weigh_all();
-    sheets::read_good();
-    sheets::read_forms();
-    sheets::read_numbers();
-    sheets::read_counts();
+    check_all();
+    reordering::cover_sheet();
 }
