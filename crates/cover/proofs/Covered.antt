@@ -1,7 +1,7 @@
 -- The halves of all walks give places with the fewest paths: without the spokes they are an order that has the least number of paths,
 -- and the places put the strings into that order.
-use mathlib.Core.Path.{_≡_, refl, ap, ap₂, sym, _∙_, subst}
-use mathlib.Core.Bool.{Bool, true, false}
+use mathlib.Core.Path.{_≡_, refl, ap, sym, _∙_, subst}
+use mathlib.Core.Bool.{false}
 use mathlib.Core.List.{List, [], _∷_, _++_, map, append-nil}
 use Prim.Native.Nat.{ℕ, zero, suc, _+_, _-_, _*_, _/_, _<_, _≤_}
 use native.Mathlib.Omega.{arith}
@@ -9,7 +9,7 @@ use native.Mathlib.Decide.{ℕ-discrete}
 use lib.IntN.{ℤ, pos}
 use lib.ListN.{length, getD, drop, length-map, length-append, length-drop, drop-of-length-le}
 use Rattle.lists.specs.Fill.{put}
-use Rattle.trails.specs.Counting.{occurs, oddly, sumBelow}
+use Rattle.trails.specs.Counting.{oddly, sumBelow}
 use Rattle.trails.specs.Groups.{countOdd, oddWeights, least}
 use Rattle.trails.specs.Paths.{pathCount}
 use Rattle.trails.specs.Places.{signed, SignedPermutation, arranged}
@@ -25,7 +25,7 @@ use Rattle.trails.proofs.Upper.{toured-reordered, toured-answer, toured-least}
 use Rattle.tours.specs.Layout.{Tables}
 use Rattle.tours.specs.Halves.{near, gone, numbered}
 use Rattle.tours.specs.Rows.{Graph}
-use Rattle.tours.specs.States.{along, numbers, strings, Done}
+use Rattle.tours.specs.States.{along, strings, Done}
 use Rattle.tours.proofs.Tours.{hub-fresh}
 use Rattle.cover.specs.Cover.{Fewest}
 use Rattle.vertices.specs.Ladder.{ladder}

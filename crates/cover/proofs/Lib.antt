@@ -3,3 +3,4 @@ pub mod Signs
 pub mod Placing
 pub mod Covered
 pub mod Promised
+pub mod Laws

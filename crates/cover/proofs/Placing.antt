@@ -1,22 +1,22 @@
 -- The halves that walks went along give a signed permutation: each string stands among them once.
 use mathlib.Core.Path.{_≡_, refl, ap, ap₂, sym, _∙_, subst}
 use mathlib.Core.Logic.{inl, inr}
-use mathlib.Core.Bool.{Bool, true, false}
-use mathlib.Core.List.{List, [], _∷_, _++_, map}
-use Prim.Native.Nat.{ℕ, zero, suc, _+_, _-_, _*_, _/_, _%_, _<_, _≤_}
+use mathlib.Core.Bool.{Bool, false}
+use mathlib.Core.List.{List, [], _∷_, map}
+use Prim.Native.Nat.{ℕ, zero, suc, _+_, _*_, _/_, _%_, _<_, _≤_}
 use native.Mathlib.Omega.{arith}
 use native.Mathlib.Decide.{ℕ-discrete, decLt}
 use borrow.Author.Tests.{lt-ltb, le-ltb, eq-eqb, ne-eqb}
 use lib.Dec.{eqb, ltb}
 use lib.IntN.{ℤ, pos}
-use lib.ListN.{length, getD, set, drop, length-set, length-map, drop-of-length-le}
+use lib.ListN.{length, getD, set, drop, length-set, drop-of-length-le}
 use Rattle.lists.proofs.Storing.{drop-next}
 use lib.Seq.{getD-set-same, getD-set-other}
 use Rattle.lists.specs.Choose.{choose}
 use Rattle.trails.specs.Counting.{agree, occurs}
-use Rattle.trails.specs.Places.{signed, SignedPermutation, arranged}
+use Rattle.trails.specs.Places.{signed}
 use Rattle.trails.specs.Strings.{Ends, front, back, turned}
-use Rattle.trails.proofs.Arranged.{marked, marked-permutation, marked-arranged}
+use Rattle.trails.proofs.Arranged.{marked}
 use Rattle.trails.proofs.Counting.{agree-same, agree-other, Agreeing, agree-cases}
 use Rattle.trails.proofs.Hub.{unspoked}
 use Rattle.tours.specs.Halves.{near, other, gone, numbered}

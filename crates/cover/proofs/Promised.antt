@@ -1,7 +1,7 @@
 -- COVER's promise from its verdict: refused, with no strings, and done.
 use mathlib.Core.Path.{_≡_, refl, ap, sym, _∙_, subst}
 use mathlib.Core.List.{List, [], _∷_, _++_}
-use Prim.Native.Nat.{ℕ, zero, suc, _+_, _*_, _<_, _≤_}
+use Prim.Native.Nat.{ℕ, _*_, _≤_}
 use native.Mathlib.Omega.{arith}
 use lib.IntN.{ℤ}
 use lib.ListN.{length, take, drop, replicate, length-replicate}
@@ -12,11 +12,10 @@ use Rattle.collection.specs.declared.Verdict.the-variants.{Good, Bad}
 use Rattle.collection.specs.Judge.{collectionVerdict}
 use Rattle.collection.specs.Kmers.{kmers}
 use Rattle.collection.specs.Strings.{stringsFrom}
-use Rattle.collection.specs.Verdict.{andThen, settle, roomVerdict}
+use Rattle.collection.specs.Verdict.{roomVerdict}
 use Rattle.collection.proofs.Judged.{Judged, collection-good, shape-long}
 use Rattle.collection.proofs.Kmers.{kmers-counted}
 use Rattle.collection.proofs.Verdicts.{both-good, room-good, refused, settled}
-use Rattle.trails.specs.Groups.{least}
 use Rattle.trails.specs.Strings.{Ends}
 use Rattle.trails.specs.Places.{SignedPermutation, arrangedTo}
 use Rattle.trails.proofs.Bounds.{no-strings}
@@ -27,7 +26,6 @@ use Rattle.vertices.specs.Ladder.{ladder}
 use Rattle.vertices.specs.Promises.{Strung}
 use Rattle.vertices.proofs.EndWeights.{end-weights}
 use Rattle.vertices.proofs.Ladder.{ladder-zeros}
-use Rattle.cover.specs.declared.CoverAnswer.{CoverAnswer}
 use Rattle.cover.specs.declared.CoverAnswer.the-variants.{Covered, Refused}
 use Rattle.cover.specs.Cover.{coverVerdict, Fewest, PlacesAfter, CoverOf}
 use Rattle.cover.specs.Placing.{Covering}

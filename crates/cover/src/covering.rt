@@ -1,6 +1,6 @@
 // From judged tables to places: the table is laid out, walked over, and its halves give the strings their places.
 ghost use mathlib.Core.Path.{_≡_};
-ghost use Prim.Native.Nat.{ℕ, _+_, _*_, _≤_, _<_};
+ghost use Prim.Native.Nat.{_+_, _*_, _≤_, _<_};
 ghost use lib.ListN.{length, drop};
 ghost use Rattle.trails.specs.Places.{signed};
 ghost use Rattle.tours.specs.Layout.{Fits, tables};

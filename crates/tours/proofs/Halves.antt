@@ -1,12 +1,12 @@
 -- Laws of halves: where they start, what stays unused when one is taken, and when none is left at a vertex.
 use mathlib.Core.Path.{_≡_, refl, ap, ap₂, sym, _∙_, subst}
-use mathlib.Core.List.{List, [], _∷_, _++_}
+use mathlib.Core.List.{List, [], _∷_}
 use Prim.Native.Nat.{ℕ, zero, suc, _+_, _-_, _*_, _/_, _%_, _≤_, _<_}
 use native.Mathlib.Omega.{arith}
 use native.Mathlib.Decide.{ℕ-discrete}
 use borrow.Author.Tests.{lt-ltb, le-ltb, eq-eqb, ne-eqb}
 use lib.ListN.{length, getD, set}
-use Rattle.trails.specs.Counting.{agree, occurs}
+use Rattle.trails.specs.Counting.{occurs}
 use Rattle.trails.specs.Strings.{Ends, weights}
 use Rattle.trails.proofs.Counting.{agree-same, agree-other}
 use Rattle.trails.proofs.Orders.{Reordered, keep, turn, exchange, both, unmoved, occurs-reordered}
@@ -41,19 +41,16 @@ module _ (f : ℕ → ℕ) where
   use-one e (suc n ∷ flags) zero l z = absurd (omega arith)
   use-one e (suc n ∷ flags) (suc i) l z = let q : e + suc i ≡ suc e + i = omega arith in rw q (use-one (suc e) flags i (omega arith) z)
 
-  -- half c is used, as it is gone along
+  -- number i is used, as it is gone along from its half c
+  use-at : (flags : List ℕ) (i a b : ℕ) → i < length flags → getD flags i 0 ≡ 0 → 2 * (0 + i) ≡ a → 2 * (0 + i) + 1 ≡ b → Reordered (unused f 0 flags) ((f a, f b) ∷ unused f 0 (set flags i 1))
+  use-at flags i a b l z p q = rw (q, p) at (use-one 0 flags i l z)
+
   pub use-half : (flags : List ℕ) (c : ℕ) → c / 2 < length flags → getD flags (c / 2) 0 ≡ 0 → Reordered (unused f 0 flags) (gone f c ∷ unused f 0 (set flags (c / 2) 1))
   use-half flags c l z = go (ℕ-discrete (c % 2) 0)
     where
       go : Dec (c % 2 ≡ 0) → Reordered (unused f 0 flags) (gone f c ∷ unused f 0 (set flags (c / 2) 1))
-      go (yes p) =
-          let a : 2 * (0 + c / 2) ≡ c = omega arith in
-          let b : 2 * (0 + c / 2) + 1 ≡ other c = omega arith in
-          subst (λ (s : Ends). Reordered (unused f 0 flags) (s ∷ unused f 0 (set flags (c / 2) 1))) (ap₂ (λ (x y : ℕ). (f x, f y)) a b) (use-one 0 flags (c / 2) l z)
-      go (no p) =
-          let a : 2 * (0 + c / 2) ≡ other c = omega arith in
-          let b : 2 * (0 + c / 2) + 1 ≡ c = omega arith in
-          both (subst (λ (s : Ends). Reordered (unused f 0 flags) (s ∷ unused f 0 (set flags (c / 2) 1))) (ap₂ (λ (x y : ℕ). (f x, f y)) a b) (use-one 0 flags (c / 2) l z)) (turn (unmoved _))
+      go (yes p) = use-at flags (c / 2) c (other c) l z (omega arith) (omega arith)
+      go (no p) = both (use-at flags (c / 2) (other c) c l z (omega arith) (omega arith)) (turn (unmoved (unused f 0 (set flags (c / 2) 1))))
 
   -- ─── none is left ──────────────────────────────────────────────────────────
 

@@ -1,11 +1,10 @@
 -- Reads and stores of the table, region by region: a store in one region leaves the others. From the laws of regions.
-use mathlib.Core.Path.{_≡_, refl, sym, ap, _∙_}
+use mathlib.Core.Path.{_≡_, sym, ap, _∙_}
 use mathlib.Core.Logic.{inl, inr}
 use mathlib.Core.List.{List}
-use Prim.Native.Nat.{ℕ, _+_, _*_, _/_, _≤_, _<_}
+use Prim.Native.Nat.{ℕ, _+_, _*_, _/_, _<_}
 use native.Mathlib.Omega.{arith}
 use lib.ListN.{length, getD, set}
-use Rattle.lists.specs.Regions.{part}
 use Rattle.lists.proofs.Regions.{part-at, part-length, part-set, part-set-other}
 use Rattle.tours.specs.Layout.{Fits, Tables, tables}
 use Rattle.tours.specs.States.{moved, taken, returned}

@@ -1,6 +1,6 @@
 -- A walk over the table, step by step: each step of the code is one of the steps of a walk over lists (the laws of `trails`).
 use mathlib.Core.Path.{_≡_, refl, ap, sym, _∙_, subst}
-use mathlib.Core.Logic.{_⊎_, inl, inr}
+use mathlib.Core.Logic.{inl, inr}
 use mathlib.Core.List.{List, [], _∷_, _++_}
 use Prim.Native.Nat.{ℕ, zero, suc, _+_, _-_, _*_, _/_, _%_, _≤_, _<_}
 use native.Mathlib.Omega.{arith}
@@ -8,14 +8,14 @@ use native.Mathlib.Numerals.{add-one}
 use native.Mathlib.Decide.{ℕ-discrete, decLt}
 use lib.ListN.{length, getD, set, drop, length-set}
 use lib.Seq.{drop-cons, drop-set-lt, getD-set-same, getD-set-other}
-use Rattle.trails.specs.Counting.{agree, occurs}
+use Rattle.trails.specs.Counting.{occurs}
 use Rattle.trails.specs.Strings.{Ends, weights}
 use Rattle.trails.proofs.Counting.{agree-same, agree-other}
 use Rattle.trails.proofs.Orders.{Reordered, length-reordered}
 use Rattle.trails.proofs.Walk.{Walk, Closed, started, taken as walk-taken, popped, closed as walk-closed}
 use Rattle.tours.specs.Layout.{Tables}
 use Rattle.tours.specs.Halves.{near, other, gone, unused}
-use Rattle.tours.specs.Rows.{Graph, Passed, Cursor, Cursors, Answer}
+use Rattle.tours.specs.Rows.{Graph, Cursors, Answer}
 use Rattle.tours.specs.States.{moved, taken, returned, Same, Found, left, along, numbers, Between, Ready, Walked}
 use Rattle.tours.proofs.Halves.{near-string, near-hub, near-spoke, use-half}
 

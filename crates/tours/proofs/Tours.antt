@@ -1,7 +1,7 @@
 -- All walks: the walk from the hub is the first of a tour, each later one is a later walk of it, and when all strings are used the spokes are, too.
-use mathlib.Core.Path.{_≡_, refl, ap, ap₂, sym, _∙_, subst}
+use mathlib.Core.Path.{_≡_, refl, ap, sym, _∙_, subst}
 use mathlib.Core.List.{List, [], _∷_, _++_, map, map-append, append-nil}
-use Prim.Native.Nat.{ℕ, zero, suc, _+_, _-_, _*_, _/_, _%_, _≤_, _<_}
+use Prim.Native.Nat.{ℕ, zero, suc, _+_, _*_, _/_, _≤_, _<_}
 use native.Mathlib.Omega.{arith}
 use native.Mathlib.Decide.{ℕ-discrete, decLt}
 use lib.ListN.{length, getD, drop, drop-of-length-le}
@@ -9,11 +9,11 @@ use Rattle.trails.specs.Counting.{occurs}
 use Rattle.trails.specs.Strings.{Ends, weights}
 use Rattle.trails.proofs.Counting.{agree-other}
 use Rattle.trails.proofs.Upper.{Toured, first-walk, later-walk}
-use Rattle.trails.proofs.Walk.{Closed, closed-before}
+use Rattle.trails.proofs.Walk.{closed-before}
 use Rattle.tours.specs.Layout.{Tables}
 use Rattle.tours.specs.Halves.{near, gone, unused, numbered}
 use Rattle.tours.specs.Rows.{Graph}
-use Rattle.tours.specs.States.{Same, left, along, numbers, Ready, Walked, strings, Begun, Touring, Visited, Done}
+use Rattle.tours.specs.States.{Same, left, along, Walked, strings, Begun, Touring, Visited, Done}
 use Rattle.tours.proofs.Halves.{near-string, near-hub, some-unused}
 
 -- no string touches the hub

@@ -1,7 +1,7 @@
 // Walks over halves of strings and spokes. The regions of `work`, for m strings: vertices at 0, flags at 2m, rows at 5m, cursors at 9m, the stack at 12m.
 ghost use mathlib.Core.Path.{_≡_};
-ghost use Prim.Native.Nat.{ℕ, _+_, _*_, _/_, _≤_, _<_};
-ghost use lib.ListN.{length, getD, set};
+ghost use Prim.Native.Nat.{_+_, _*_, _/_, _≤_, _<_};
+ghost use lib.ListN.{getD};
 ghost use Rattle.tours.specs.Layout.{Fits, tables};
 ghost use Rattle.tours.specs.Halves.{near as near', other as other'};
 ghost use Rattle.tours.specs.Rows.{Graph, Cursor, Cursors, Sought, Answer};

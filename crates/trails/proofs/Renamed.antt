@@ -1,8 +1,7 @@
 -- Names that tell weights apart keep which strings join, so each order has as many paths under them, and the least number of paths is the same.
 use mathlib.Core.Path.{_≡_, refl, ap, sym, _∙_, subst}
 use mathlib.Core.List.{List, [], _∷_, _++_, map, append-nil}
-use Prim.Native.Nat.{ℕ, suc, _+_, _-_, _≤_}
-use native.Mathlib.Omega.{arith}
+use Prim.Native.Nat.{ℕ, _+_, _-_, _≤_}
 use native.Mathlib.Decide.{ℕ-discrete}
 use lib.IntN.{ℤ}
 use lib.ListN.{length, length-map}
@@ -12,7 +11,6 @@ use Rattle.trails.specs.Strings.{Ends, front, back, turned, weights}
 use Rattle.trails.specs.Paths.{paths, pathCount}
 use Rattle.trails.specs.Places.{SignedPermutation, arranged}
 use Rattle.trails.specs.Groups.{least}
-use Rattle.trails.specs.Bounds.{LeastPaths}
 use Rattle.trails.specs.Renamed.{renamed, Renamed}
 use Rattle.trails.proofs.Arranged.{map-arranged}
 use Rattle.trails.proofs.Bounds.{none-fewer, one-reaches, least-only}

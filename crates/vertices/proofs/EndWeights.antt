@@ -1,20 +1,17 @@
 -- The end weights of strings, one string after the other as a loop meets them.
-use mathlib.Core.Path.{_≡_, refl, ap, ap₂, sym, _∙_}
-use mathlib.Core.Bool.{true}
-use mathlib.Core.List.{List, [], _∷_, _++_, map}
-use Prim.Native.Nat.{ℕ, zero, suc, _+_, _-_, _*_, _<_, _≤_}
+use mathlib.Core.Path.{_≡_, refl, ap, ap₂, _∙_}
+use mathlib.Core.List.{List, [], _∷_, map}
+use Prim.Native.Nat.{ℕ, suc, _+_, _-_, _*_, _<_, _≤_}
 use native.Mathlib.Omega.{arith}
 use lib.ListN.{length, getD, set, take, drop, length-append, length-drop, length-set, drop-of-length-le}
 use lib.Seq.{length-take-le, getD-take, getD-drop, drop-drop}
 use Rattle.lists.specs.Count.{countFrom}
-use Rattle.lists.specs.Every.{All}
 use Rattle.lists.proofs.Count.{length-count}
-use Rattle.lists.proofs.Every.{all-at}
 use Rattle.lists.specs.Fill.{put}
 use Rattle.lists.proofs.Storing.{drop-next, Storing, begin-at, inside, store, restated, stored}
-use Rattle.collection.specs.Judge.{firstShort, lastEnd, isWeight}
+use Rattle.collection.specs.Judge.{firstShort, lastEnd}
 use Rattle.collection.specs.Kmers.{within, kmersFrom, kmers}
-use Rattle.collection.specs.Strings.{Str, stringsFrom, strings}
+use Rattle.collection.specs.Strings.{stringsFrom}
 use Rattle.collection.proofs.Judged.{long-cons}
 use Rattle.collection.proofs.Kmers.{kmers-next, Strings-left, strings-begin, Next, next-string, strings-on}
 use Rattle.trails.proofs.Orders.{length-weights}

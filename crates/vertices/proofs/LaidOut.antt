@@ -1,36 +1,35 @@
 -- The table that the stages leave is ready for the walks.
 use mathlib.Core.Path.{_≡_, refl, ap, ap₂, sym, _∙_, subst}
 use mathlib.Core.Logic.{_⊎_, inl, inr}
-use mathlib.Core.List.{List, [], _∷_, _++_, map}
-use Prim.Native.Nat.{ℕ, zero, suc, _+_, _-_, _*_, _/_, _%_, _<_, _≤_}
+use mathlib.Core.List.{List, [], _++_, map}
+use Prim.Native.Nat.{ℕ, _+_, _-_, _*_, _/_, _%_, _<_, _≤_}
 use native.Mathlib.Omega.{arith}
 use native.Mathlib.Decide.{decLt}
 use lib.ListN.{length, getD, drop, length-map, length-append, drop-of-length-le, List·getD-append, List·getD-eq-default}
 use lib.Seq.{ext-getD, getD-append-add}
 use Rattle.lists.specs.Every.{All}
 use Rattle.lists.specs.Regions.{part, Apart}
-use Rattle.lists.proofs.Every.{at-all, all-at}
+use Rattle.lists.proofs.Every.{at-all}
 use Rattle.lists.proofs.Mapped.{map-at-below}
 use Rattle.lists.proofs.Regions.{part-length, part-add, only-part}
 use Rattle.trails.specs.Counting.{occurs, oddly}
 use Rattle.trails.specs.Strings.{Ends, weights}
 use Rattle.trails.specs.Renamed.{renamed, Renamed}
 use Rattle.trails.proofs.Counting.{AllBelow, occurs-where, occurs-beyond}
-use Rattle.trails.proofs.Hub.{spokes, spoked, spokesTo, limit, spoked-even, spoked-listed}
+use Rattle.trails.proofs.Hub.{spokes, spoked, spokesTo, spoked-even, spoked-listed}
 use Rattle.trails.proofs.Orders.{Reordered, both, occurs-reordered}
 use Rattle.trails.proofs.Renamed.{swapped}
 use Rattle.trails.proofs.Walk.{AllEven}
 use Rattle.tours.specs.Layout.{Fits, Tables, tables}
 use Rattle.tours.specs.Halves.{near, unused, numbered}
-use Rattle.tours.specs.Rows.{InRow, Graph, Cursor, Cursors}
-use Rattle.tours.specs.States.{left, numbers, strings, Between, Ready, Begun}
+use Rattle.tours.specs.Rows.{InRow, Graph, Cursors}
+use Rattle.tours.specs.States.{left, strings, Begun}
 use Rattle.tours.proofs.Halves.{near-string, near-hub}
 use Rattle.tours.proofs.Tours.{hub-fresh}
 use Rattle.vertices.specs.EndWeights.{endsFrom}
 use Rattle.vertices.specs.Firsts.{firstOf, keyed}
 use Rattle.vertices.specs.Ladder.{ladder}
 use Rattle.vertices.specs.Promises.{Rising, Ordered, Named, Blank, Marked, LaidOut}
-use Rattle.vertices.proofs.EndWeights.{length-keys}
 use Rattle.vertices.proofs.Firsts.{first-le, first-key, first-between, first-same}
 use Rattle.vertices.proofs.Ladder.{length-ladder, ladder-at}
 use Rattle.vertices.proofs.Ordering.{inOrder, order-length, order-rising, order-place}

@@ -3,9 +3,8 @@ use mathlib.Core.Path.{_≡_, refl, ap, ap₂, sym, subst, _∙_}
 use mathlib.Core.Logic.{inl, inr}
 use mathlib.Core.Bool.{true}
 use mathlib.Core.List.{List, [], _∷_}
-use Prim.Native.Nat.{ℕ, zero, suc, _+_, _-_, _*_, _^_, _<_, _≤_}
+use Prim.Native.Nat.{ℕ, zero, suc, _+_, _-_, _*_, _<_, _≤_}
 use native.Mathlib.Omega.{arith}
-use native.Mathlib.Decide.{decLt}
 use borrow.Author.Tests.{leb-true}
 use lib.Dec.{leb}
 use lib.ListN.{length, getD, drop}
@@ -28,7 +27,6 @@ use Rattle.sorting.proofs.Laws.{sorted-part}
 use Rattle.tours.specs.Layout.{Fits}
 use Rattle.trails.specs.Strings.{weights}
 use Rattle.vertices.specs.EndWeights.{endsFrom}
-use Rattle.vertices.specs.Firsts.{keyed}
 use Rattle.vertices.specs.Ladder.{ladder}
 use Rattle.vertices.specs.Promises.{Strung, Ordered, Rising}
 use Rattle.vertices.proofs.Ladder.{length-ladder}

@@ -1,12 +1,12 @@
 -- What is unused before the walks: the strings, and the spokes to the vertices that are met oddly often.
-use mathlib.Core.Path.{_≡_, refl, ap, ap₂, sym, _∙_, subst}
+use mathlib.Core.Path.{_≡_, refl, ap, ap₂, sym, _∙_}
 use mathlib.Core.List.{List, [], _∷_, _++_, map}
-use Prim.Native.Nat.{ℕ, zero, suc, _+_, _-_, _*_, _/_, _%_, _<_, _≤_}
+use Prim.Native.Nat.{ℕ, zero, suc, _+_, _-_, _*_, _%_, _<_, _≤_}
 use native.Mathlib.Omega.{arith}
-use native.Mathlib.Decide.{ℕ-discrete, decLt}
+use native.Mathlib.Decide.{decLt}
 use lib.ListN.{length, getD}
 use lib.Seq.{ext-getD}
-use Rattle.trails.specs.Counting.{agree, occurs, oddly}
+use Rattle.trails.specs.Counting.{occurs, oddly}
 use Rattle.trails.specs.Strings.{Ends, front, back, weights}
 use Rattle.trails.specs.Renamed.{renamed}
 use Rattle.trails.proofs.Counting.{agree-same, agree-other}

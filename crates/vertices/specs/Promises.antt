@@ -14,7 +14,6 @@ use Rattle.collection.specs.Long.{Long}
 use Rattle.sorting.specs.Keys.{keyAt}
 use Rattle.trails.specs.Counting.{occurs}
 use Rattle.trails.specs.Renamed.{Renamed}
-use Rattle.trails.specs.Strings.{weights}
 use Rattle.tours.specs.Layout.{tables}
 use Rattle.tours.specs.States.{strings, Begun}
 use Rattle.vertices.specs.EndWeights.{endsFrom}

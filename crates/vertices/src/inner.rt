@@ -1,8 +1,8 @@
 // The stages of laying out the work table for m strings. The weights stand at 12m until the vertices are named, and the sort's buffer at 9m.
 ghost use mathlib.Core.Path.{_≡_};
-ghost use Prim.Native.Nat.{ℕ, _+_, _*_, _^_, _≤_, _<_};
+ghost use Prim.Native.Nat.{_+_, _*_, _^_, _≤_, _<_};
 ghost use lib.Dec.{eqb};
-ghost use lib.ListN.{length, getD};
+ghost use lib.ListN.{length};
 ghost use Rattle.lists.specs.Choose.{choose};
 ghost use Rattle.lists.specs.Every.{All};
 ghost use Rattle.lists.specs.Fill.{put};

@@ -1,5 +1,5 @@
 -- `cover` meets its contract: the verdict, then the strings covered in parts of the lent tables (proofs/Promised).
-use mathlib.Core.Path.{_≡_, sym, _∙_}
+use mathlib.Core.Path.{sym, _∙_}
 use native.Mathlib.Omega.{arith}
 use Rattle.cover.proofs.Promised.{cover-good, strung, work-fits, places-fit, cover-refused, cover-none, cover-all}
 use borrow.Author.Needs.{needs}

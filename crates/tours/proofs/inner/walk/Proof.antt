@@ -1,10 +1,9 @@
 -- `walk` meets its contract: each turn is a step of the walk (proofs/Steps). The measure: what is unused counts twice, for it is taken and given back.
 use mathlib.Core.Path.{ap}
-use Prim.Native.Nat.{ℕ, _+_, _*_}
+use Prim.Native.Nat.{_+_, _*_}
 use native.Mathlib.Omega.{arith}
 use lib.ListN.{length}
 use Rattle.tours.specs.Layout.{Fits, tables}
-use Rattle.tours.specs.Rows.{Answer}
 use Rattle.tours.specs.States.{left}
 use Rattle.tours.proofs.Regions.{fits-same}
 use Rattle.tours.proofs.Steps.{Going, going-start, going-found, going-took, took-fewer, take-inside, going-gave, going-closed, found-left, gave-left}

@@ -1,0 +1,65 @@
+-- What a caller reads off COVER's promise: no order and turning has fewer paths, and the promise determines all but which of the best orders is filled in.
+use mathlib.Core.Path.{_≡_, refl, ap, sym, _∙_, subst}
+use mathlib.Core.List.{List, [], _∷_}
+use Prim.Native.Nat.{ℕ, suc, _+_, _-_, _/_, _≤_}
+use lib.IntN.{ℤ}
+use lib.ListN.{length, drop, length-map}
+use Rattle.lists.specs.Fill.{fill}
+use Rattle.collection.specs.declared.Verdict.{Verdict}
+use Rattle.collection.specs.declared.Verdict.the-variants.{Good, Bad}
+use Rattle.collection.specs.Kmers.{within}
+use Rattle.collection.specs.Strings.{stringsFrom, strings}
+use Rattle.trails.specs.Groups.{evenGroups, oddWeights, least}
+use Rattle.trails.specs.Paths.{pathCount}
+use Rattle.trails.specs.Places.{SignedPermutation, arranged}
+use Rattle.trails.specs.Strings.{Ends, turned}
+use Rattle.trails.proofs.Bounds.{none-fewer}
+use Rattle.vertices.specs.EndWeights.{endsOf, endWeights}
+use Rattle.cover.specs.declared.CoverAnswer.{CoverAnswer}
+use Rattle.cover.specs.declared.CoverAnswer.the-variants.{Covered, Refused}
+use Rattle.cover.specs.Cover.{coverVerdict, Fewest, PlacesAfter, Promise}
+use Rattle.collection.proofs.Verdicts.{settled}
+
+-- ─── the strings ─────────────────────────────────────────────────────────────
+
+strings-count : (k before : ℕ) (letters ends weights : List ℕ) → length (stringsFrom k before letters ends weights) ≡ length ends
+unfolding stringsFrom
+strings-count k before letters [] weights = refl
+strings-count k before letters (e ∷ ends) weights = ap suc (strings-count k e (drop (e - before) letters) ends (drop (within k before e) weights))
+
+-- each of the m strings has its end weights
+pub ends-count : (k : ℕ) (letters ends weights : List ℕ) → length (endWeights k letters ends weights) ≡ length ends
+unfolding endWeights
+ends-count k letters ends weights = length-map (strings k letters ends weights) endsOf ∙ strings-count k 0 letters ends weights
+
+-- ─── fewest ──────────────────────────────────────────────────────────────────
+
+-- no signed permutation has fewer paths
+pub cover-least : {strings : List Ends} {ps : List ℤ} → Fewest strings ps
+    → (qs : List ℤ) → SignedPermutation (length strings) qs → pathCount (arranged turned ps strings) ≤ pathCount (arranged turned qs strings)
+cover-least {strings} f qs s = rw (f .fewest) (none-fewer strings qs s)
+
+-- the number is E + O / 2
+pub cover-number : {strings : List Ends} {ps : List ℤ} → Fewest strings ps → pathCount (arranged turned ps strings) ≡ evenGroups strings + oddWeights strings / 2
+unfolding least
+cover-number f = f .fewest
+
+module _ (k : ℕ) (letters ends weights : List ℕ) (places : List ℤ) (work : List ℕ) {answer : CoverAnswer} {places' : List ℤ} {work' : List ℕ}
+    (p : Promise k letters ends weights places work answer places' work') where
+  -- accepted, the call answers m and the least number of paths
+  pub cover-answers : coverVerdict k letters ends weights places work ≡ Good → answer ≡ Covered (length ends) (least (endWeights k letters ends weights))
+  cover-answers e = p .answered ∙ sym (settled Refused refl e)
+
+  -- and fills in places that are a signed permutation of 1 to m with as many paths
+  pub cover-fills : coverVerdict k letters ends weights places work ≡ Good → (ps : List ℤ) × (places' ≡ fill ps places) × SignedPermutation (length ends) ps × Fewest (endWeights k letters ends weights) ps
+  cover-fills e =
+      let u = subst (λ (v : Verdict). PlacesAfter v (endWeights k letters ends weights) places places') e (p .placed) in
+      (u .0, u .1, subst (λ (m : ℕ). SignedPermutation m (u .0)) (ends-count k letters ends weights) (u .2 .permutation), u .2)
+
+  -- refused, the places are as they were
+  pub cover-keeps : {number place : ℕ} → coverVerdict k letters ends weights places work ≡ Bad number place → places' ≡ places
+  cover-keeps e = subst (λ (v : Verdict). PlacesAfter v (endWeights k letters ends weights) places places') e (p .placed)
+
+  -- no second answer, and no second table of work, meets the promise
+  pub cover-only : {answer₂ : CoverAnswer} {places₂ : List ℤ} {work₂ : List ℕ} → Promise k letters ends weights places work answer₂ places₂ work₂ → (answer ≡ answer₂) × (work' ≡ work₂)
+  cover-only q = (p .answered ∙ sym (q .answered), p .cleared ∙ sym (q .cleared))
