@@ -32,7 +32,7 @@ k-good k h =
     let t = test-good (leb 3 k && leb k 31) 2 0 Good h .0 in
     (leb-true 3 k (and-left (leb 3 k) (leb k 31) t), leb-true k 31 (and-right (leb 3 k) (leb k 31) t))
 
-size-good : (N m : ℕ) → sizeVerdict N m ≡ Good → (N ≤ 1048576) × (m ≤ 65536)
+pub size-good : (N m : ℕ) → sizeVerdict N m ≡ Good → (N ≤ 1048576) × (m ≤ 65536)
 unfolding sizeVerdict
 size-good N m h =
     let t = test-good (leb N 1048576 && leb m 65536) 3 0 Good h .0 in

@@ -9,33 +9,7 @@ ghost use Rattle.lists.specs.Every.{every};
 ghost use Rattle.lists.specs.First.{firstThat};
 ghost use Rattle.words.specs.Letter.{isLetter};
 ghost use Rattle.collection.specs.Verdict.{atPlace};
-ghost use Rattle.collection.specs.Judge.{kVerdict, sizeVerdict, firstShort, lastEnd, endsVerdict, lettersVerdict, isWeight, weightsVerdict};
-
-// 2: k outside its range.
-pub(crate) fn judge_k(k: usize) -> Verdict
-    ensures { λ r. ⌜ r ≡ kVerdict k ⌝ }
-{
-    if (3 <= k) & (k <= 31) {
-        return Verdict::Good;
-    }
-    Verdict::Bad {
-        number: 2,
-        place: 0,
-    }
-}
-
-// 3: too many letters or strings.
-pub(crate) fn judge_size(letters: usize, strings: usize) -> Verdict
-    ensures { λ r. ⌜ r ≡ sizeVerdict letters strings ⌝ }
-{
-    if (letters <= 1048576) & (strings <= 65536) {
-        return Verdict::Good;
-    }
-    Verdict::Bad {
-        number: 3,
-        place: 0,
-    }
-}
+ghost use Rattle.collection.specs.Judge.{firstShort, lastEnd, endsVerdict, lettersVerdict, isWeight, weightsVerdict};
 
 // A refusal at a place, unless the place is 0.
 fn at_place(number: u32, place: usize) -> Verdict
@@ -142,13 +116,6 @@ pub(crate) fn judge_letters(letters: &[u8]) -> Verdict
     at_place(5, first_other(letters))
 }
 
-// Whether a weight is in range.
-fn is_weight(w: u32) -> bool
-    ensures { λ r. ⌜ r ≡ isWeight w ⌝ }
-{
-    (1 <= w) & (w <= 16777215)
-}
-
 // Whether all weights are in range.
 fn all_weights(weights: &[u32]) -> bool
     ensures { λ r. ⌜ r ≡ every isWeight (now (weights .entry)) ⌝ }
@@ -156,7 +123,7 @@ fn all_weights(weights: &[u32]) -> bool
     let mut good = true;
     let mut i = 0;
     while i < weights.len() {
-        good = good & is_weight(weights[i]);
+        good = good & crate::is_weight(weights[i]);
         i += 1;
     }
     good
@@ -171,7 +138,7 @@ fn first_weight(weights: &[u32]) -> usize
     }
     let mut i = 0;
     while i < weights.len() {
-        if !is_weight(weights[i]) {
+        if !crate::is_weight(weights[i]) {
             return i + 1;
         }
         i += 1;

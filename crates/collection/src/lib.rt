@@ -5,7 +5,7 @@ mod judging;
 
 ghost use mathlib.Core.Path.{_≡_};
 ghost use Rattle.collection.specs.Verdict.{roomVerdict};
-ghost use Rattle.collection.specs.Judge.{shapeVerdict, collectionVerdict, handleVerdict, wordVerdict};
+ghost use Rattle.collection.specs.Judge.{kVerdict, sizeVerdict, isWeight, shapeVerdict, collectionVerdict, handleVerdict, wordVerdict};
 
 // What judging finds: nothing to refuse, or the first refusal in document 01's order.
 pub enum Verdict {
@@ -25,15 +25,48 @@ pub enum Side {
     Turned,
 }
 
+// 2: k outside its range.
+pub fn judge_k(k: usize) -> Verdict
+    ensures { λ r. ⌜ r ≡ kVerdict k ⌝ }
+{
+    if (3 <= k) & (k <= 31) {
+        return Verdict::Good;
+    }
+    Verdict::Bad {
+        number: 2,
+        place: 0,
+    }
+}
+
+// 3: too many letters or strings.
+pub fn judge_size(letters: usize, strings: usize) -> Verdict
+    ensures { λ r. ⌜ r ≡ sizeVerdict letters strings ⌝ }
+{
+    if (letters <= 1048576) & (strings <= 65536) {
+        return Verdict::Good;
+    }
+    Verdict::Bad {
+        number: 3,
+        place: 0,
+    }
+}
+
+// Whether a weight is in range.
+pub fn is_weight(w: u32) -> bool
+    ensures { λ r. ⌜ r ≡ isWeight w ⌝ }
+{
+    (1 <= w) & (w <= 16777215)
+}
+
 // 2, 3, 4: the strings have their places.
 pub fn judge_shape(k: usize, letters: &[u8], ends: &[u32]) -> Verdict
     ensures { λ r. ⌜ r ≡ shapeVerdict k (now (letters .entry)) (now (ends .entry)) ⌝ }
 {
-    let a = judging::judge_k(k);
+    let a = judge_k(k);
     let Verdict::Good = a else {
         return a;
     };
-    let b = judging::judge_size(letters.len(), ends.len());
+    let b = judge_size(letters.len(), ends.len());
     let Verdict::Good = b else {
         return b;
     };

@@ -3,9 +3,6 @@ mod finding;
 
 use collection::Verdict;
 ghost use mathlib.Core.Path.{_≡_};
-ghost use Prim.Native.Nat.{_≤_};
-ghost use lib.ListN.{length, replicate};
-ghost use Rattle.lists.specs.Fill.{fill};
 ghost use Rattle.collection.specs.Verdict.{atPlace, settle};
 ghost use Rattle.repeats.specs.declared.CheckAnswer.the-variants.{Checked, Refused};
 ghost use Rattle.repeats.specs.Check.{checkVerdict, checkOf, outcome};
@@ -26,18 +23,6 @@ fn judge_check(k: usize, letters: &[u8], ends: &[u32], weights: &[u32], room: us
     };
     let n = collection::inner::kmer_count(k, letters.len(), ends.len());
     collection::judge_room(room, 4 * n)
-}
-
-// Sets the first n entries of a table to 0.
-fn zero(table: &mut [u32], n: usize)
-    requires { ⌜ n ≤ length (now table) ⌝ }
-    ensures { λ _. ⌜ now (table .exit) ≡ fill (replicate n 0) (now (table .entry)) ⌝ }
-{
-    let mut i = 0;
-    while i < n {
-        table[i] = 0;
-        i += 1;
-    }
 }
 
 // 7: a word repeats, first at a handle; 0 where none does.
@@ -69,6 +54,6 @@ pub fn check(
     }
     let n = weights.len();
     let repeat = finding::first_repeat(k, letters, ends, n, work);
-    zero(work, 4 * n);
+    collection::inner::zero_first(work, 4 * n);
     answer(repeat, n)
 }

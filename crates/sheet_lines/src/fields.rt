@@ -2,7 +2,6 @@
 use crate::Weight;
 ghost use mathlib.Core.Path.{_≡_};
 ghost use Prim.Native.Nat.{_+_, _-_, _*_, _≤_};
-ghost use Rattle.collection.specs.Judge.{isWeight};
 ghost use Rattle.sheet_text.specs.Numbers.{isDigit};
 ghost use Rattle.sheet_lines.specs.Cursor.{byteIs, isEnd, endedAt, weightEnd, weightAt};
 
@@ -22,13 +21,6 @@ fn is_digit(b: u8) -> bool
     (48 <= b) & (b <= 57)
 }
 
-// Whether a weight is in range.
-fn is_weight(w: u32) -> bool
-    ensures { λ r. ⌜ r ≡ isWeight w ⌝ }
-{
-    (1 <= w) & (w <= 16777215)
-}
-
 // Whether a byte ends a field.
 fn is_end(b: u8) -> bool
     ensures { λ r. ⌜ r ≡ isEnd b ⌝ }
@@ -43,7 +35,7 @@ fn is_end(b: u8) -> bool
 fn ended(v: u32, i: usize) -> Weight
     ensures { λ r. ⌜ r ≡ endedAt v i ⌝ }
 {
-    if is_weight(v) {
+    if collection::is_weight(v) {
         return Weight::Good { value: v, next: i };
     }
     Weight::Wrong
@@ -81,7 +73,7 @@ pub fn weight_at(s: &[u8], at: usize) -> Weight
         }
         v = with_digit(v, b);
         i += 1;
-        if !is_weight(v) {
+        if !collection::is_weight(v) {
             return Weight::Wrong;
         }
     }

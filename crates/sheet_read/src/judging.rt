@@ -4,35 +4,9 @@ use collection::Verdict;
 use sheet_lines::Counted;
 use sheet_lines::Head;
 ghost use mathlib.Core.Path.{_≡_};
-ghost use Rattle.collection.specs.Judge.{kVerdict, sizeVerdict};
+ghost use Rattle.collection.specs.Judge.{sizeVerdict};
 ghost use Rattle.collection.specs.Verdict.{roomVerdict, andThen};
 ghost use Rattle.sheet_read.specs.Judged.{judgedOf, judgedIn};
-
-// 2: k outside its range.
-fn judge_k(k: usize) -> Verdict
-    ensures { λ r. ⌜ r ≡ kVerdict k ⌝ }
-{
-    if (3 <= k) & (k <= 31) {
-        return Verdict::Good;
-    }
-    Verdict::Bad {
-        number: 2,
-        place: 0,
-    }
-}
-
-// 3: too many letters or strings.
-fn judge_size(letters: usize, strings: usize) -> Verdict
-    ensures { λ r. ⌜ r ≡ sizeVerdict letters strings ⌝ }
-{
-    if (letters <= 1048576) & (strings <= 65536) {
-        return Verdict::Good;
-    }
-    Verdict::Bad {
-        number: 3,
-        place: 0,
-    }
-}
 
 // A sheet's lines: what they hold, or the first refusal of 11, 2, 11.
 fn judge_sheet(s: &[u8]) -> Judged
@@ -45,7 +19,7 @@ fn judge_sheet(s: &[u8]) -> Judged
             place: 1,
         };
     };
-    let v = judge_k(k);
+    let v = collection::judge_k(k);
     if let Verdict::Bad { number, place } = v {
         return Judged::Bad { number, place };
     }
@@ -73,7 +47,7 @@ fn judge_sheet(s: &[u8]) -> Judged
 fn judge_tables(n: usize, m: usize, w: usize, a: usize, b: usize, c: usize) -> Verdict
     ensures { λ r. ⌜ r ≡ andThen (sizeVerdict n m) (andThen (roomVerdict a n) (andThen (roomVerdict b m) (roomVerdict c w))) ⌝ }
 {
-    let v = judge_size(n, m);
+    let v = collection::judge_size(n, m);
     let Verdict::Good = v else {
         return v;
     };

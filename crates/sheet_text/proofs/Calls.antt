@@ -18,7 +18,7 @@ use Rattle.collection.specs.declared.Verdict.the-variants.{Good, Bad}
 use Rattle.collection.specs.Judge.{kVerdict, sizeVerdict, shapeVerdict, isWeight, collectionVerdict, Passes}
 use Rattle.collection.specs.Strings.{Str, strings, lettersIn, weightsIn, endsIn}
 use Rattle.collection.specs.Verdict.{settle, roomVerdict}
-use Rattle.collection.proofs.Judged.{collection-good}
+use Rattle.collection.proofs.Judged.{collection-good, size-good}
 use Rattle.collection.proofs.Strings.{Whole, strings-back, strings-letters, strings-ends, strings-weights, strings-whole, each-letters, each-weights, ends-length, tables-pass}
 use Rattle.collection.proofs.Verdicts.{both-good, test-good, room-good, then-good, settled}
 use Rattle.sheet_text.specs.declared.ReadAnswer.the-variants as read
@@ -41,12 +41,6 @@ pub record Within (bs : List ℕ) (letters ends weights : ℕ) : Type 0 where
   pub ends-room : sheetM bs ≤ ends
   pub weights-room : sheetWeights bs ≤ weights
 
-size-good : {N m : ℕ} → sizeVerdict N m ≡ Good → (N ≤ 1048576) × (m ≤ 65536)
-unfolding sizeVerdict
-size-good {N} {m} h =
-    let t = both (leb N 1048576) _ (test-good _ 3 0 Good h .0) in
-    (leb-true N 1048576 (t .0), leb-true m 65536 (t .1))
-
 good-size : {N m : ℕ} → N ≤ 1048576 → m ≤ 65536 → sizeVerdict N m ≡ Good
 unfolding sizeVerdict
 good-size {N} {m} a b = ap (λ t. choose t Good (Bad 3 0)) (and-both (le-leb N 1048576 a) (le-leb m 65536 b))
@@ -62,7 +56,7 @@ read-takes bs letters ends weights h =
     let b = both-good (sizeVerdict (sheetN bs) (sheetM bs)) _ (a .1) in
     let c = both-good (roomVerdict letters (sheetN bs)) _ (b .1) in
     let d = both-good (roomVerdict ends (sheetM bs)) _ (c .1) in
-    let s = size-good (b .0) in (
+    let s = size-good _ _ (b .0) in (
       a .0,
       record {
         few-letters = s .0;

@@ -34,11 +34,11 @@ enum-told c = search needs
 first-repeat-requires : tie.Need-first-repeat-requires
 first-repeat-requires c κs = let s = started (c .before) in (s .ready, (s .each, omega (arith, s .enough, s .counted)))
 
-mul-zero : tie.Need-mul-zero
-mul-zero c = let s = started (c .before .before .before .before .before) in omega (arith, s .enough, s .counted)
+mul-zero-first : tie.Need-mul-zero-first
+mul-zero-first c = let s = started (c .before .before .before .before .before) in omega (arith, s .enough, s .counted)
 
-zero-requires : tie.Need-zero-requires
-zero-requires c κs = let s = started (c .before .before .before .before .before) in omega (arith, s .enough, s .counted, c .before .before .before .first-repeat .ensures .1 .size)
+zero-first-requires : tie.Need-zero-first-requires
+zero-first-requires c κs = let s = started (c .before .before .before .before .before) in omega (arith, s .enough, s .counted, c .before .before .before .first-repeat .ensures .1 .size)
 
 answer-requires : tie.Need-answer-requires
 answer-requires c κs = search needs
@@ -55,7 +55,7 @@ returns-2 c =
     let f = c .before .before .before .before .before .before .before .first-repeat in
     settled _
     (ap₂ outcome (c .answer .ensures ∙ ap₂ (λ (p m : ℕ). settle (atPlace 7 p) Refused (Checked m)) (f .ensures .0) (s .counted))
-    (c .before .before .before .zero .ensures
+    (c .before .before .before .zero-first .ensures
     ∙ (only-fill (4 * n) (replicate (4 * n) 0) (a .work .now) (f .last .1 .1 .1 .1 .0) (length-replicate (4 * n) 0) (omega (arith, s .enough, s .counted)) (f .ensures .1)
     ∙ ap (λ (m : ℕ). fill (replicate (4 * m) 0) (a .work .now)) (s .counted))))
     (sym (c .before .before .before .before .before .before .before .before .before .before .before .judge-check .ensures) ∙ c .before .before .before .before .before .before .before .before .before .enum-told .given .1)
@@ -69,8 +69,8 @@ check-spec =
     returns
     enum-told
     first-repeat-requires
-    mul-zero
-    zero-requires
+    mul-zero-first
+    zero-first-requires
     answer-requires
     same-length
     returns-2)

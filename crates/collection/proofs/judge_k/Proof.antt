@@ -1,7 +1,7 @@
 -- `judge_k` meets its contract: the test picks the case. Assumes nothing.
 use Rattle.collection.specs.Judge.{kVerdict}
-use Rattle.sheet_read.proofs.judging.judge_k.Statement.{statement}
-use Rattle.sheet_read.proofs.judging.judge_k.Tie as tie
+use Rattle.collection.proofs.judge_k.Statement.{statement}
+use Rattle.collection.proofs.judge_k.Tie as tie
 
 returns : tie.Need-returns
 unfolding kVerdict

@@ -1,7 +1,7 @@
 -- `judge_size` meets its contract: the test picks the case. Assumes nothing.
 use Rattle.collection.specs.Judge.{sizeVerdict}
-use Rattle.sheet_read.proofs.judging.judge_size.Statement.{statement}
-use Rattle.sheet_read.proofs.judging.judge_size.Tie as tie
+use Rattle.collection.proofs.judge_size.Statement.{statement}
+use Rattle.collection.proofs.judge_size.Tie as tie
 
 returns : tie.Need-returns
 unfolding sizeVerdict
