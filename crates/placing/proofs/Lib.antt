@@ -6,3 +6,5 @@ pub mod Parts
 pub mod Placements
 pub mod Permutation
 pub mod Applying
+pub mod TurnedStrings
+pub mod Reordered
