@@ -8,3 +8,4 @@ pub mod Permutation
 pub mod Applying
 pub mod TurnedStrings
 pub mod Reordered
+pub mod Handles

@@ -1,8 +1,8 @@
 -- Writing the strings one new place after the other: work names the string of each place, and its part of the tables is what stands there. Assumes nothing.
-use mathlib.Core.Path.{_≡_, refl, sym, ap, _∙_, subst}
+use mathlib.Core.Path.{_≡_, refl, sym, ap, _∙_}
 use mathlib.Core.Bool.{Bool, true, false}
-use mathlib.Core.List.{List, [], _∷_, _++_, map, reverse}
-use Prim.Native.Nat.{ℕ, zero, suc, _+_, _-_, _*_, _<_, _≤_}
+use mathlib.Core.List.{List, [], _∷_, _++_, map}
+use Prim.Native.Nat.{ℕ, zero, suc, _+_, _-_, _<_, _≤_}
 use native.Mathlib.Omega.{arith}
 use borrow.Author.Tests.{eq-eqb, eqb-true}
 use lib.Dec.{eqb}
@@ -12,7 +12,6 @@ use lib.Seq.{length-take-le}
 use Rattle.lists.specs.Choose.{choose}
 use Rattle.lists.specs.Every.{every}
 use Rattle.lists.specs.Fill.{put, fill}
-use Rattle.lists.specs.First.{firstThat}
 use Rattle.lists.proofs.Every.{all-at, all-take, all-drop, all-every}
 use Rattle.lists.proofs.First.{first-none, first-found-from}
 use Rattle.lists.proofs.Mapped.{map-at}
@@ -23,17 +22,17 @@ use Rattle.collection.specs.Long.{Long}
 use Rattle.collection.specs.Strings.{Str, strings, lettersIn, weightsIn, endsIn}
 use Rattle.collection.proofs.Judged.{Judged, collection-good, shape-long}
 use Rattle.trails.specs.Counting.{occurs}
-use Rattle.trails.specs.Places.{isTurned, SignedPermutation, turnedBy, arranged}
+use Rattle.trails.specs.Places.{turnedBy}
 use Rattle.trails.proofs.Counting.{occurs-where}
 use Rattle.placing.specs.declared.placed.Part.{Part}
 use Rattle.placing.specs.Apply.{reordered}
 use Rattle.placing.specs.Marks.{Placeable}
-use Rattle.placing.specs.Parts.{startOf, firstOf, PartOf}
+use Rattle.placing.specs.Parts.{startOf, PartOf}
 use Rattle.placing.specs.Places.{holder}
-use Rattle.placing.specs.Turned.{turnLetters, lettersBy, columnBy, turnStr}
+use Rattle.placing.specs.Turned.{lettersBy, columnBy, turnStr}
 use Rattle.placing.specs.Weighs.{none}
 use Rattle.placing.proofs.Reordered.{Sizes, reordered-sizes, string-stands}
-use Rattle.placing.proofs.Parts.{string-at, string-long, weights-before, end-inside, last-inside}
+use Rattle.placing.proofs.Parts.{string-at, string-long, end-inside, last-inside}
 use Rattle.placing.proofs.Turning.{length-turned}
 
 -- ─── the string of a place ───────────────────────────────────────────────────

@@ -32,28 +32,33 @@ pub record Sizes (letters ends weights : List ℕ) (ss : List Str) : Type 0 wher
   pub ends-number : length (endsIn 0 ss) ≡ length ends
   pub weights-number : length (weightsIn ss) ≡ length weights
 
+pub strings-number : (k : ℕ) (letters ends weights : List ℕ) → Passes k letters ends weights → length (strings k letters ends weights) ≡ length ends
+strings-number k letters ends weights passes =
+    let j = collection-good k letters ends weights passes in
+    sym (ends-length 0 (strings k letters ends weights)) ∙ ap length (strings-ends weights (j .shape) (j .counted))
+
 module _ (k : ℕ) (letters ends weights : List ℕ) (places : List ℤ) (passes : Passes k letters ends weights) (permutation : SignedPermutation (length ends) places) where
   judged : Judged k letters ends weights
   judged = collection-good k letters ends weights passes
 
   -- ─── how many there are ────────────────────────────────────────────────────
 
-  pub strings-number : length (strings k letters ends weights) ≡ length ends
-  strings-number = sym (ends-length 0 (strings k letters ends weights)) ∙ ap length (strings-ends weights (judged .shape) (judged .counted))
+  many : length (strings k letters ends weights) ≡ length ends
+  many = strings-number k letters ends weights passes
 
   pub reordered-sizes : Sizes letters ends weights (reordered k letters ends weights places)
   unfolding lettersIn weightsIn
   reordered-sizes =
       let ss = strings k letters ends weights in
-      let n = length-arranged turnStr none (length ends) places ss permutation strings-number in
+      let n = length-arranged turnStr none (length ends) places ss permutation many in
       record {
         number = n;
         ends-number = ends-length 0 (reordered k letters ends weights places) ∙ n;
         letters-number =
-            total-arranged turnStr (λ s. length (s .letters)) (λ ss. length (lettersIn ss)) refl (λ s ss. length-append (s .letters) (lettersIn ss)) (λ s. length-turned (s .letters)) (length ends) places ss permutation strings-number
+            total-arranged turnStr (λ s. length (s .letters)) (λ ss. length (lettersIn ss)) refl (λ s ss. length-append (s .letters) (lettersIn ss)) (λ s. length-turned (s .letters)) (length ends) places ss permutation many
             ∙ ap length (strings-letters weights (judged .shape) (judged .counted));
         weights-number =
-            total-arranged turnStr (λ s. length (s .weights)) (λ ss. length (weightsIn ss)) refl (λ s ss. length-append (s .weights) (weightsIn ss)) (λ s. length-reverse (s .weights)) (length ends) places ss permutation strings-number
+            total-arranged turnStr (λ s. length (s .weights)) (λ ss. length (weightsIn ss)) refl (λ s ss. length-append (s .weights) (weightsIn ss)) (λ s. length-reverse (s .weights)) (length ends) places ss permutation many
             ∙ ap length (strings-weights weights (judged .shape) (judged .counted));
       }
 
@@ -91,9 +96,9 @@ module _ (k : ℕ) (letters ends weights : List ℕ) (places : List ℤ) (passes
   -- each old string stands at its place, turned where the place says so
   pub string-stands : (i : ℕ) → i < length ends
       → getD (reordered k letters ends weights places) (natAbs (getD places i (pos 0)) - 1) none ≡ turnedBy turnStr (getD places i (pos 0)) (getD (strings k letters ends weights) i none)
-  string-stands i l = arranged-at turnStr none (length ends) places (strings k letters ends weights) permutation strings-number i l
+  string-stands i l = arranged-at turnStr none (length ends) places (strings k letters ends weights) permutation many i l
 
-  -- each new string is one of the old, and of one only: two strings with one place are one
+  -- each new string is one of the old, and of one only, as no two have one place (`one-string`)
   pub string-from : (j : ℕ) → j < length ends → (i : ℕ) × (i < length ends) × (natAbs (getD places i (pos 0)) ≡ suc j)
   string-from j l =
       let u = occurs-where (suc j) (map natAbs places) (omega (arith, permutation .once (suc j) (omega arith) (omega arith))) in
@@ -104,10 +109,10 @@ module _ (k : ℕ) (letters ends weights : List ℕ) (places : List ℤ) (passes
   module _ (word : List ℕ) (weight : ℕ) where
     module _ (i : ℕ) (l : i < length ends) where
       whole-at : Whole k (getD (strings k letters ends weights) i none)
-      whole-at = all-at (Whole k) (strings k letters ends weights) old-whole i none (omega (arith, strings-number))
+      whole-at = all-at (Whole k) (strings k letters ends weights) old-whole i none (omega (arith, many))
 
       letters-at : All (λ b. isLetter b ≡ true) (getD (strings k letters ends weights) i none .letters)
-      letters-at = all-at (λ s. All (λ b. isLetter b ≡ true) (s .letters)) (strings k letters ends weights) old-letters i none (omega (arith, strings-number))
+      letters-at = all-at (λ s. All (λ b. isLetter b ≡ true) (s .letters)) (strings k letters ends weights) old-letters i none (omega (arith, many))
 
       has-there : (p : ℤ) → Has k word weight (getD (strings k letters ends weights) i none) → Has k word weight (turnedBy turnStr p (getD (strings k letters ends weights) i none))
       has-there (pos n) h = h
@@ -123,7 +128,7 @@ module _ (k : ℕ) (letters ends weights : List ℕ) (places : List ℤ) (passes
     pub weighs-after : Weighs k (strings k letters ends weights) word weight → Weighs k (reordered k letters ends weights places) word weight
     weighs-after u =
         let i : ℕ = u .0 in
-        let l : i < length ends = omega (arith, u .1, strings-number) in
+        let l : i < length ends = omega (arith, u .1, many) in
         let r = all-at (λ p. (1 ≤ natAbs p) × (natAbs p ≤ length ends)) places (permutation .range) i (pos 0) (omega (arith, permutation .number)) in
         (natAbs (getD places i (pos 0)) - 1, omega (arith, r, reordered-sizes .number), subst (Has k word weight) (sym (string-stands i l)) (has-there i l (getD places i (pos 0)) (u .2)))
 
@@ -135,4 +140,4 @@ module _ (k : ℕ) (letters ends weights : List ℕ) (places : List ℤ) (passes
         let l : i < length ends = f .1 in
         let q : j ≡ natAbs (getD places i (pos 0)) - 1 = omega (arith, f .2) in
         let e = ap (λ (n : ℕ). getD (reordered k letters ends weights places) n none) q ∙ string-stands i l in
-        (i, omega (arith, strings-number), has-here i l (getD places i (pos 0)) (subst (Has k word weight) e (u .2)))
+        (i, omega (arith, many), has-here i l (getD places i (pos 0)) (subst (Has k word weight) e (u .2)))

@@ -5,7 +5,7 @@ use mathlib.Core.List.{List, [], _∷_, _++_, map, map-append, reverse, reverse-
 use mathlib.Core.Logic.{_⊎_, inl, inr}
 use Prim.Native.Nat.{ℕ, zero, suc, _+_, _-_, _<_, _≤_}
 use native.Mathlib.Omega.{arith}
-use lib.ListN.{length, take, drop, getD, length-append, length-map, length-reverse, length-drop, take-append-drop, List·getD-append}
+use lib.ListN.{length, take, drop, getD, length-map, length-reverse, length-drop, take-append-drop, List·getD-append}
 use lib.Seq.{take-at, drop-at, length-take-le, getD-append-add}
 use Rattle.lists.specs.Every.{All}
 use Rattle.lists.proofs.Every.{all-append, all-take, all-drop}

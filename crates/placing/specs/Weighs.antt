@@ -2,9 +2,10 @@
 use mathlib.Core.Path.{_≡_}
 use mathlib.Core.List.{List, []}
 use mathlib.Core.Logic.{_⊎_}
-use Prim.Native.Nat.{ℕ, _<_}
+use Prim.Native.Nat.{ℕ, _<_, _≤_}
 use lib.ListN.{length, getD}
 use Rattle.words.specs.Word.{wordAt, turn}
+use Rattle.collection.specs.Kmers.{kmers, wordOf, weightOf}
 use Rattle.collection.specs.Strings.{Str}
 
 -- a k-mer of the string is the word, or turned is the word, and has the weight
@@ -19,3 +20,9 @@ none = record { letters = []; weights = [] }
 -- the word has the weight in one of the strings
 abbrev pub Weighs : ℕ → List Str → List ℕ → ℕ → Type 0
 Weighs k ss word weight = (i : ℕ) × (i < length ss) × Has k word weight (getD ss i none)
+
+-- the same by handles: the word has the weight in a collection
+abbrev pub WeighsAt : ℕ → List ℕ → List ℕ → List ℕ → List ℕ → ℕ → Type 0
+WeighsAt k letters ends weights word weight =
+    (handle : ℕ) × (1 ≤ handle) × (handle ≤ length (kmers k ends))
+    × ((wordOf k letters ends handle ≡ word) ⊎ (turn (wordOf k letters ends handle) ≡ word)) × (weightOf weights handle ≡ weight)
