@@ -9,3 +9,4 @@ pub mod Applying
 pub mod TurnedStrings
 pub mod Reordered
 pub mod Handles
+pub mod Examples
