@@ -4,21 +4,23 @@ use mathlib.Core.List.{List}
 use Prim.Native.Nat.{ℕ, _≤_}
 use native.Mathlib.Omega.{arith}
 use lib.IntN.{ℤ}
-use lib.ListN.{length, replicate, length-replicate}
+use lib.ListN.{length, take, replicate, length-replicate}
 use Rattle.lists.specs.Fill.{fill}
-use Rattle.lists.proofs.Storing.{fill-again}
+use Rattle.lists.proofs.Storing.{take-fill, fill-again}
 use Rattle.collection.specs.declared.Verdict.{Verdict}
 use Rattle.collection.specs.declared.Verdict.the-variants.{Good, Bad}
 use Rattle.collection.specs.Judge.{collectionVerdict, Passes}
 use Rattle.collection.specs.Strings.{lettersIn, endsIn, weightsIn}
-use Rattle.collection.specs.Verdict.{andThen, roomVerdict}
+use Rattle.collection.specs.Verdict.{roomVerdict}
 use Rattle.collection.proofs.Judged.{collection-good}
 use Rattle.collection.proofs.Verdicts.{both-good, room-good, refused, settled}
 use Rattle.placing.specs.declared.ApplyAnswer.the-variants.{Filled, Refused}
-use Rattle.placing.specs.Apply.{Outcome, outcome, applyOf, tablesVerdict, roomsVerdict, reordered}
+use Rattle.placing.specs.Apply.{Outcome, outcome, zeroed, applyOf, tablesVerdict, roomsVerdict, reordered}
 use Rattle.placing.specs.Judged.{PlacesJudged}
 use Rattle.placing.specs.Marks.{Placeable}
+use Rattle.placing.specs.Places.{placesVerdict}
 use Rattle.placing.proofs.Permutation.{places-good}
+use Rattle.placing.proofs.Reordered.{reordered-sizes}
 
 -- the collection passes, and the lent tables have the room that is needed
 pub record Ready (k : ℕ) (letters ends weights newLetters newEnds newWeights work : List ℕ) : Type 0 where
@@ -84,3 +86,20 @@ module _ (k : ℕ) (letters ends weights : List ℕ) (places : List ℤ) (newLet
           let c = f .2 in
           let d = zeroed-again z in
           settled _ (settled _ (λ i. outcome (Filled (length letters) (length ends) (length weights)) (a i) (b i) (c i) (d i)) (sym (judged .judged) ∙ e)) (sym t ∙ good)
+
+-- where nothing is refused, the first entries of the new tables are a collection: that of the reordered strings
+module _ (k : ℕ) (letters ends weights : List ℕ) (places : List ℤ) (newLetters newEnds newWeights work : List ℕ) where
+  pub applied : tablesVerdict k letters ends weights (length newLetters) (length newEnds) (length newWeights) (length work) ≡ Good → placesVerdict (length ends) places ≡ Good
+      → (applyOf k letters ends weights places newLetters newEnds newWeights work .answer ≡ Filled (length letters) (length ends) (length weights))
+      × (take (length letters) (applyOf k letters ends weights places newLetters newEnds newWeights work .letters-after) ≡ lettersIn (reordered k letters ends weights places))
+      × (take (length ends) (applyOf k letters ends weights places newLetters newEnds newWeights work .ends-after) ≡ endsIn 0 (reordered k letters ends weights places))
+      × (take (length weights) (applyOf k letters ends weights places newLetters newEnds newWeights work .weights-after) ≡ weightsIn (reordered k letters ends weights places))
+  unfolding applyOf
+  applied good fine =
+      let n = reordered-sizes k letters ends weights places (tables-good k letters ends weights places newLetters newEnds newWeights work refl good .passes) (places-good (length ends) places fine) in
+      let o = settled (λ number place. outcome (Refused number place) newLetters newEnds newWeights work) (settled (λ number place. outcome (Refused number place) newLetters newEnds newWeights (zeroed (length ends) work)) refl fine) good in (
+        ap (λ (r : Outcome). r .answer) (sym o),
+        ap (λ (r : Outcome). take (length letters) (r .letters-after)) (sym o) ∙ take-fill (lettersIn (reordered k letters ends weights places)) newLetters (length letters) (n .letters-number),
+        ap (λ (r : Outcome). take (length ends) (r .ends-after)) (sym o) ∙ take-fill (endsIn 0 (reordered k letters ends weights places)) newEnds (length ends) (n .ends-number),
+        ap (λ (r : Outcome). take (length weights) (r .weights-after)) (sym o) ∙ take-fill (weightsIn (reordered k letters ends weights places)) newWeights (length weights) (n .weights-number),
+      )

@@ -6,3 +6,7 @@ pub mod Parts
 pub mod Placements
 pub mod Permutation
 pub mod Applying
+pub mod TurnedStrings
+pub mod Reordered
+pub mod Handles
+pub mod Examples

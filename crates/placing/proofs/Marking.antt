@@ -1,18 +1,17 @@
 -- Judging signed places by marks in the work table, one place after the other. Assumes nothing.
-use mathlib.Core.Path.{_≡_, refl, sym, ap, ap₂, _∙_, subst}
-use mathlib.Core.Bool.{Bool, true, false, not, _||_}
+use mathlib.Core.Path.{_≡_, refl, sym, ap, _∙_, subst}
+use mathlib.Core.Bool.{Bool, true, false}
 use mathlib.Core.List.{List, [], _∷_, _++_, map}
-use Prim.Native.Nat.{ℕ, zero, suc, _+_, _-_, _<_, _≤_}
+use Prim.Native.Nat.{ℕ, suc, _+_, _-_, _<_, _≤_}
 use native.Mathlib.Decide.{ℕ-discrete}
 use native.Mathlib.Numerals.{add-one}
 use native.Mathlib.Omega.{arith}
-use borrow.Author.Tests.{eq-eqb, ne-eqb, lt-ltb, le-ltb, ltb-false, eqb-false, eqb-true, not-false}
-use lib.Dec.{eqb, ltb}
+use borrow.Author.Tests.{eq-eqb, ne-eqb, lt-ltb, le-ltb}
+use lib.Dec.{eqb}
 use lib.IntN.{ℤ, pos, natAbs}
 use lib.ListN.{length, take, drop, getD, set, replicate, getD-replicate, length-replicate, length-map, length-set, drop-of-length-le}
 use lib.Seq.{getD-take, getD-set-same, getD-set-other, take-suc, length-take-le, take-all, drop-set-lt}
 use Rattle.lists.specs.Choose.{choose}
-use Rattle.lists.specs.First.{firstThat}
 use Rattle.lists.proofs.First.{first-snoc-none, first-snoc-other}
 use Rattle.lists.specs.Fill.{fill}
 use Rattle.lists.proofs.Storing.{drop-next, take-fill, drop-fill, length-fill}

@@ -3,14 +3,17 @@ use mathlib.Core.Path.{_≡_, refl, sym, ap, _∙_}
 use mathlib.Core.Bool.{Bool, true, false, not, _||_}
 use mathlib.Core.Logic.{inl, inr}
 use mathlib.Core.List.{List, [], _∷_, _++_, map, append-nil}
-use Prim.Native.Nat.{ℕ, suc, _+_, _≤_}
+use Prim.Native.Nat.{ℕ, zero, suc, _+_, _<_, _≤_}
+use native.Mathlib.Decide.{decLt}
 use native.Mathlib.Omega.{arith}
 use borrow.Author.Tests.{eq-eqb, ne-eqb, eqb-true, eqb-false, ltb-false}
 use lib.Dec.{eqb, ltb}
-use lib.IntN.{ℤ, natAbs}
-use lib.ListN.{length}
+use lib.IntN.{ℤ, pos, natAbs}
+use lib.ListN.{length, getD, length-map}
 use Rattle.lists.specs.Choose.{choose}
 use Rattle.lists.specs.Every.{All}
+use Rattle.lists.proofs.Every.{all-at}
+use Rattle.lists.proofs.Mapped.{map-at}
 use Rattle.lists.proofs.First.{first-none, none-first}
 use Rattle.collection.specs.declared.Verdict.the-variants.{Good, Bad}
 use Rattle.collection.specs.Verdict.{atPlace}
@@ -18,7 +21,7 @@ use Rattle.collection.proofs.Verdicts.{test-good, place-good, place-none}
 use Rattle.trails.specs.Counting.{agree, occurs}
 use Rattle.trails.specs.Places.{SignedPermutation}
 use Rattle.trails.proofs.Arranged.{permutation-if-apart}
-use Rattle.trails.proofs.Counting.{Agreeing, agree-same, agree-other, agree-cases, occurs-between}
+use Rattle.trails.proofs.Counting.{Agreeing, agree-same, agree-other, agree-cases, occurs-at, occurs-between}
 use Rattle.placing.specs.Places.{holder, badPlace, firstBad, placesVerdict}
 use Rattle.placing.proofs.Marking.{good-place}
 
@@ -113,3 +116,30 @@ unfolding placesVerdict occurs
 permutation-passes m places s =
     let z = none-bad m 0 [] places (s .range) (λ a l u. omega (arith, s .once a l u)) in
     ap (λ (t : Bool). choose t (atPlace 8 (firstBad m 0 [] places)) (Bad 8 0)) (eq-eqb (length places) m (s .number)) ∙ sym (place-none 8 z)
+
+-- ─── no two strings have one place ───────────────────────────────────────────
+
+twice : (w : ℕ) (xs : List ℕ) (i j : ℕ) → i < j → j < length xs → getD xs i 0 ≡ w → getD xs j 0 ≡ w → 2 ≤ occurs w xs
+unfolding occurs
+twice w [] i j l b e f = absurd (omega arith)
+twice w (x ∷ xs) i zero l b e f = absurd (omega arith)
+twice w (x ∷ xs) zero (suc j) l b e f = omega (arith, agree-same w x (sym e), occurs-at w xs j (omega arith) f)
+twice w (x ∷ xs) (suc i) (suc j) l b e f = omega (arith, twice w xs i j (omega arith) (omega arith) e f)
+
+pub one-string : {m : ℕ} {places : List ℤ} → SignedPermutation m places → (i j : ℕ) → i < m → j < m → natAbs (getD places i (pos 0)) ≡ natAbs (getD places j (pos 0)) → i ≡ j
+one-string {m} {places} s i j l b e = go (decLt i j) (decLt j i)
+  where
+    not-twice : (i j : ℕ) → i < j → j < m → natAbs (getD places i (pos 0)) ≡ natAbs (getD places j (pos 0)) → ⊥
+    not-twice i j l b e =
+        let w : ℕ = natAbs (getD places j (pos 0)) in
+        let r = all-at (λ p. (1 ≤ natAbs p) × (natAbs p ≤ m)) places (s .range) j (pos 0) (omega (arith, s .number)) in
+        omega (
+          arith,
+          s .once w (r .0) (r .1),
+          twice w (map natAbs places) i j l (omega (arith, length-map places natAbs, s .number)) (map-at natAbs (pos 0) places i ∙ e) (map-at natAbs (pos 0) places j),
+        )
+
+    go : Dec (i < j) → Dec (j < i) → i ≡ j
+    go (yes q) r = absurd (not-twice i j q b e)
+    go (no q) (yes r) = absurd (not-twice j i r l (sym e))
+    go (no q) (no r) = omega arith

@@ -1,8 +1,8 @@
 -- Writing the strings one new place after the other: work names the string of each place, and its part of the tables is what stands there. Assumes nothing.
-use mathlib.Core.Path.{_≡_, refl, sym, ap, _∙_, subst}
+use mathlib.Core.Path.{_≡_, refl, sym, ap, _∙_}
 use mathlib.Core.Bool.{Bool, true, false}
-use mathlib.Core.List.{List, [], _∷_, _++_, map, reverse}
-use Prim.Native.Nat.{ℕ, zero, suc, _+_, _-_, _*_, _<_, _≤_}
+use mathlib.Core.List.{List, [], _∷_, _++_, map}
+use Prim.Native.Nat.{ℕ, zero, suc, _+_, _-_, _<_, _≤_}
 use native.Mathlib.Omega.{arith}
 use borrow.Author.Tests.{eq-eqb, eqb-true}
 use lib.Dec.{eqb}
@@ -12,7 +12,6 @@ use lib.Seq.{length-take-le}
 use Rattle.lists.specs.Choose.{choose}
 use Rattle.lists.specs.Every.{every}
 use Rattle.lists.specs.Fill.{put, fill}
-use Rattle.lists.specs.First.{firstThat}
 use Rattle.lists.proofs.Every.{all-at, all-take, all-drop, all-every}
 use Rattle.lists.proofs.First.{first-none, first-found-from}
 use Rattle.lists.proofs.Mapped.{map-at}
@@ -22,19 +21,18 @@ use Rattle.collection.specs.Kmers.{within}
 use Rattle.collection.specs.Long.{Long}
 use Rattle.collection.specs.Strings.{Str, strings, lettersIn, weightsIn, endsIn}
 use Rattle.collection.proofs.Judged.{Judged, collection-good, shape-long}
-use Rattle.collection.proofs.Strings.{strings-letters, strings-ends, strings-weights, ends-length}
 use Rattle.trails.specs.Counting.{occurs}
-use Rattle.trails.specs.Places.{isTurned, SignedPermutation, turnedBy, arranged}
-use Rattle.trails.proofs.Arranged.{arranged-at, length-arranged}
+use Rattle.trails.specs.Places.{turnedBy}
 use Rattle.trails.proofs.Counting.{occurs-where}
-use Rattle.trails.proofs.Kept.{total-arranged}
 use Rattle.placing.specs.declared.placed.Part.{Part}
 use Rattle.placing.specs.Apply.{reordered}
 use Rattle.placing.specs.Marks.{Placeable}
-use Rattle.placing.specs.Parts.{startOf, firstOf, PartOf}
+use Rattle.placing.specs.Parts.{startOf, PartOf}
 use Rattle.placing.specs.Places.{holder}
-use Rattle.placing.specs.Turned.{turnLetters, lettersBy, columnBy, turnStr}
-use Rattle.placing.proofs.Parts.{string-at, string-long, weights-before, end-inside, last-inside}
+use Rattle.placing.specs.Turned.{lettersBy, columnBy, turnStr}
+use Rattle.placing.specs.Weighs.{none}
+use Rattle.placing.proofs.Reordered.{Sizes, reordered-sizes, string-stands}
+use Rattle.placing.proofs.Parts.{string-at, string-long, end-inside, last-inside}
 use Rattle.placing.proofs.Turning.{length-turned}
 
 -- ─── the string of a place ───────────────────────────────────────────────────
@@ -53,9 +51,6 @@ holder-found a places h = go (holder a places) refl (occurs-where a places h)
         let f = first-found-from (eqb a) 0 places n e in
         (omega arith, omega (arith, f .high), sym (eqb-true a (getD places (suc n - 1) 0) (f .meets 0)))
 
-abbrev none : Str
-none = record { letters = []; weights = [] }
-
 module _ {k : ℕ} {letters ends weights : List ℕ} {places : List ℤ} {work : List ℕ} (p : Placeable k letters ends weights places work) where
   judged : Judged k letters ends weights
   judged = collection-good k letters ends weights (p .passes)
@@ -70,11 +65,8 @@ module _ {k : ℕ} {letters ends weights : List ℕ} {places : List ℤ} {work :
   pub few-weights : length weights ≤ 1048576
   few-weights = omega (arith, judged .counted, judged .shape .N-high)
 
-  number : length (strings k letters ends weights) ≡ length ends
-  number = sym (ends-length 0 (strings k letters ends weights)) ∙ ap length (strings-ends weights (judged .shape) (judged .counted))
-
-  number-new : length (reordered k letters ends weights places) ≡ length ends
-  number-new = length-arranged turnStr none (length ends) places (strings k letters ends weights) (p .permutation) number
+  sizes : Sizes letters ends weights (reordered k letters ends weights places)
+  sizes = reordered-sizes k letters ends weights places (p .passes) (p .permutation)
 
   -- what work names at an entry is a string, and that entry is its place
   pub named : (j : ℕ) → j < length ends → (1 ≤ getD work j 0) × (getD work j 0 - 1 < length ends) × (natAbs (getD places (getD work j 0 - 1) (pos 0)) ≡ suc j)
@@ -96,7 +88,7 @@ module _ {k : ℕ} {letters ends weights : List ℕ} {places : List ℤ} {work :
       let n = named j l in
       let e : natAbs (getD places i (pos 0)) - 1 ≡ j = omega (arith, n .2) in
       ap (λ (x : ℕ). getD (reordered k letters ends weights places) x none) (sym e)
-      ∙ arranged-at turnStr none (length ends) places (strings k letters ends weights) (p .permutation) number i (n .1)
+      ∙ string-stands k letters ends weights places (p .passes) (p .permutation) i (n .1)
 
   -- ─── its part of the tables ────────────────────────────────────────────────
 
@@ -164,7 +156,7 @@ module _ {k : ℕ} {letters ends weights : List ℕ} {places : List ℤ} {work :
 
     -- what is left to be written starts with it
     next-there : drop j (reordered k letters ends weights places) ≡ getD (reordered k letters ends weights places) j none ∷ drop (j + 1) (reordered k letters ends weights places)
-    next-there = drop-next (reordered k letters ends weights places) j none (omega (arith, number-new))
+    next-there = drop-next (reordered k letters ends weights places) j none (omega (arith, sizes .number))
 
     pub letters-next : lettersIn (drop j (reordered k letters ends weights places)) ≡ lettersBy (r .turned) letters-from ++ lettersIn (drop (j + 1) (reordered k letters ends weights places))
     unfolding lettersIn
@@ -179,25 +171,6 @@ module _ {k : ℕ} {letters ends weights : List ℕ} {places : List ℤ} {work :
     ends-next at =
         ap (endsIn at) next-there
         ∙ ap (λ (n : ℕ). (at + n) ∷ endsIn (at + n) (drop (j + 1) (reordered k letters ends weights places))) (ap length letters-there ∙ letters-length)
-
-  -- ─── how much is written ───────────────────────────────────────────────────
-
-  pub letters-number : length (lettersIn (reordered k letters ends weights places)) ≡ length letters
-  unfolding lettersIn
-  letters-number =
-      total-arranged turnStr (λ s. length (s .letters)) (λ ss. length (lettersIn ss)) refl (λ s ss. length-append (s .letters) (lettersIn ss)) (λ s. length-turned (s .letters)) (length ends) places
-      (strings k letters ends weights) (p .permutation) number
-      ∙ ap length (strings-letters weights (judged .shape) (judged .counted))
-
-  pub weights-number : length (weightsIn (reordered k letters ends weights places)) ≡ length weights
-  unfolding weightsIn
-  weights-number =
-      total-arranged turnStr (λ s. length (s .weights)) (λ ss. length (weightsIn ss)) refl (λ s ss. length-append (s .weights) (weightsIn ss)) (λ s. length-reverse (s .weights)) (length ends) places
-      (strings k letters ends weights) (p .permutation) number
-      ∙ ap length (strings-weights weights (judged .shape) (judged .counted))
-
-  pub ends-number : length (endsIn 0 (reordered k letters ends weights places)) ≡ length ends
-  ends-number = ends-length 0 (reordered k letters ends weights places) ∙ number-new
 
 -- ─── the loop over the new places ────────────────────────────────────────────
 
@@ -215,11 +188,11 @@ module _ {k : ℕ} {letters ends weights : List ℕ} {places : List ℤ} {work :
   placing-begins a b c =
       record {
         inside = omega arith;
-        few = omega (arith, letters-number p, judged p .shape .N-high);
-        few-weights = omega (arith, weights-number p, judged p .counted, judged p .shape .N-high);
-        letters-left = begin letters₀ (lettersIn (reordered k letters ends weights places)) (omega (arith, letters-number p));
-        ends-left = begin ends₀ (endsIn 0 (reordered k letters ends weights places)) (omega (arith, ends-number p));
-        weights-left = begin weights₀ (weightsIn (reordered k letters ends weights places)) (omega (arith, weights-number p));
+        few = omega (arith, sizes p .letters-number, judged p .shape .N-high);
+        few-weights = omega (arith, sizes p .weights-number, judged p .counted, judged p .shape .N-high);
+        letters-left = begin letters₀ (lettersIn (reordered k letters ends weights places)) (omega (arith, sizes p .letters-number));
+        ends-left = begin ends₀ (endsIn 0 (reordered k letters ends weights places)) (omega (arith, sizes p .ends-number));
+        weights-left = begin weights₀ (weightsIn (reordered k letters ends weights places)) (omega (arith, sizes p .weights-number));
       }
 
   module _ {letters₁ ends₁ weights₁ : List ℕ} {at kmer j : ℕ} (w : Placing (reordered k letters ends weights places) (length ends) letters₀ ends₀ weights₀ letters₁ ends₁ weights₁ at kmer j) where
@@ -290,5 +263,5 @@ module _ {k : ℕ} {letters ends weights : List ℕ} {places : List ℤ} {work :
         → (letters₁ ≡ fill (lettersIn (reordered k letters ends weights places)) letters₀) × (ends₁ ≡ fill (endsIn 0 (reordered k letters ends weights places)) ends₀) × (weights₁ ≡ fill (weightsIn (reordered k letters ends weights places)) weights₀)
     unfolding lettersIn endsIn weightsIn
     placing-ends l =
-        let e : drop j (reordered k letters ends weights places) ≡ [] = drop-of-length-le (reordered k letters ends weights places) {i = j} (omega (arith, number-new p)) in
+        let e : drop j (reordered k letters ends weights places) ≡ [] = drop-of-length-le (reordered k letters ends weights places) {i = j} (omega (arith, sizes p .number)) in
         (stored (restated (ap lettersIn e) (w .letters-left)), stored (restated (ap (endsIn at) e) (w .ends-left)), stored (restated (ap weightsIn e) (w .weights-left)))

@@ -1,10 +1,10 @@
 -- Turned letters and columns, as loops write them from the last entry on. Assumes nothing.
-use mathlib.Core.Path.{_≡_, refl, sym, ap, ap₂, _∙_}
+use mathlib.Core.Path.{_≡_, refl, sym, ap, _∙_}
 use mathlib.Core.Bool.{true}
 use mathlib.Core.List.{List, [], _∷_, _++_, map, reverse, reverse-append}
-use Prim.Native.Nat.{ℕ, suc, _+_, _-_, _<_, _≤_}
+use Prim.Native.Nat.{ℕ, suc, _-_, _<_, _≤_}
 use native.Mathlib.Omega.{arith}
-use lib.ListN.{length, take, getD, length-map, length-reverse}
+use lib.ListN.{length, take, getD, length-map}
 use lib.Seq.{take-suc}
 use Rattle.lists.specs.Every.{All}
 use Rattle.lists.proofs.Every.{all-at}

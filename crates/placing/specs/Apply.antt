@@ -6,7 +6,7 @@ use lib.ListN.{length, replicate}
 use Rattle.lists.specs.Fill.{fill}
 use Rattle.trails.specs.Places.{arranged}
 use Rattle.collection.specs.declared.Verdict.{Verdict}
-use Rattle.collection.specs.Judge.{collectionVerdict, kmerCount}
+use Rattle.collection.specs.Judge.{collectionVerdict}
 use Rattle.collection.specs.Strings.{Str, strings, lettersIn, endsIn, weightsIn}
 use Rattle.collection.specs.Verdict.{andThen, settle, roomVerdict}
 use Rattle.placing.specs.declared.ApplyAnswer.{ApplyAnswer}

@@ -5,3 +5,4 @@ pub mod Apply
 pub mod Marks
 pub mod Judged
 pub mod Parts
+pub mod Weighs

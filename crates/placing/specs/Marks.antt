@@ -4,7 +4,6 @@ use mathlib.Core.List.{List, [], map}
 use Prim.Native.Nat.{ℕ, suc, _≤_, _<_}
 use lib.IntN.{ℤ, natAbs}
 use lib.ListN.{length, drop, getD}
-use Rattle.lists.specs.First.{firstThat}
 use Rattle.collection.specs.Judge.{Passes}
 use Rattle.trails.specs.Places.{SignedPermutation}
 use Rattle.placing.specs.Places.{holder, firstBad}

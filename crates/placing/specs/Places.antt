@@ -8,7 +8,7 @@ use lib.ListN.{length}
 use Rattle.lists.specs.Choose.{choose}
 use Rattle.lists.specs.First.{firstThat, firstFrom}
 use Rattle.collection.specs.declared.Verdict.{Verdict}
-use Rattle.collection.specs.declared.Verdict.the-variants.{Good, Bad}
+use Rattle.collection.specs.declared.Verdict.the-variants.{Bad}
 use Rattle.collection.specs.Verdict.{atPlace}
 
 -- the string, from 1, that has the place a, sign aside; 0 where none has

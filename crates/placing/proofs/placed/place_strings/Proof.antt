@@ -1,8 +1,7 @@
 -- `place_strings` meets its contract. Invariant: storing the strings from place j on completes the three tables. Assumes nothing.
-use mathlib.Core.Path.{_≡_, ap, _∙_}
-use Prim.Native.Nat.{ℕ, _-_}
+use Prim.Native.Nat.{_-_}
 use native.Mathlib.Omega.{arith}
-use lib.ListN.{length, getD}
+use lib.ListN.{length}
 use Rattle.placing.specs.Apply.{reordered}
 use Rattle.placing.proofs.Placements.{Placing, placing-begins, placing-next, placing-ends, named, part-asked, letters-inside, weights-inside, letters-asked, letters-room, weights-room, ends-room, at-few, kmer-few, few-strings, few-weights}
 use borrow.Author.Needs.{needs}

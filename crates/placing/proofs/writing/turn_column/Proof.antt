@@ -1,7 +1,7 @@
 -- `turn_column` meets its contract. Invariant: storing the weights that are left, the last first, from `at` on completes the table. Assumes nothing.
 use mathlib.Core.Path.{sym, ap}
-use mathlib.Core.List.{List, reverse}
-use Prim.Native.Nat.{ℕ, _≤_}
+use mathlib.Core.List.{reverse}
+use Prim.Native.Nat.{_≤_}
 use native.Mathlib.Omega.{arith}
 use lib.ListN.{length, take, length-reverse}
 use lib.Seq.{take-length}
