@@ -11,16 +11,16 @@ use Rattle.lists.specs.Count.{sum}
 use Rattle.lists.specs.Every.{All}
 use Rattle.lists.proofs.Every.{all-map}
 use Rattle.collection.specs.Judge.{Passes}
-use Rattle.collection.specs.Strings.{Str, strings}
+use Rattle.collection.specs.Strings.{Str, strings, stringsFrom, weightsIn}
 use Rattle.collection.proofs.Judged.{Judged, collection-good}
 use Rattle.collection.proofs.Strings.{Whole, strings-whole, strings-ends, ends-length}
 use Rattle.runs.specs.Runs.{runCount, innerRuns}
-use Rattle.runs.proofs.Joined.{count-reverse}
+use Rattle.runs.proofs.Joined.{count-none, count-reverse}
 use Rattle.trails.specs.Paths.{pathCount}
-use Rattle.trails.specs.Places.{SignedPermutation, arranged}
+use Rattle.trails.specs.Places.{SignedPermutation, arranged, arrangedTo}
 use Rattle.trails.specs.Strings.{Ends, turned}
 use Rattle.trails.proofs.Arranged.{length-arranged, map-arranged}
-use Rattle.trails.proofs.Bounds.{none-fewer, one-reaches}
+use Rattle.trails.proofs.Bounds.{none-fewer, one-reaches, no-strings}
 use Rattle.trails.proofs.Kept.{all-arranged, total-arranged}
 use Rattle.vertices.specs.EndWeights.{endsOf, endWeights}
 use Rattle.cover.specs.Cover.{Fewest}
@@ -109,3 +109,8 @@ module _ (k : ℕ) (letters ends weights : List ℕ) (passes : Passes k letters 
   -- places with the least number of paths, as COVER gives them, have the fewest runs
   pub cover-fewest : (places : List ℤ) → Fewest (endWeights k letters ends weights) places → runsAt k letters ends weights places ≡ leastRuns k letters ends weights
   cover-fewest places f = omega (arith, runs-at places (subst (λ (n : ℕ). SignedPermutation n places) end-count (f .permutation)), enough, f .fewest)
+
+-- with no strings all three numbers are 0
+pub none-zero : (k : ℕ) → (leastRuns k [] [] [] ≡ 0) × (runsAt k [] [] [] [] ≡ 0)
+unfolding innerRuns stringsFrom sum endWeights arrangedTo weightsIn
+none-zero k = (omega (arith, no-strings .2), count-none)
