@@ -11,3 +11,4 @@ pub mod Picks
 pub mod Sorts
 pub mod Radix
 pub mod Regions
+pub mod Cuts
