@@ -14,3 +14,4 @@ pub mod Radix
 pub mod Regions
 pub mod Zeroed
 pub mod Puts
+pub mod Cuts

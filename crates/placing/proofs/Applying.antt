@@ -1,7 +1,7 @@
 -- What APPLY comes to on each of its ways: refused up to 1, refused by 8, or the strings written. Assumes nothing.
 use mathlib.Core.Path.{_≡_, refl, sym, ap, _∙_}
 use mathlib.Core.List.{List}
-use Prim.Native.Nat.{ℕ, _≤_}
+use Prim.Native.Nat.{ℕ}
 use native.Mathlib.Omega.{arith}
 use lib.IntN.{ℤ}
 use lib.ListN.{length, take, replicate, length-replicate}
@@ -9,65 +9,62 @@ use Rattle.lists.specs.Fill.{fill}
 use Rattle.lists.proofs.Storing.{take-fill, fill-again}
 use Rattle.collection.specs.declared.Verdict.{Verdict}
 use Rattle.collection.specs.declared.Verdict.the-variants.{Good, Bad}
-use Rattle.collection.specs.Judge.{collectionVerdict, Passes}
+use Rattle.collection.specs.Judge.{collectionVerdict}
 use Rattle.collection.specs.Strings.{lettersIn, endsIn, weightsIn}
 use Rattle.collection.specs.Verdict.{roomVerdict}
 use Rattle.collection.proofs.Judged.{collection-good}
 use Rattle.collection.proofs.Verdicts.{both-good, room-good, refused, settled}
 use Rattle.placing.specs.declared.ApplyAnswer.the-variants.{Filled, Refused}
-use Rattle.placing.specs.Apply.{Outcome, outcome, zeroed, applyOf, tablesVerdict, roomsVerdict, reordered}
+use Rattle.placing.specs.Apply.{Outcome, outcome, zeroed, Ready, placedOf, applyOf, tablesVerdict, roomsVerdict, reordered}
 use Rattle.placing.specs.Judged.{PlacesJudged}
 use Rattle.placing.specs.Marks.{Placeable}
 use Rattle.placing.specs.Places.{placesVerdict}
 use Rattle.placing.proofs.Permutation.{places-good}
 use Rattle.placing.proofs.Reordered.{reordered-sizes}
 
--- the collection passes, and the lent tables have the room that is needed
-pub record Ready (k : ℕ) (letters ends weights newLetters newEnds newWeights work : List ℕ) : Type 0 where
-  pub passes : Passes k letters ends weights
-  pub few : length ends ≤ 65536
-  pub letters-room : length letters ≤ length newLetters
-  pub ends-room : length ends ≤ length newEnds
-  pub weights-room : length weights ≤ length newWeights
-  pub work-room : length ends ≤ length work
-
 module _ (k : ℕ) (letters ends weights : List ℕ) (places : List ℤ) (newLetters newEnds newWeights work : List ℕ) where
-  pub tables-good : {tables : Verdict} → tables ≡ tablesVerdict k letters ends weights (length newLetters) (length newEnds) (length newWeights) (length work) → tables ≡ Good → Ready k letters ends weights newLetters newEnds newWeights work
-  unfolding tablesVerdict roomsVerdict
-  tables-good t good =
-      let a = both-good (collectionVerdict k letters ends weights) _ (sym t ∙ good) in
-      let b = both-good (roomVerdict (length newLetters) (length letters)) _ (a .1) in
-      let c = both-good (roomVerdict (length newEnds) (length ends)) _ (b .1) in
-      let d = both-good (roomVerdict (length newWeights) (length weights)) _ (c .1) in
-      record {
-        passes = a .0;
-        few = collection-good k letters ends weights (a .0) .shape .m-high;
-        letters-room = room-good _ _ (b .0);
-        ends-room = room-good _ _ (c .0);
-        weights-room = room-good _ _ (d .0);
-        work-room = room-good _ _ (d .1);
-      }
+  -- ─── the tables, then the places ───────────────────────────────────────────
 
-  pub apply-refused : {tables : Verdict} {number place : ℕ} → tables ≡ tablesVerdict k letters ends weights (length newLetters) (length newEnds) (length newWeights) (length work) → tables ≡ Bad number place
-      → outcome (Refused number place) newLetters newEnds newWeights work ≡ applyOf k letters ends weights places newLetters newEnds newWeights work
-  unfolding applyOf
-  apply-refused t e = refused _ _ (sym t ∙ e)
+  module _ {tables : Verdict} (t : tables ≡ tablesVerdict k letters ends weights (length newLetters) (length newEnds) (length newWeights) (length work)) where
+    pub tables-good : tables ≡ Good → Ready k letters ends weights (length newLetters) (length newEnds) (length newWeights) (length work)
+    unfolding tablesVerdict roomsVerdict
+    tables-good good =
+        let a = both-good (collectionVerdict k letters ends weights) _ (sym t ∙ good) in
+        let b = both-good (roomVerdict (length newLetters) (length letters)) _ (a .1) in
+        let c = both-good (roomVerdict (length newEnds) (length ends)) _ (b .1) in
+        let d = both-good (roomVerdict (length newWeights) (length weights)) _ (c .1) in
+        record {
+          passes = a .0;
+          few = collection-good k letters ends weights (a .0) .shape .m-high;
+          letters-room = room-good _ _ (b .0);
+          ends-room = room-good _ _ (c .0);
+          weights-room = room-good _ _ (d .0);
+          work-room = room-good _ _ (d .1);
+        }
 
-  module _ {tables : Verdict} (t : tables ≡ tablesVerdict k letters ends weights (length newLetters) (length newEnds) (length newWeights) (length work)) (good : tables ≡ Good) {marks : List ℕ} {verdict : Verdict} (judged : PlacesJudged (length ends) places work marks verdict) where
+    pub apply-refused : {number place : ℕ} → tables ≡ Bad number place → outcome (Refused number place) newLetters newEnds newWeights work ≡ applyOf k letters ends weights places newLetters newEnds newWeights work
+    unfolding applyOf
+    apply-refused e = refused _ _ (sym t ∙ e)
+
+    pub apply-goes-on : {done : Outcome} → tables ≡ Good → done ≡ placedOf k letters ends weights places newLetters newEnds newWeights work → done ≡ applyOf k letters ends weights places newLetters newEnds newWeights work
+    unfolding applyOf
+    apply-goes-on good e = settled _ e (sym t ∙ good)
+
+  -- ─── the places, then the strings ──────────────────────────────────────────
+
+  module _ {marks : List ℕ} {verdict : Verdict} (judged : PlacesJudged (length ends) places work marks verdict) where
     -- work, marked by judging the places and zeroed
     zeroed-again : {zeros : List ℕ} → zeros ≡ fill (replicate (length ends) 0) marks → zeros ≡ fill (replicate (length ends) 0) work
     zeroed-again z = z ∙ fill-again (replicate (length ends) 0) work marks (length ends) (length-replicate {A = ℕ} (length ends) 0) (judged .rest)
 
-    pub apply-refused-places : {number place : ℕ} {zeros : List ℕ} → verdict ≡ Bad number place → zeros ≡ fill (replicate (length ends) 0) marks
-        → outcome (Refused number place) newLetters newEnds newWeights zeros ≡ applyOf k letters ends weights places newLetters newEnds newWeights work
-    unfolding applyOf
-    apply-refused-places {number} {place} e z =
-        settled _ (ap (outcome (Refused number place) newLetters newEnds newWeights) (zeroed-again z) ∙ refused _ _ (sym (judged .judged) ∙ e)) (sym t ∙ good)
+    pub places-refused : {number place : ℕ} {zeros : List ℕ} → verdict ≡ Bad number place → zeros ≡ fill (replicate (length ends) 0) marks
+        → outcome (Refused number place) newLetters newEnds newWeights zeros ≡ placedOf k letters ends weights places newLetters newEnds newWeights work
+    unfolding placedOf
+    places-refused {number} {place} e z = ap (outcome (Refused number place) newLetters newEnds newWeights) (zeroed-again z) ∙ refused _ _ (sym (judged .judged) ∙ e)
 
     module _ (e : verdict ≡ Good) where
-      pub placeable : Placeable k letters ends weights places marks
-      placeable =
-          let r = tables-good t good in
+      pub placeable : Ready k letters ends weights (length newLetters) (length newEnds) (length newWeights) (length work) → Placeable k letters ends weights places marks
+      placeable r =
           record {
             passes = r .passes;
             permutation = places-good (length ends) places (sym (judged .judged) ∙ e);
@@ -75,17 +72,19 @@ module _ (k : ℕ) (letters ends weights : List ℕ) (places : List ℤ) (newLet
             work-room = omega (arith, r .work-room, judged .size);
           }
 
-      pub apply-filled : {letters' ends' weights' zeros : List ℕ}
-          → (letters' ≡ fill (lettersIn (reordered k letters ends weights places)) newLetters) × (ends' ≡ fill (endsIn 0 (reordered k letters ends weights places)) newEnds) × (weights' ≡ fill (weightsIn (reordered k letters ends weights places)) newWeights)
+      pub places-filled : {letters' ends' weights' zeros : List ℕ}
+          → (letters' ≡ fill (lettersIn (reordered k letters ends weights places)) newLetters)
+          × (ends' ≡ fill (endsIn 0 (reordered k letters ends weights places)) newEnds)
+          × (weights' ≡ fill (weightsIn (reordered k letters ends weights places)) newWeights)
           → zeros ≡ fill (replicate (length ends) 0) marks
-          → outcome (Filled (length letters) (length ends) (length weights)) letters' ends' weights' zeros ≡ applyOf k letters ends weights places newLetters newEnds newWeights work
-      unfolding applyOf
-      apply-filled f z =
+          → outcome (Filled (length letters) (length ends) (length weights)) letters' ends' weights' zeros ≡ placedOf k letters ends weights places newLetters newEnds newWeights work
+      unfolding placedOf
+      places-filled f z =
           let a = f .0 in
           let b = f .1 in
           let c = f .2 in
           let d = zeroed-again z in
-          settled _ (settled _ (λ i. outcome (Filled (length letters) (length ends) (length weights)) (a i) (b i) (c i) (d i)) (sym (judged .judged) ∙ e)) (sym t ∙ good)
+          settled _ (λ i. outcome (Filled (length letters) (length ends) (length weights)) (a i) (b i) (c i) (d i)) (sym (judged .judged) ∙ e)
 
 -- where nothing is refused, the first entries of the new tables are a collection: that of the reordered strings
 module _ (k : ℕ) (letters ends weights : List ℕ) (places : List ℤ) (newLetters newEnds newWeights work : List ℕ) where
@@ -94,7 +93,7 @@ module _ (k : ℕ) (letters ends weights : List ℕ) (places : List ℤ) (newLet
       × (take (length letters) (applyOf k letters ends weights places newLetters newEnds newWeights work .letters-after) ≡ lettersIn (reordered k letters ends weights places))
       × (take (length ends) (applyOf k letters ends weights places newLetters newEnds newWeights work .ends-after) ≡ endsIn 0 (reordered k letters ends weights places))
       × (take (length weights) (applyOf k letters ends weights places newLetters newEnds newWeights work .weights-after) ≡ weightsIn (reordered k letters ends weights places))
-  unfolding applyOf
+  unfolding applyOf placedOf
   applied good fine =
       let n = reordered-sizes k letters ends weights places (tables-good k letters ends weights places newLetters newEnds newWeights work refl good .passes) (places-good (length ends) places fine) in
       let o = settled (λ number place. outcome (Refused number place) newLetters newEnds newWeights work) (settled (λ number place. outcome (Refused number place) newLetters newEnds newWeights (zeroed (length ends) work)) refl fine) good in (

@@ -1,14 +1,15 @@
 -- K-mers by handle and k-mers by string are the same: each handle's word and weight stand in one string, and each of a string's in one handle. Assumes nothing.
-use mathlib.Core.Path.{_≡_, refl, sym, ap, _∙_, subst}
+use mathlib.Core.Path.{_≡_, sym, ap, _∙_, subst}
 use mathlib.Core.List.{List, [], _∷_, _++_}
 use mathlib.Core.Logic.{_⊎_}
-use Prim.Native.Nat.{ℕ, zero, suc, _+_, _-_, _<_, _≤_}
+use Prim.Native.Nat.{ℕ, suc, _+_, _-_, _<_}
 use native.Mathlib.Decide.{decLt}
 use native.Mathlib.Omega.{arith}
 use lib.IntN.{ℤ}
 use lib.ListN.{length, take, drop, getD, length-append, length-drop, take-append-drop, List·getD-append}
 use lib.Seq.{getD-append-add, getD-take, getD-drop, drop-drop, length-take-le}
 use Rattle.lists.specs.Count.{countFrom}
+use Rattle.lists.proofs.Cuts.{cut-inside}
 use Rattle.lists.proofs.Count.{count-at, length-count}
 use Rattle.words.specs.Word.{spell, wordAt, turn}
 use Rattle.collection.specs.Judge.{Passes, lastEnd}
@@ -23,19 +24,6 @@ use Rattle.placing.specs.Parts.{startOf, firstOf}
 use Rattle.placing.specs.Weighs.{none, Weighs, WeighsAt}
 use Rattle.placing.proofs.Parts.{string-at, string-long, last-inside}
 use Rattle.placing.proofs.Reordered.{strings-number, reordered-passes, reordered-strings, weighs-after, weighs-before}
-
--- the k letters at a, where all of them stand before n
-cut-inside : (k a n : ℕ) (xs : List ℕ) → a + k ≤ n → take k (drop a (take n xs)) ≡ take k (drop a xs)
-cut-inside k zero n xs l = front k n xs (omega arith)
-  where
-    front : (k n : ℕ) (xs : List ℕ) → k ≤ n → take k (take n xs) ≡ take k xs
-    front zero n xs l = refl
-    front (suc k) zero xs l = absurd (omega arith)
-    front (suc k) (suc n) [] l = refl
-    front (suc k) (suc n) (x ∷ xs) l = ap (λ (r : List ℕ). x ∷ r) (front k n xs (omega arith))
-cut-inside k (suc a) zero xs l = absurd (omega arith)
-cut-inside k (suc a) (suc n) [] l = refl
-cut-inside k (suc a) (suc n) (x ∷ xs) l = cut-inside k a n xs (omega arith)
 
 -- ─── from a string to a handle ───────────────────────────────────────────────
 

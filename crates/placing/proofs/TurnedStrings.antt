@@ -1,14 +1,15 @@
 -- A turned string: as whole as before, turned back by turning again, and each word's weight goes with the word. Assumes nothing.
 use mathlib.Core.Path.{_≡_, refl, sym, ap, ap₂, _∙_}
 use mathlib.Core.Bool.{true}
-use mathlib.Core.List.{List, [], _∷_, _++_, map, map-append, reverse, reverse-cons, reverse-append, reverse-reverse, append-assoc}
+use mathlib.Core.List.{List, [], _∷_, _++_, map, map-append, reverse, reverse-append, reverse-reverse, append-assoc}
 use mathlib.Core.Logic.{_⊎_, inl, inr}
-use Prim.Native.Nat.{ℕ, zero, suc, _+_, _-_, _<_, _≤_}
+use Prim.Native.Nat.{ℕ, _+_, _-_, _<_, _≤_}
 use native.Mathlib.Omega.{arith}
-use lib.ListN.{length, take, drop, getD, length-map, length-reverse, length-drop, take-append-drop, List·getD-append}
-use lib.Seq.{take-at, drop-at, length-take-le, getD-append-add}
+use lib.ListN.{length, take, drop, length-map, length-reverse, length-drop, take-append-drop}
+use lib.Seq.{take-at, drop-at, length-take-le}
 use Rattle.lists.specs.Every.{All}
-use Rattle.lists.proofs.Every.{all-append, all-take, all-drop}
+use Rattle.lists.proofs.Cuts.{all-reverse, reverse-at, map-cut}
+use Rattle.lists.proofs.Every.{all-take, all-drop}
 use Rattle.lists.proofs.Mapped.{map-all}
 use Rattle.words.specs.Letter.{letter, isLetter, capital}
 use Rattle.words.specs.Word.{Letters, spell, wordAt, turn, paired}
@@ -21,20 +22,6 @@ use Rattle.placing.specs.Weighs.{Has}
 use Rattle.placing.proofs.Turning.{length-turned}
 
 -- ─── backwards ───────────────────────────────────────────────────────────────
-
-all-reverse : {A : Type 0} (P : A → Type 0) (xs : List A) → All P xs → All P (reverse xs)
-all-reverse P [] h = tt
-all-reverse P (x ∷ xs) h = rw (reverse-cons x xs) (all-append P (reverse xs) (x ∷ []) (all-reverse P xs (h .1)) (h .0, tt))
-
--- entry b from the start is entry b from the end
-pub reverse-at : (ws : List ℕ) (a b : ℕ) → a + b + 1 ≡ length ws → getD (reverse ws) b 0 ≡ getD ws a 0
-reverse-at [] a b e = absurd (omega arith)
-reverse-at (x ∷ ws) zero b e =
-    let q : b ≡ length (reverse ws) + 0 = omega (arith, length-reverse ws) in
-    ap (λ (l : List ℕ). getD l b 0) (reverse-cons x ws) ∙ (ap (λ (n : ℕ). getD (reverse ws ++ (x ∷ [])) n 0) q ∙ getD-append-add (reverse ws) (x ∷ []) 0 0)
-reverse-at (x ∷ ws) (suc a) b e =
-    ap (λ (l : List ℕ). getD l b 0) (reverse-cons x ws)
-    ∙ (List·getD-append (reverse ws) (x ∷ []) 0 b (omega (arith, length-reverse ws)) ∙ reverse-at ws a b (omega arith))
 
 turn-append : (v w : List ℕ) → turn (v ++ w) ≡ turn w ++ turn v
 unfolding turn
@@ -54,19 +41,6 @@ turn-cut w a k b e =
     ∙ (ap (take k) (drop-at (turn z) (turn y ++ turn x) b (length-turn z ∙ m)) ∙ take-at (turn y) (turn x) k (length-turn y ∙ n))
 
 -- ─── letters and their words ─────────────────────────────────────────────────
-
-map-cut : (f : ℕ → ℕ) (k b : ℕ) (xs : List ℕ) → map f (take k (drop b xs)) ≡ take k (drop b (map f xs))
-map-cut f k b xs = front f k (drop b xs) ∙ ap (take k) (back f b xs)
-  where
-    front : (f : ℕ → ℕ) (k : ℕ) (xs : List ℕ) → map f (take k xs) ≡ take k (map f xs)
-    front f zero xs = refl
-    front f (suc k) [] = refl
-    front f (suc k) (x ∷ xs) = ap (λ (l : List ℕ). f x ∷ l) (front f k xs)
-
-    back : (f : ℕ → ℕ) (b : ℕ) (xs : List ℕ) → map f (drop b xs) ≡ drop b (map f xs)
-    back f zero xs = refl
-    back f (suc b) [] = refl
-    back f (suc b) (x ∷ xs) = back f b xs
 
 spell-capital : (w : List ℕ) → Letters w → spell (map capital w) ≡ w
 spell-capital [] h = refl

@@ -1,12 +1,12 @@
 -- APPLY: a collection and signed places to a new collection.
 use mathlib.Core.List.{List}
-use Prim.Native.Nat.{ℕ}
+use Prim.Native.Nat.{ℕ, _≤_}
 use lib.IntN.{ℤ}
 use lib.ListN.{length, replicate}
 use Rattle.lists.specs.Fill.{fill}
 use Rattle.trails.specs.Places.{arranged}
 use Rattle.collection.specs.declared.Verdict.{Verdict}
-use Rattle.collection.specs.Judge.{collectionVerdict}
+use Rattle.collection.specs.Judge.{Passes, collectionVerdict}
 use Rattle.collection.specs.Strings.{Str, strings, lettersIn, endsIn, weightsIn}
 use Rattle.collection.specs.Verdict.{andThen, settle, roomVerdict}
 use Rattle.placing.specs.declared.ApplyAnswer.{ApplyAnswer}
@@ -44,16 +44,31 @@ tablesVerdict k letters ends weights newLetters newEnds newWeights work =
 abbrev pub zeroed : ℕ → List ℕ → List ℕ
 zeroed m work = fill (replicate m 0) work
 
--- refused up to 1: all tables as they were. Refused by 8: the new tables as they were, work zeroed. Else the new tables hold the reordered strings.
-unfoldable pub applyOf : ℕ → List ℕ → List ℕ → List ℕ → List ℤ → List ℕ → List ℕ → List ℕ → List ℕ → Outcome
-applyOf k letters ends weights places newLetters newEnds newWeights work =
-    settle (tablesVerdict k letters ends weights (length newLetters) (length newEnds) (length newWeights) (length work))
-    (λ number place. outcome (Refused number place) newLetters newEnds newWeights work)
-    (settle (placesVerdict (length ends) places)
+-- what a collection and the lent tables keep to that pass
+pub record Ready (k : ℕ) (letters ends weights : List ℕ) (newLetters newEnds newWeights work : ℕ) : Type 0 where
+  pub passes : Passes k letters ends weights
+  pub few : length ends ≤ 65536
+  pub letters-room : length letters ≤ newLetters
+  pub ends-room : length ends ≤ newEnds
+  pub weights-room : length weights ≤ newWeights
+  pub work-room : length ends ≤ work
+
+-- refused by 8: the new tables as they were. Else they hold the reordered strings. Work is zeroed in both cases.
+unfoldable pub placedOf : ℕ → List ℕ → List ℕ → List ℕ → List ℤ → List ℕ → List ℕ → List ℕ → List ℕ → Outcome
+placedOf k letters ends weights places newLetters newEnds newWeights work =
+    settle (placesVerdict (length ends) places)
     (λ number place. outcome (Refused number place) newLetters newEnds newWeights (zeroed (length ends) work))
     (outcome
     (Filled (length letters) (length ends) (length weights))
     (fill (lettersIn (reordered k letters ends weights places)) newLetters)
     (fill (endsIn 0 (reordered k letters ends weights places)) newEnds)
     (fill (weightsIn (reordered k letters ends weights places)) newWeights)
-    (zeroed (length ends) work)))
+    (zeroed (length ends) work))
+
+-- refused up to 1: all tables as they were
+unfoldable pub applyOf : ℕ → List ℕ → List ℕ → List ℕ → List ℤ → List ℕ → List ℕ → List ℕ → List ℕ → Outcome
+unfolding placedOf
+applyOf k letters ends weights places newLetters newEnds newWeights work =
+    settle (tablesVerdict k letters ends weights (length newLetters) (length newEnds) (length newWeights) (length work))
+    (λ number place. outcome (Refused number place) newLetters newEnds newWeights work)
+    (placedOf k letters ends weights places newLetters newEnds newWeights work)

@@ -5,7 +5,8 @@ mod writing;
 
 use collection::Verdict;
 ghost use mathlib.Core.Path.{_≡_};
-ghost use Rattle.placing.specs.Apply.{outcome, applyOf};
+ghost use lib.ListN.{length};
+ghost use Rattle.placing.specs.Apply.{Ready, outcome, placedOf, applyOf};
 
 // What APPLY answers: how many letters, ends and weights it filled.
 pub enum ApplyAnswer {
@@ -18,6 +19,46 @@ pub enum ApplyAnswer {
         number: u32,
         place: usize,
     },
+}
+
+// 8, then each string written at its place. Work is zero afterwards in both cases.
+fn apply_places(
+    k: usize,
+    letters: &[u8],
+    ends: &[u32],
+    weights: &[u32],
+    signed: &[i32],
+    new_letters: &mut [u8],
+    new_ends: &mut [u32],
+    new_weights: &mut [u32],
+    work: &mut [u32],
+) -> ApplyAnswer
+    requires { ⌜ Ready k (now letters) (now ends) (now weights) (length (now «new_letters»)) (length (now «new_ends»)) (length (now «new_weights»)) (length (now work)) ⌝ }
+    ensures { λ r. ⌜ outcome r (now («new_letters» .exit)) (now («new_ends» .exit)) (now («new_weights» .exit)) (now (work .exit)) ≡ placedOf k (now (letters .entry)) (now (ends .entry)) (now (weights .entry)) (now (signed .entry)) (now («new_letters» .entry)) (now («new_ends» .entry)) (now («new_weights» .entry)) (now (work .entry)) ⌝ }
+{
+    let m = ends.len();
+    let v = places::judge_places(signed, work, m);
+    if let Verdict::Bad { number, place } = v {
+        places::zero_first(work, m);
+        return ApplyAnswer::Refused { number, place };
+    }
+    placed::place_strings(
+        k,
+        letters,
+        ends,
+        weights,
+        signed,
+        work,
+        new_letters,
+        new_ends,
+        new_weights,
+    );
+    places::zero_first(work, m);
+    ApplyAnswer::Filled {
+        letters: letters.len(),
+        ends: m,
+        weights: weights.len(),
+    }
 }
 
 // APPLY: each string once, at its place, turned where the place is negative, its weights turned with it.
@@ -34,7 +75,7 @@ pub fn apply(
 ) -> ApplyAnswer
     ensures { λ r. ⌜ outcome r (now («new_letters» .exit)) (now («new_ends» .exit)) (now («new_weights» .exit)) (now (work .exit)) ≡ applyOf k (now (letters .entry)) (now (ends .entry)) (now (weights .entry)) (now (signed .entry)) (now («new_letters» .entry)) (now («new_ends» .entry)) (now («new_weights» .entry)) (now (work .entry)) ⌝ }
 {
-    let a = placed::judge_tables(
+    let v = placed::judge_tables(
         k,
         letters,
         ends,
@@ -44,29 +85,18 @@ pub fn apply(
         new_weights.len(),
         work.len(),
     );
-    if let Verdict::Bad { number, place } = a {
+    if let Verdict::Bad { number, place } = v {
         return ApplyAnswer::Refused { number, place };
     }
-    let b = places::judge_places(signed, work, ends.len());
-    if let Verdict::Bad { number, place } = b {
-        places::zero_first(work, ends.len());
-        return ApplyAnswer::Refused { number, place };
-    }
-    placed::place_strings(
+    apply_places(
         k,
         letters,
         ends,
         weights,
         signed,
-        work,
         new_letters,
         new_ends,
         new_weights,
-    );
-    places::zero_first(work, ends.len());
-    ApplyAnswer::Filled {
-        letters: letters.len(),
-        ends: ends.len(),
-        weights: weights.len(),
-    }
+        work,
+    )
 }
