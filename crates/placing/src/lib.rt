@@ -39,7 +39,7 @@ fn apply_places(
     let m = ends.len();
     let v = places::judge_places(signed, work, m);
     if let Verdict::Bad { number, place } = v {
-        places::zero_first(work, m);
+        collection::inner::zero_first(work, m);
         return ApplyAnswer::Refused { number, place };
     }
     placed::place_strings(
@@ -53,7 +53,7 @@ fn apply_places(
         new_ends,
         new_weights,
     );
-    places::zero_first(work, m);
+    collection::inner::zero_first(work, m);
     ApplyAnswer::Filled {
         letters: letters.len(),
         ends: m,

@@ -4,7 +4,6 @@ ghost use mathlib.Core.Path.{_≡_};
 ghost use Prim.Native.Nat.{_≤_};
 ghost use lib.IntN.{natAbs};
 ghost use lib.ListN.{length, take, replicate};
-ghost use Rattle.lists.specs.Fill.{fill};
 ghost use Rattle.trails.specs.Places.{isTurned};
 ghost use Rattle.placing.specs.Marks.{Scanned};
 ghost use Rattle.placing.specs.Judged.{PlacesJudged};
@@ -25,18 +24,6 @@ pub(crate) fn is_turned(p: i32) -> bool
     ensures { λ r. ⌜ r ≡ isTurned p ⌝ }
 {
     p < 0
-}
-
-// The first n entries become zero.
-pub(crate) fn zero_first(work: &mut [u32], n: usize)
-    requires { ⌜ n ≤ length (now work) ⌝ }
-    ensures { λ _. ⌜ now (work .exit) ≡ fill (replicate n 0) (now (work .entry)) ⌝ }
-{
-    let mut i = 0;
-    while i < n {
-        work[i] = 0;
-        i += 1;
-    }
 }
 
 // The first string with a bad place, from 1, or 0. Work names the string of each place that was met.
@@ -75,7 +62,7 @@ pub(crate) fn judge_places(signed: &[i32], work: &mut [u32], m: usize) -> Verdic
             place: 0,
         };
     }
-    zero_first(work, m);
+    collection::inner::zero_first(work, m);
     let r = mark_places(signed, work);
     if r != 0 {
         return Verdict::Bad {
