@@ -12,4 +12,5 @@ pub mod Hub
 pub mod Upper
 pub mod Bounds
 pub mod Renamed
+pub mod Amounts
 pub mod Examples
