@@ -1,62 +1,35 @@
 -- The halves of all walks give places with the fewest paths: without the spokes they are an order that has the least number of paths,
 -- and the places put the strings into that order.
-use mathlib.Core.Path.{_≡_, refl, ap, sym, _∙_, subst}
+use mathlib.Core.Path.{_≡_, ap, sym, _∙_, subst}
 use mathlib.Core.Bool.{false}
-use mathlib.Core.List.{List, [], _∷_, _++_, map, append-nil}
-use Prim.Native.Nat.{ℕ, zero, suc, _+_, _-_, _*_, _/_, _<_, _≤_}
+use mathlib.Core.List.{List, _++_, map, append-nil}
+use Prim.Native.Nat.{ℕ, suc, _+_, _-_, _*_, _/_, _<_, _≤_}
 use native.Mathlib.Omega.{arith}
-use native.Mathlib.Decide.{ℕ-discrete}
 use lib.IntN.{ℤ, pos}
-use lib.ListN.{length, getD, drop, length-map, length-append, length-drop, drop-of-length-le}
+use lib.ListN.{length, getD, drop, length-map, length-drop, drop-of-length-le}
 use Rattle.lists.specs.Fill.{put}
-use Rattle.trails.specs.Counting.{oddly, sumBelow}
-use Rattle.trails.specs.Groups.{countOdd, oddWeights, least}
+use Rattle.trails.specs.Groups.{oddWeights, least}
 use Rattle.trails.specs.Paths.{pathCount}
 use Rattle.trails.specs.Places.{signed, SignedPermutation, arranged}
 use Rattle.trails.specs.Renamed.{Renamed}
-use Rattle.trails.specs.Strings.{Ends, front, back, turned, weights}
+use Rattle.trails.specs.Strings.{Ends, turned}
 use Rattle.trails.proofs.Arranged.{marked, marked-permutation, marked-arranged}
-use Rattle.trails.proofs.Counting.{oddly-le}
-use Rattle.trails.proofs.Hub.{spokes, spoked, limit, unspoked}
+use Rattle.trails.proofs.Amounts.{paths-few, length-spoked}
+use Rattle.trails.proofs.Hub.{unspoked}
 use Rattle.trails.proofs.Orders.{length-reordered}
-use Rattle.trails.proofs.Paths.{paths-none, paths-append, chain-one-path}
 use Rattle.trails.proofs.Renamed.{renamed-length, renamed-paths, renamed-least}
 use Rattle.trails.proofs.Upper.{toured-reordered, toured-answer, toured-least}
 use Rattle.tours.specs.Layout.{Tables}
-use Rattle.tours.specs.Halves.{near, gone, numbered}
+use Rattle.tours.specs.Halves.{near, gone}
 use Rattle.tours.specs.Rows.{Graph}
 use Rattle.tours.specs.States.{along, strings, Done}
+use Rattle.tours.proofs.Halves.{length-numbered}
 use Rattle.tours.proofs.Tours.{hub-fresh}
 use Rattle.cover.specs.Cover.{Fewest}
 use Rattle.vertices.specs.Ladder.{ladder}
 use Rattle.vertices.proofs.Ladder.{length-ladder}
 use Rattle.cover.specs.Placing.{placeAll, Covering}
 use Rattle.cover.proofs.Placing.{marks, names-placed, length-all, unspoked-marks}
-
--- ─── how many spokes there are ───────────────────────────────────────────────
-
-length-spokes : (h : ℕ) (ws : List ℕ) (n : ℕ) → length (spokes h ws n) ≡ sumBelow n (oddly ws)
-unfolding spokes sumBelow
-length-spokes h ws zero = refl
-length-spokes h ws (suc n) = go (ℕ-discrete (oddly ws n) 0) (length-spokes h ws n)
-  where
-    go : Dec (oddly ws n ≡ 0) → length (spokes h ws n) ≡ sumBelow n (oddly ws) → length (spokes h ws (suc n)) ≡ oddly ws n + sumBelow n (oddly ws)
-    go (yes e) ih = rw e (omega (arith, ih))
-    go (no q) ih = let e : oddly ws n ≡ 1 = omega (arith, oddly-le ws n) in rw e (omega (arith, ih))
-
-length-spoked : (h : ℕ) (L : List Ends) → length (spoked h L) ≡ oddWeights L + length L
-unfolding oddWeights countOdd
-length-spoked h L = omega (arith, length-append (spokes h (weights L) (limit L)) L, length-spokes h (weights L) (limit L))
-
-length-numbered : (f : ℕ → ℕ) (e n : ℕ) → length (numbered f e n) ≡ n
-unfolding numbered
-length-numbered f e zero = refl
-length-numbered f e (suc n) = ap suc (length-numbered f (suc e) n)
-
--- there are not more paths than strings
-paths-few : (L : List Ends) → pathCount L ≤ length L
-paths-few [] = omega (arith, paths-none)
-paths-few (s ∷ L) = omega (arith, paths-append (s ∷ []) L, chain-one-path (front s) (s ∷ []) (back s) (refl, refl), paths-few L)
 
 -- a table that is written over as a whole
 put-all : {A : Type 0} (xs w : List A) → length xs ≡ length w → put 0 xs w ≡ xs

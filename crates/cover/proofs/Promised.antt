@@ -27,7 +27,7 @@ use Rattle.vertices.specs.Promises.{Strung}
 use Rattle.vertices.proofs.EndWeights.{end-weights}
 use Rattle.vertices.proofs.Ladder.{ladder-zeros}
 use Rattle.cover.specs.declared.CoverAnswer.the-variants.{Covered, Refused}
-use Rattle.cover.specs.Cover.{coverVerdict, Fewest, PlacesAfter, CoverOf}
+use Rattle.cover.specs.Cover.{coverVerdict, Fewest, PlacesAfter, CoverOf, Promise}
 use Rattle.cover.specs.Placing.{Covering}
 
 -- ─── what a good verdict tells ───────────────────────────────────────────────
@@ -117,7 +117,8 @@ cover-none {verdict} k letters ends weights {places} {work} e z =
     nil = unfold ladder in refl
 
 -- all strings covered, in parts of the lent tables
-pub cover-all : {verdict : Verdict} {k : ℕ} {letters ends weights : List ℕ} {places : List ℤ} {work : List ℕ} → Roomy k letters ends weights places work → verdict ≡ Good
+pub cover-all : (k : ℕ) (letters ends weights : List ℕ) (places : List ℤ) (work : List ℕ) → coverVerdict k letters ends weights places work ≡ Good
     → {qs : List ℤ} {v : List ℕ} {n : ℕ} → Covering (endsFrom k 0 ends weights) (length ends) qs v n
-    → CoverOf verdict (endWeights k letters ends weights) (length ends) places work (Covered (length ends) n) (qs ++ drop (length ends) places) (v ++ drop (16 * length ends) work)
-cover-all {ends = ends} r e {qs} {v} {n} c = cover-done e (subst (λ (L : List Ends). Covering L (length ends) qs v n) (same-ends r) c) refl refl
+    → Promise k letters ends weights places work (Covered (length ends) n) (qs ++ drop (length ends) places) (v ++ drop (16 * length ends) work)
+cover-all k letters ends weights places work e {qs} {v} {n} c =
+    cover-done e (subst (λ (L : List Ends). Covering L (length ends) qs v n) (same-ends (cover-good k letters ends weights places work e)) c) refl refl

@@ -1,5 +1,5 @@
 -- Laws of halves: where they start, what stays unused when one is taken, and when none is left at a vertex.
-use mathlib.Core.Path.{_≡_, refl, ap, ap₂, sym, _∙_, subst}
+use mathlib.Core.Path.{_≡_, refl, ap, sym, _∙_}
 use mathlib.Core.List.{List, [], _∷_}
 use Prim.Native.Nat.{ℕ, zero, suc, _+_, _-_, _*_, _/_, _%_, _≤_, _<_}
 use native.Mathlib.Omega.{arith}
@@ -7,10 +7,10 @@ use native.Mathlib.Decide.{ℕ-discrete}
 use borrow.Author.Tests.{lt-ltb, le-ltb, eq-eqb, ne-eqb}
 use lib.ListN.{length, getD, set}
 use Rattle.trails.specs.Counting.{occurs}
-use Rattle.trails.specs.Strings.{Ends, weights}
+use Rattle.trails.specs.Strings.{weights}
 use Rattle.trails.proofs.Counting.{agree-same, agree-other}
 use Rattle.trails.proofs.Orders.{Reordered, keep, turn, exchange, both, unmoved, occurs-reordered}
-use Rattle.tours.specs.Halves.{near, other, gone, unused}
+use Rattle.tours.specs.Halves.{near, other, gone, unused, numbered}
 
 -- ─── where a half starts ─────────────────────────────────────────────────────
 
@@ -51,6 +51,11 @@ module _ (f : ℕ → ℕ) where
       go : Dec (c % 2 ≡ 0) → Reordered (unused f 0 flags) (gone f c ∷ unused f 0 (set flags (c / 2) 1))
       go (yes p) = use-at flags (c / 2) c (other c) l z (omega arith) (omega arith)
       go (no p) = both (use-at flags (c / 2) (other c) c l z (omega arith) (omega arith)) (turn (unmoved (unused f 0 (set flags (c / 2) 1))))
+
+  pub length-numbered : (e n : ℕ) → length (numbered f e n) ≡ n
+  unfolding numbered
+  length-numbered e zero = refl
+  length-numbered e (suc n) = ap suc (length-numbered (suc e) n)
 
   -- ─── none is left ──────────────────────────────────────────────────────────
 

@@ -12,5 +12,6 @@ pub mod Hub
 pub mod Upper
 pub mod Bounds
 pub mod Renamed
+pub mod Amounts
 pub mod Examples
 pub mod Kept

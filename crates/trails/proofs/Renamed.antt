@@ -1,6 +1,6 @@
 -- Names that tell weights apart keep which strings join, so each order has as many paths under them, and the least number of paths is the same.
 use mathlib.Core.Path.{_≡_, refl, ap, sym, _∙_, subst}
-use mathlib.Core.List.{List, [], _∷_, _++_, map, append-nil}
+use mathlib.Core.List.{List, [], _∷_, map}
 use Prim.Native.Nat.{ℕ, _+_, _-_, _≤_}
 use native.Mathlib.Decide.{ℕ-discrete}
 use lib.IntN.{ℤ}
@@ -15,14 +15,9 @@ use Rattle.trails.specs.Renamed.{renamed, Renamed}
 use Rattle.trails.proofs.Arranged.{map-arranged}
 use Rattle.trails.proofs.Bounds.{none-fewer, one-reaches, least-only}
 use Rattle.trails.proofs.Counting.{agree-same, agree-other}
-use Rattle.trails.proofs.Orders.{Reordered, keep, both, unmoved, move-in, all-reordered, all-weights}
+use Rattle.trails.proofs.Orders.{all-reordered, all-weights}
 use Rattle.trails.proofs.Paths.{paths-next}
 use Rattle.trails.proofs.Places.{places-reordered}
-
--- strings behind others may come before them
-pub swapped : (A B : List Ends) → Reordered (A ++ B) (B ++ A)
-swapped [] B = subst (Reordered B) (sym (append-nil B)) (unmoved B)
-swapped (s ∷ A) B = both (keep (swapped A B)) (move-in s B A)
 
 -- ─── the paths of an order ───────────────────────────────────────────────────
 

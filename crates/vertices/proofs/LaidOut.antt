@@ -18,7 +18,7 @@ use Rattle.trails.specs.Renamed.{renamed, Renamed}
 use Rattle.trails.proofs.Counting.{AllBelow, occurs-where, occurs-beyond}
 use Rattle.trails.proofs.Hub.{spokes, spoked, spokesTo, spoked-even, spoked-listed}
 use Rattle.trails.proofs.Orders.{Reordered, both, occurs-reordered}
-use Rattle.trails.proofs.Renamed.{swapped}
+use Rattle.trails.proofs.Amounts.{swapped}
 use Rattle.trails.proofs.Walk.{AllEven}
 use Rattle.tours.specs.Layout.{Fits, Tables, tables}
 use Rattle.tours.specs.Halves.{near, unused, numbered}
@@ -29,7 +29,7 @@ use Rattle.tours.proofs.Tours.{hub-fresh}
 use Rattle.vertices.specs.EndWeights.{endsFrom}
 use Rattle.vertices.specs.Firsts.{firstOf, keyed}
 use Rattle.vertices.specs.Ladder.{ladder}
-use Rattle.vertices.specs.Promises.{Rising, Ordered, Named, Blank, Marked, LaidOut}
+use Rattle.vertices.specs.Promises.{keysIn, orderIn, vertsIn, flagsIn, Rising, Ordered, Named, Blank, Marked, LaidOut}
 use Rattle.vertices.proofs.Firsts.{first-le, first-key, first-between, first-same}
 use Rattle.vertices.proofs.Ladder.{length-ladder, ladder-at}
 use Rattle.vertices.proofs.Ordering.{inOrder, order-length, order-rising, order-place}
@@ -244,32 +244,32 @@ module _ (m : ℕ) (keys verts flags stack : List ℕ) (some : 1 ≤ m)
 -- ─── from the stages ─────────────────────────────────────────────────────────
 
 -- the vertices are named by the order
-named-verts : {m : ℕ} {keys w₁ w₂ : List ℕ} → Ordered m keys w₁ → Named m (part (12 * m) (2 * m) w₁) (part (5 * m) (2 * m) w₁) w₁ w₂
-    → (q : ℕ) → q < 2 * m → getD (part 0 (2 * m) w₂) (getD (inOrder m keys) q 0) 0 ≡ firstOf (keyed keys (inOrder m keys)) q
+named-verts : {m : ℕ} {keys w₁ w₂ : List ℕ} → Ordered m keys w₁ → Named m (keysIn m w₁) (orderIn m w₁) w₁ w₂
+    → (q : ℕ) → q < 2 * m → getD (vertsIn m w₂) (getD (inOrder m keys) q 0) 0 ≡ firstOf (keyed keys (inOrder m keys)) q
 named-verts {m} {keys} {w₁} {w₂} o n =
-    subst (λ (K : List ℕ). (q : ℕ) → q < 2 * m → getD (part 0 (2 * m) w₂) (getD (inOrder m keys) q 0) 0 ≡ firstOf (keyed K (inOrder m keys)) q) (o .keys-are)
-    (subst (λ (R : List ℕ). (q : ℕ) → q < 2 * m → getD (part 0 (2 * m) w₂) (getD R q 0) 0 ≡ firstOf (keyed (part (12 * m) (2 * m) w₁) R) q) (o .order-is) (n .vertex))
+    subst (λ (K : List ℕ). (q : ℕ) → q < 2 * m → getD (vertsIn m w₂) (getD (inOrder m keys) q 0) 0 ≡ firstOf (keyed K (inOrder m keys)) q) (o .keys-are)
+    (subst (λ (R : List ℕ). (q : ℕ) → q < 2 * m → getD (vertsIn m w₂) (getD R q 0) 0 ≡ firstOf (keyed (keysIn m w₁) R) q) (o .order-is) (n .vertex))
 
 -- what `name_vertices` asks
-pub order-rises : {m : ℕ} {keys w : List ℕ} → Ordered m keys w → Rising m (part (12 * m) (2 * m) w) (part (5 * m) (2 * m) w)
+pub order-rises : {m : ℕ} {keys w : List ℕ} → Ordered m keys w → Rising m (keysIn m w) (orderIn m w)
 order-rises {m} {keys} {w} o = rw (o .keys-are, o .order-is) (order-rising m keys)
 
 -- what `mark_odd` asks
-pub blank-low : {m : ℕ} {keys w₁ w₂ w₃ : List ℕ} → length w₂ ≡ 16 * m → Ordered m keys w₁ → Named m (part (12 * m) (2 * m) w₁) (part (5 * m) (2 * m) w₁) w₁ w₂ → Blank m w₂ w₃
-    → All (λ x. x < 2 * m) (part 0 (2 * m) w₃)
+pub blank-low : {m : ℕ} {keys w₁ w₂ w₃ : List ℕ} → length w₂ ≡ 16 * m → Ordered m keys w₁ → Named m (keysIn m w₁) (orderIn m w₁) w₁ w₂ → Blank m w₂ w₃
+    → All (λ x. x < 2 * m) (vertsIn m w₃)
 blank-low {m} {keys} {w₁} {w₂} s o n b =
     subst (All (λ x. x < 2 * m)) (sym (b .verts))
-    (at-all (λ v. v < 2 * m) 0 (part 0 (2 * m) w₂) (λ c l. vert-low m keys (part 0 (2 * m) w₂) (named-verts o n) c (omega (arith, part-length 0 (2 * m) w₂ (omega arith)))))
+    (at-all (λ v. v < 2 * m) 0 (vertsIn m w₂) (λ c l. vert-low m keys (vertsIn m w₂) (named-verts o n) c (omega (arith, part-length 0 (2 * m) w₂ (omega arith)))))
 
-module _ {m : ℕ} {keys w₁ w₂ w₃ w₄ : List ℕ} (f : Fits m w₁) (lk : length keys ≡ 2 * m) (o : Ordered m keys w₁) (n : Named m (part (12 * m) (2 * m) w₁) (part (5 * m) (2 * m) w₁) w₁ w₂)
+module _ {m : ℕ} {keys w₁ w₂ w₃ w₄ : List ℕ} (f : Fits m w₁) (lk : length keys ≡ 2 * m) (o : Ordered m keys w₁) (n : Named m (keysIn m w₁) (orderIn m w₁) w₁ w₂)
     (s₃ : length w₃ ≡ length w₁) (b : Blank m w₂ w₃) (d : Marked m w₃ w₄) where
   kept : (a k : ℕ) → Apart a k (3 * m) (2 * m) → a + k ≤ 16 * m → part a k w₄ ≡ part a k w₃
   kept a k c l = only-part (3 * m) (2 * m) w₃ w₄ (d .rest) a k c (omega (arith, f .size))
 
-  verts-are : part 0 (2 * m) w₄ ≡ part 0 (2 * m) w₂
+  verts-are : vertsIn m w₄ ≡ vertsIn m w₂
   verts-are = kept 0 (2 * m) (inl (omega arith)) (omega arith) ∙ b .verts
 
-  used-are : part (2 * m) (3 * m) w₄ ≡ ladder 0 0 m ++ part (3 * m) (2 * m) w₄
+  used-are : part (2 * m) (3 * m) w₄ ≡ ladder 0 0 m ++ flagsIn m w₄
   used-are =
       let q : 3 * m ≡ m + 2 * m = omega arith in
       let r : 2 * m + m ≡ 3 * m = omega arith in
@@ -290,7 +290,7 @@ module _ {m : ℕ} {keys w₁ w₂ w₃ w₄ : List ℕ} (f : Fits m w₁) (lk :
   cursors-are : part (9 * m) (3 * m) w₄ ≡ ladder 0 1 (3 * m)
   cursors-are = kept (9 * m) (3 * m) (inr (omega arith)) (omega arith) ∙ b .cursors
 
-  tables-are : laid-tables m keys (part 0 (2 * m) w₂) (part (3 * m) (2 * m) w₄) (part (12 * m) (3 * m) w₄) ≡ tables m w₄
+  tables-are : laid-tables m keys (vertsIn m w₂) (flagsIn m w₄) (part (12 * m) (3 * m) w₄) ≡ tables m w₄
   tables-are = λ j. record {
     verts = sym verts-are j;
     used = sym used-are j;
@@ -302,20 +302,20 @@ module _ {m : ℕ} {keys w₁ w₂ w₃ w₄ : List ℕ} (f : Fits m w₁) (lk :
   size₄ : length w₄ ≡ 16 * m
   size₄ = d .rest .size ∙ (s₃ ∙ f .size)
 
-  size₂ : length (part 0 (2 * m) w₂) ≡ 2 * m
+  size₂ : length (vertsIn m w₂) ≡ 2 * m
   size₂ = part-length 0 (2 * m) w₂ (omega (arith, n .rest .size, f .size))
 
   stages-begun : Begun m (tables m w₄)
   stages-begun =
       subst (Begun m) tables-are
-      (laid-begun m keys (part 0 (2 * m) w₂) (part (3 * m) (2 * m) w₄) (part (12 * m) (3 * m) w₄) (f .some) (named-verts o n) size₂
+      (laid-begun m keys (vertsIn m w₂) (flagsIn m w₄) (part (12 * m) (3 * m) w₄) (f .some) (named-verts o n) size₂
       (part-length (3 * m) (2 * m) w₄ (omega (arith, size₄))) (part-length (12 * m) (3 * m) w₄ (omega (arith, size₄)))
-      (subst (λ (vs : List ℕ). (x : ℕ) → x < 2 * m → (getD (part (3 * m) (2 * m) w₄) x 0 + occurs x vs) % 2 ≡ 1) (b .verts) (d .odd)) (d .flags))
+      (subst (λ (vs : List ℕ). (x : ℕ) → x < 2 * m → (getD (flagsIn m w₄) x 0 + occurs x vs) % 2 ≡ 1) (b .verts) (d .odd)) (d .flags))
 
   pub stages-laid : (k : ℕ) (ends ws : List ℕ) → weights (endsFrom k 0 ends ws) ≡ keys → LaidOut k m ends ws w₄
   stages-laid k ends ws e = record {
     begun = stages-begun;
     renamed =
         subst (λ (vs : List ℕ). Renamed (endsFrom k 0 ends ws) (numbered (near m vs) 0 m)) (sym verts-are)
-        (laid-renamed m keys (part 0 (2 * m) w₂) (named-verts o n) lk size₂ (endsFrom k 0 ends ws) e);
+        (laid-renamed m keys (vertsIn m w₂) (named-verts o n) lk size₂ (endsFrom k 0 ends ws) e);
   }

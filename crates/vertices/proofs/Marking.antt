@@ -9,14 +9,14 @@ use native.Mathlib.Numerals.{add-one}
 use lib.ListN.{length, getD, set, take}
 use lib.Seq.{getD-set-same, getD-set-other, take-suc, take-all}
 use Rattle.lists.specs.Every.{All}
-use Rattle.lists.specs.Regions.{part, Only}
+use Rattle.lists.specs.Regions.{Only}
 use Rattle.lists.proofs.Every.{all-at}
 use Rattle.lists.proofs.Regions.{part-set, part-length, part-at, among-refl, only-set, only-at}
 use Rattle.tours.specs.Layout.{Fits}
 use Rattle.trails.specs.Counting.{agree, occurs}
 use Rattle.trails.proofs.Counting.{agree-same, agree-other, occurs-between}
 use Rattle.vertices.specs.Ladder.{ladder}
-use Rattle.vertices.specs.Promises.{Marked}
+use Rattle.vertices.specs.Promises.{vertsIn, flagsIn, Marked}
 use Rattle.vertices.proofs.Ladder.{ladder-at}
 
 -- one end more
@@ -30,10 +30,10 @@ occurs-more x vs i l =
 pub record Marking (m : ℕ) (w₀ w : List ℕ) (i : ℕ) : Type 0 where
   pub rest : Only (3 * m) (2 * m) w₀ w
   pub inside : i ≤ 2 * m
-  pub odd : (x : ℕ) → x < 2 * m → (getD (part (3 * m) (2 * m) w) x 0 + occurs x (take i (part 0 (2 * m) w₀))) % 2 ≡ 1
-  pub flags : (x : ℕ) → x < 2 * m → getD (part (3 * m) (2 * m) w) x 0 ≤ 1
+  pub odd : (x : ℕ) → x < 2 * m → (getD (flagsIn m w) x 0 + occurs x (take i (vertsIn m w₀))) % 2 ≡ 1
+  pub flags : (x : ℕ) → x < 2 * m → getD (flagsIn m w) x 0 ≤ 1
 
-pub marking-start : (m : ℕ) (w : List ℕ) → part (3 * m) (2 * m) w ≡ ladder 1 0 (2 * m) → Marking m w w 0
+pub marking-start : (m : ℕ) (w : List ℕ) → flagsIn m w ≡ ladder 1 0 (2 * m) → Marking m w w 0
 marking-start m w e = record {
   rest = among-refl ((3 * m, 2 * m) ∷ []) w;
   inside = omega arith;
@@ -41,18 +41,18 @@ marking-start m w e = record {
   flags = λ x l. omega (arith, one x l);
 }
   where
-    one : (x : ℕ) → x < 2 * m → getD (part (3 * m) (2 * m) w) x 0 ≡ 1
+    one : (x : ℕ) → x < 2 * m → getD (flagsIn m w) x 0 ≡ 1
     one x l = ap (λ (L : List ℕ). getD L x 0) e ∙ ladder-at 1 0 (2 * m) x l ∙ omega arith
 
-module _ {m : ℕ} {w₀ w : List ℕ} {i : ℕ} (f : Fits m w₀) (low : All (λ x. x < 2 * m) (part 0 (2 * m) w₀)) (g : Marking m w₀ w i) (l : i < 2 * m) where
-  verts-length : length (part 0 (2 * m) w₀) ≡ 2 * m
+module _ {m : ℕ} {w₀ w : List ℕ} {i : ℕ} (f : Fits m w₀) (low : All (λ x. x < 2 * m) (vertsIn m w₀)) (g : Marking m w₀ w i) (l : i < 2 * m) where
+  verts-length : length (vertsIn m w₀) ≡ 2 * m
   verts-length = part-length 0 (2 * m) w₀ (omega (arith, f .size))
 
-  pub vertex-read : getD w i 0 ≡ getD (part 0 (2 * m) w₀) i 0
+  pub vertex-read : getD w i 0 ≡ getD (vertsIn m w₀) i 0
   vertex-read = let e : 0 + i ≡ i = omega arith in rw e at (only-at (3 * m) (2 * m) w₀ w (g .rest) 0 (2 * m) (inl (omega arith)) i 0 l)
 
   pub vertex-low : getD w i 0 < 2 * m
-  vertex-low = rw vertex-read (all-at (λ x. x < 2 * m) (part 0 (2 * m) w₀) low i 0 (omega (arith, verts-length)))
+  vertex-low = rw vertex-read (all-at (λ x. x < 2 * m) (vertsIn m w₀) low i 0 (omega (arith, verts-length)))
 
   module _ (v : ℕ) (is : v ≡ getD w i 0) where
     v-low : v < 2 * m
@@ -61,32 +61,32 @@ module _ {m : ℕ} {w₀ w : List ℕ} {i : ℕ} (f : Fits m w₀) (low : All (�
     pub flag-low : getD w (3 * m + v) 0 ≤ 1
     flag-low = rw (part-at (3 * m) (2 * m) w v 0 v-low) at (g .flags v v-low)
 
-    in-part : v < length (part (3 * m) (2 * m) w)
+    in-part : v < length (flagsIn m w)
     in-part = omega (arith, part-length (3 * m) (2 * m) w (omega (arith, f .size, g .rest .size)), v-low)
 
-    turned : (x : ℕ) → x < 2 * m → Dec (x ≡ v)
-        → ((getD (set (part (3 * m) (2 * m) w) v (1 - getD w (3 * m + v) 0)) x 0 + occurs x (take (i + 1) (part 0 (2 * m) w₀))) % 2 ≡ 1)
-        × (getD (set (part (3 * m) (2 * m) w) v (1 - getD w (3 * m + v) 0)) x 0 ≤ 1)
-    turned x b (yes e) =
-        let same = getD-set-same (part (3 * m) (2 * m) w) v (1 - getD w (3 * m + v) 0) 0 in-part in
+    flag-turned : (x : ℕ) → x < 2 * m → Dec (x ≡ v)
+        → ((getD (set (flagsIn m w) v (1 - getD w (3 * m + v) 0)) x 0 + occurs x (take (i + 1) (vertsIn m w₀))) % 2 ≡ 1)
+        × (getD (set (flagsIn m w) v (1 - getD w (3 * m + v) 0)) x 0 ≤ 1)
+    flag-turned x b (yes e) =
+        let same = getD-set-same (flagsIn m w) v (1 - getD w (3 * m + v) 0) 0 in-part in
         rw (e, same) (
           omega (
             arith,
             g .odd v v-low,
             flag-low,
             part-at (3 * m) (2 * m) w v 0 v-low,
-            occurs-more v (part 0 (2 * m) w₀) i (omega (arith, verts-length)),
-            agree-same v (getD (part 0 (2 * m) w₀) i 0) (is ∙ vertex-read),
+            occurs-more v (vertsIn m w₀) i (omega (arith, verts-length)),
+            agree-same v (getD (vertsIn m w₀) i 0) (is ∙ vertex-read),
           ),
           omega arith,
         )
-    turned x b (no e) =
-        rw (getD-set-other (part (3 * m) (2 * m) w) v x (1 - getD w (3 * m + v) 0) 0 e) (
+    flag-turned x b (no e) =
+        rw (getD-set-other (flagsIn m w) v x (1 - getD w (3 * m + v) 0) 0 e) (
           omega (
             arith,
             g .odd x b,
-            occurs-more x (part 0 (2 * m) w₀) i (omega (arith, verts-length)),
-            agree-other x (getD (part 0 (2 * m) w₀) i 0) (λ q. e (q ∙ (sym vertex-read ∙ sym is))),
+            occurs-more x (vertsIn m w₀) i (omega (arith, verts-length)),
+            agree-other x (getD (vertsIn m w₀) i 0) (λ q. e (q ∙ (sym vertex-read ∙ sym is))),
           ),
           g .flags x b,
         )
@@ -95,13 +95,13 @@ module _ {m : ℕ} {w₀ w : List ℕ} {i : ℕ} (f : Fits m w₀) (low : All (�
     marking-on = record {
       rest = only-set (3 * m) (2 * m) w₀ w (g .rest) v (1 - getD w (3 * m + v) 0) v-low;
       inside = omega arith;
-      odd = λ x b. rw (part-set (3 * m) (2 * m) w v (1 - getD w (3 * m + v) 0) v-low) (turned x b (ℕ-discrete x v) .0);
-      flags = λ x b. rw (part-set (3 * m) (2 * m) w v (1 - getD w (3 * m + v) 0) v-low) (turned x b (ℕ-discrete x v) .1);
+      odd = λ x b. rw (part-set (3 * m) (2 * m) w v (1 - getD w (3 * m + v) 0) v-low) (flag-turned x b (ℕ-discrete x v) .0);
+      flags = λ x b. rw (part-set (3 * m) (2 * m) w v (1 - getD w (3 * m + v) 0) v-low) (flag-turned x b (ℕ-discrete x v) .1);
     }
 
 pub marking-end : {m : ℕ} {w₀ w : List ℕ} {i : ℕ} → Fits m w₀ → Marking m w₀ w i → 2 * m ≤ i → Marked m w₀ w
 marking-end {m} {w₀} {w} {i} f g h = record {
-  odd = λ x l. rw (take-all i (part 0 (2 * m) w₀) (omega (arith, part-length 0 (2 * m) w₀ (omega (arith, f .size))))) at (g .odd x l);
+  odd = λ x l. rw (take-all i (vertsIn m w₀) (omega (arith, part-length 0 (2 * m) w₀ (omega (arith, f .size))))) at (g .odd x l);
   flags = g .flags;
   rest = g .rest;
 }

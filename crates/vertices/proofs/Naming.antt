@@ -10,11 +10,11 @@ use lib.Dec.{eqb}
 use lib.ListN.{length, getD, set}
 use lib.Seq.{getD-set-same, getD-set-other}
 use Rattle.lists.specs.Choose.{choose}
-use Rattle.lists.specs.Regions.{part, Only}
+use Rattle.lists.specs.Regions.{Only}
 use Rattle.lists.proofs.Regions.{part-set, part-length, among-refl, only-set, only-at}
 use Rattle.tours.specs.Layout.{Fits}
 use Rattle.vertices.specs.Firsts.{firstOf, keyed}
-use Rattle.vertices.specs.Promises.{Rising, Named}
+use Rattle.vertices.specs.Promises.{keysIn, orderIn, vertsIn, Rising, Named}
 use Rattle.vertices.proofs.Firsts.{first-le, first-same}
 
 -- the vertex of the place before q, 0 where there is none
@@ -26,9 +26,9 @@ lastFirst ks (suc p) = firstOf ks p
 pub record Naming (m : ℕ) (w₀ w : List ℕ) (v before q : ℕ) : Type 0 where
   pub rest : Only 0 (2 * m) w₀ w
   pub inside : q ≤ 2 * m
-  pub done : (p : ℕ) → p < q → getD (part 0 (2 * m) w) (getD (part (5 * m) (2 * m) w₀) p 0) 0 ≡ firstOf (keyed (part (12 * m) (2 * m) w₀) (part (5 * m) (2 * m) w₀)) p
-  pub vertex : v ≡ lastFirst (keyed (part (12 * m) (2 * m) w₀) (part (5 * m) (2 * m) w₀)) q
-  pub key : (p : ℕ) → q ≡ suc p → before ≡ keyed (part (12 * m) (2 * m) w₀) (part (5 * m) (2 * m) w₀) p
+  pub done : (p : ℕ) → p < q → getD (vertsIn m w) (getD (orderIn m w₀) p 0) 0 ≡ firstOf (keyed (keysIn m w₀) (orderIn m w₀)) p
+  pub vertex : v ≡ lastFirst (keyed (keysIn m w₀) (orderIn m w₀)) q
+  pub key : (p : ℕ) → q ≡ suc p → before ≡ keyed (keysIn m w₀) (orderIn m w₀) p
 
 pub naming-start : (m : ℕ) (w : List ℕ) → Naming m w w 0 0 0
 naming-start m w = record {
@@ -48,56 +48,56 @@ first-is ks zero v before a b = go (eqb (ks 0) before)
     go false = refl
 first-is ks (suc q) v before a b = rw (a, b q refl)
 
-module _ {m : ℕ} {w₀ w : List ℕ} {v before q : ℕ} (f : Fits m w₀) (r : Rising m (part (12 * m) (2 * m) w₀) (part (5 * m) (2 * m) w₀)) (g : Naming m w₀ w v before q) (l : q < 2 * m) where
+module _ {m : ℕ} {w₀ w : List ℕ} {v before q : ℕ} (f : Fits m w₀) (r : Rising m (keysIn m w₀) (orderIn m w₀)) (g : Naming m w₀ w v before q) (l : q < 2 * m) where
   -- the end at place q, and its weight
-  pub order-read : getD w (5 * m + q) 0 ≡ getD (part (5 * m) (2 * m) w₀) q 0
+  pub order-read : getD w (5 * m + q) 0 ≡ getD (orderIn m w₀) q 0
   order-read = only-at 0 (2 * m) w₀ w (g .rest) (5 * m) (2 * m) (inr (omega arith)) q 0 l
 
   pub order-low : getD w (5 * m + q) 0 < 2 * m
   order-low = rw order-read (r .low q l)
 
-  pub key-read : (c : ℕ) → c ≡ getD w (5 * m + q) 0 → getD w (12 * m + c) 0 ≡ keyed (part (12 * m) (2 * m) w₀) (part (5 * m) (2 * m) w₀) q
+  pub key-read : (c : ℕ) → c ≡ getD w (5 * m + q) 0 → getD w (12 * m + c) 0 ≡ keyed (keysIn m w₀) (orderIn m w₀) q
   key-read c e =
       only-at 0 (2 * m) w₀ w (g .rest) (12 * m) (2 * m) (inr (omega arith)) c 0 (omega (arith, order-low))
-      ∙ ap (λ (x : ℕ). getD (part (12 * m) (2 * m) w₀) x 0) (e ∙ order-read)
+      ∙ ap (λ (x : ℕ). getD (keysIn m w₀) x 0) (e ∙ order-read)
 
   module _ (c : ℕ) (is : c ≡ getD w (5 * m + q) 0) (u : ℕ) (named : u ≡ choose (eqb (getD w (12 * m + c) 0) before) v q) where
-    now-first : u ≡ firstOf (keyed (part (12 * m) (2 * m) w₀) (part (5 * m) (2 * m) w₀)) q
+    now-first : u ≡ firstOf (keyed (keysIn m w₀) (orderIn m w₀)) q
     now-first =
         named
         ∙ (ap (λ (x : ℕ). choose (eqb x before) v q) (key-read c is)
-        ∙ first-is (keyed (part (12 * m) (2 * m) w₀) (part (5 * m) (2 * m) w₀)) q v before (g .vertex) (g .key))
+        ∙ first-is (keyed (keysIn m w₀) (orderIn m w₀)) q v before (g .vertex) (g .key))
 
     c-low : c < 2 * m
     c-low = omega (arith, order-low)
 
     pub named-low : u ≤ q
-    named-low = rw now-first (first-le (keyed (part (12 * m) (2 * m) w₀) (part (5 * m) (2 * m) w₀)) q)
+    named-low = rw now-first (first-le (keyed (keysIn m w₀) (orderIn m w₀)) q)
 
-    stored : part 0 (2 * m) (set w c u) ≡ set (part 0 (2 * m) w) c u
+    stored : vertsIn m (set w c u) ≡ set (vertsIn m w) c u
     stored = let e : 0 + c ≡ c = omega arith in rw e at (part-set 0 (2 * m) w c u c-low)
 
-    in-part : c < length (part 0 (2 * m) w)
+    in-part : c < length (vertsIn m w)
     in-part = omega (arith, part-length 0 (2 * m) w (omega (arith, f .size, g .rest .size)), c-low)
 
-    done-now : (p : ℕ) → p < q + 1 → Dec (getD (part (5 * m) (2 * m) w₀) p 0 ≡ c) → Dec (p ≡ q)
-        → getD (part 0 (2 * m) (set w c u)) (getD (part (5 * m) (2 * m) w₀) p 0) 0 ≡ firstOf (keyed (part (12 * m) (2 * m) w₀) (part (5 * m) (2 * m) w₀)) p
+    done-now : (p : ℕ) → p < q + 1 → Dec (getD (orderIn m w₀) p 0 ≡ c) → Dec (p ≡ q)
+        → getD (vertsIn m (set w c u)) (getD (orderIn m w₀) p 0) 0 ≡ firstOf (keyed (keysIn m w₀) (orderIn m w₀)) p
     done-now p b (yes e) d =
-        rw (stored, e, getD-set-same (part 0 (2 * m) w) c u 0 in-part)
+        rw (stored, e, getD-set-same (vertsIn m w) c u 0 in-part)
         (now-first
-        ∙ first-same (keyed (part (12 * m) (2 * m) w₀) (part (5 * m) (2 * m) w₀)) (2 * m) (r .rises) q p l (omega arith)
-        (ap (λ (x : ℕ). getD (part (12 * m) (2 * m) w₀) x 0) (sym order-read ∙ (sym is ∙ sym e))))
-    done-now p b (no e) (yes i) = absurd (e (ap (λ (x : ℕ). getD (part (5 * m) (2 * m) w₀) x 0) i ∙ (sym order-read ∙ sym is)))
-    done-now p b (no e) (no i) = rw (stored, getD-set-other (part 0 (2 * m) w) c (getD (part (5 * m) (2 * m) w₀) p 0) u 0 e) (g .done p (omega arith))
+        ∙ first-same (keyed (keysIn m w₀) (orderIn m w₀)) (2 * m) (r .rises) q p l (omega arith)
+        (ap (λ (x : ℕ). getD (keysIn m w₀) x 0) (sym order-read ∙ (sym is ∙ sym e))))
+    done-now p b (no e) (yes i) = absurd (e (ap (λ (x : ℕ). getD (orderIn m w₀) x 0) i ∙ (sym order-read ∙ sym is)))
+    done-now p b (no e) (no i) = rw (stored, getD-set-other (vertsIn m w) c (getD (orderIn m w₀) p 0) u 0 e) (g .done p (omega arith))
 
     pub naming-on : Naming m w₀ (set w c u) u (getD w (12 * m + c) 0) (q + 1)
     naming-on = record {
       rest = let e : 0 + c ≡ c = omega arith in subst (λ (i : ℕ). Only 0 (2 * m) w₀ (set w i u)) e (only-set 0 (2 * m) w₀ w (g .rest) c u c-low);
       inside = omega arith;
-      done = λ p b. done-now p b (ℕ-discrete (getD (part (5 * m) (2 * m) w₀) p 0) c) (ℕ-discrete p q);
+      done = λ p b. done-now p b (ℕ-discrete (getD (orderIn m w₀) p 0) c) (ℕ-discrete p q);
       vertex = let e : q + 1 ≡ suc q = omega arith in rw e now-first;
-      key = λ p e. let i : q ≡ p = omega arith in key-read c is ∙ ap (keyed (part (12 * m) (2 * m) w₀) (part (5 * m) (2 * m) w₀)) i;
+      key = λ p e. let i : q ≡ p = omega arith in key-read c is ∙ ap (keyed (keysIn m w₀) (orderIn m w₀)) i;
     }
 
-pub naming-end : {m : ℕ} {w₀ w : List ℕ} {v before q : ℕ} → Naming m w₀ w v before q → 2 * m ≤ q → Named m (part (12 * m) (2 * m) w₀) (part (5 * m) (2 * m) w₀) w₀ w
+pub naming-end : {m : ℕ} {w₀ w : List ℕ} {v before q : ℕ} → Naming m w₀ w v before q → 2 * m ≤ q → Named m (keysIn m w₀) (orderIn m w₀) w₀ w
 naming-end g h = record { vertex = λ p l. g .done p (omega arith); rest = g .rest }

@@ -16,7 +16,7 @@ use Rattle.lists.specs.Pick.{sortBy}
 use Rattle.lists.specs.Regions.{part}
 use Rattle.lists.proofs.Count.{length-count, count-at, all-count}
 use Rattle.lists.proofs.Every.{and-right, all-at}
-use Rattle.lists.proofs.Puts.{put-part, put-other}
+use Rattle.lists.proofs.Puts.{put-part}
 use Rattle.lists.proofs.Sorts.{sortBy-at, sortBy-place, all-sortBy, length-sortBy}
 use Rattle.collection.specs.Judge.{isWeight}
 use Rattle.collection.specs.Kmers.{within}
@@ -28,8 +28,8 @@ use Rattle.tours.specs.Layout.{Fits}
 use Rattle.trails.specs.Strings.{weights}
 use Rattle.vertices.specs.EndWeights.{endsFrom}
 use Rattle.vertices.specs.Ladder.{ladder}
-use Rattle.vertices.specs.Promises.{Strung, Ordered, Rising}
-use Rattle.vertices.proofs.Ladder.{length-ladder}
+use Rattle.vertices.specs.Promises.{keysIn, orderIn, Strung, Ordered, Rising}
+use Rattle.vertices.proofs.Ladder.{ladder-part, ladder-other}
 
 -- ─── the end weights fit 24 bits ─────────────────────────────────────────────
 
@@ -55,32 +55,24 @@ ladder-count i (suc n) = let e : i + 1 ≡ suc i = omega arith in ap (λ (l : Li
 
 module _ {m : ℕ} (keys : List ℕ) {w₀ w₁ w₂ : List ℕ} (f : Fits m w₀) (l : length keys ≡ 2 * m) (a : w₁ ≡ put (12 * m) keys w₀) (b : w₂ ≡ put (5 * m) (ladder 0 1 (2 * m)) w₁)
     (s₁ : length w₁ ≡ length w₀) where
-  keys-first : part (12 * m) (2 * m) w₁ ≡ keys
+  keys-first : keysIn m w₁ ≡ keys
   keys-first =
       subst (λ (n : ℕ). part (12 * m) n w₁ ≡ keys) l
       (subst (λ (v : List ℕ). part (12 * m) (length keys) v ≡ keys) (sym a) (put-part (12 * m) keys w₀ (omega (arith, f .size))))
 
-  pub keys-then : part (12 * m) (2 * m) w₂ ≡ keys
-  keys-then =
-      subst (λ (v : List ℕ). part (12 * m) (2 * m) v ≡ part (12 * m) (2 * m) w₁) (sym b)
-      (put-other (5 * m) (ladder 0 1 (2 * m)) w₁ (omega (arith, f .size, s₁, length-ladder 0 1 (2 * m))) (12 * m) (2 * m)
-      (inr (omega (arith, length-ladder 0 1 (2 * m)))) (omega (arith, f .size, s₁)))
-      ∙ keys-first
+  pub keys-then : keysIn m w₂ ≡ keys
+  keys-then = ladder-other (5 * m) (2 * m) 0 1 w₁ b (omega (arith, f .size, s₁)) (12 * m) (2 * m) (inr (omega arith)) (omega (arith, f .size, s₁)) ∙ keys-first
 
-  pub ids-then : part (5 * m) (2 * m) w₂ ≡ countFrom 0 (2 * m)
-  ids-then =
-      subst (λ (n : ℕ). part (5 * m) n w₂ ≡ ladder 0 1 (2 * m)) (length-ladder 0 1 (2 * m))
-      (subst (λ (v : List ℕ). part (5 * m) (length (ladder 0 1 (2 * m))) v ≡ ladder 0 1 (2 * m)) (sym b)
-      (put-part (5 * m) (ladder 0 1 (2 * m)) w₁ (omega (arith, f .size, s₁, length-ladder 0 1 (2 * m)))))
-      ∙ ladder-count 0 (2 * m)
+  pub ids-then : orderIn m w₂ ≡ countFrom 0 (2 * m)
+  ids-then = ladder-part (5 * m) (2 * m) 0 1 w₁ b (omega (arith, f .size, s₁)) ∙ ladder-count 0 (2 * m)
 
-  pub ids-low : All (λ x. x < 2 * m) (part (5 * m) (2 * m) w₂)
+  pub ids-low : All (λ x. x < 2 * m) (orderIn m w₂)
   ids-low = subst (All (λ x. x < 2 * m)) (sym ids-then) (all-count (λ x. x < 2 * m) 0 (2 * m) (λ j u v. omega arith))
 
-  pub ordered : {w₃ : List ℕ} → length w₂ ≡ length w₀ → Sorted (keyAt (part (12 * m) (2 * m) w₂)) (5 * m) (9 * m) (2 * m) w₂ w₃ → Ordered m keys w₃
+  pub ordered : {w₃ : List ℕ} → length w₂ ≡ length w₀ → Sorted (keyAt (keysIn m w₂)) (5 * m) (9 * m) (2 * m) w₂ w₃ → Ordered m keys w₃
   ordered {w₃} s₂ s = record {
     keys-are =
-        sorted-part (keyAt (part (12 * m) (2 * m) w₂)) (5 * m) (9 * m) (2 * m) w₂ w₃ s (12 * m) (2 * m) (inr (omega arith), (inr (omega arith), tt)) (omega (arith, f .size, s₂))
+        sorted-part (keyAt (keysIn m w₂)) (5 * m) (9 * m) (2 * m) w₂ w₃ s (12 * m) (2 * m) (inr (omega arith), (inr (omega arith), tt)) (omega (arith, f .size, s₂))
         ∙ keys-then;
     order-is = s .arranged ∙ ap₂ (λ (K I : List ℕ). sortBy (keyAt K) I) keys-then ids-then;
   }

@@ -13,7 +13,7 @@ use Rattle.trails.proofs.Counting.{agree-same, agree-other}
 use Rattle.trails.proofs.Hub.{spokesTo}
 use Rattle.trails.proofs.Orders.{length-weights}
 use Rattle.tours.specs.Halves.{near, unused, numbered}
-use Rattle.tours.proofs.Halves.{near-hub, near-spoke}
+use Rattle.tours.proofs.Halves.{near-hub, near-spoke, length-numbered}
 use Rattle.vertices.specs.Ladder.{ladder}
 
 -- ─── the strings ─────────────────────────────────────────────────────────────
@@ -40,11 +40,6 @@ module _ (f : ℕ → ℕ) where
   unused-few e (zero ∷ flags) = omega (arith, unused-few (suc e) flags)
   unused-few e (suc n ∷ flags) = omega (arith, unused-few (suc e) flags)
 
-  length-numbered : (e n : ℕ) → length (numbered f e n) ≡ n
-  unfolding numbered
-  length-numbered e zero = refl
-  length-numbered e (suc n) = ap suc (length-numbered (suc e) n)
-
   weights-at : (e n i : ℕ) → i < 2 * n → getD (weights (numbered f e n)) i 0 ≡ f (2 * e + i)
   unfolding numbered weights
   weights-at e zero i l = absurd (omega arith)
@@ -59,7 +54,7 @@ module _ (f : ℕ → ℕ) where
       (λ i b. let q : 2 * 0 + i ≡ i = omega arith in weights-at 0 n i (omega (arith, size)) ∙ (ap f q ∙ h i (omega (arith, size))))
     where
       size : length (weights (numbered f 0 n)) ≡ 2 * n
-      size = omega (arith, length-weights (numbered f 0 n), length-numbered 0 n)
+      size = omega (arith, length-weights (numbered f 0 n), length-numbered f 0 n)
 
 -- strings are known by all their ends
 pub weights-same : (L M : List Ends) → weights L ≡ weights M → L ≡ M

@@ -20,6 +20,26 @@ use Rattle.vertices.specs.EndWeights.{endsFrom}
 use Rattle.vertices.specs.Firsts.{firstOf, keyed}
 use Rattle.vertices.specs.Ladder.{ladder}
 
+-- ─── the regions ─────────────────────────────────────────────────────────────
+
+-- the end weights, while vertices are named
+abbrev pub keysIn : ℕ → List ℕ → List ℕ
+keysIn m w = part (12 * m) (2 * m) w
+
+-- the numbers of the ends in the order of their weights
+abbrev pub orderIn : ℕ → List ℕ → List ℕ
+orderIn m w = part (5 * m) (2 * m) w
+
+-- the vertex of each end
+abbrev pub vertsIn : ℕ → List ℕ → List ℕ
+vertsIn m w = part 0 (2 * m) w
+
+-- for each vertex, whether its spoke is used
+abbrev pub flagsIn : ℕ → List ℕ → List ℕ
+flagsIn m w = part (3 * m) (2 * m) w
+
+-- ─── the stages ──────────────────────────────────────────────────────────────
+
 -- judged ends and weights
 pub record Strung (k : ℕ) (ends ws : List ℕ) : Type 0 where
   pub ends-long : Long k ends
@@ -29,8 +49,8 @@ pub record Strung (k : ℕ) (ends ws : List ℕ) : Type 0 where
 
 -- the end weights by their numbers, and these numbers in the order of the weights
 pub record Ordered (m : ℕ) (keys w : List ℕ) : Type 0 where
-  pub keys-are : part (12 * m) (2 * m) w ≡ keys
-  pub order-is : part (5 * m) (2 * m) w ≡ sortBy (keyAt keys) (countFrom 0 (2 * m))
+  pub keys-are : keysIn m w ≡ keys
+  pub order-is : orderIn m w ≡ sortBy (keyAt keys) (countFrom 0 (2 * m))
 
 -- the order has numbers of ends only, and the weights rise in it
 pub record Rising (m : ℕ) (keys order : List ℕ) : Type 0 where
@@ -39,22 +59,22 @@ pub record Rising (m : ℕ) (keys order : List ℕ) : Type 0 where
 
 -- Each end has its vertex; nothing else differs from w.
 pub record Named (m : ℕ) (keys order w v : List ℕ) : Type 0 where
-  pub vertex : (q : ℕ) → q < 2 * m → getD (part 0 (2 * m) v) (getD order q 0) 0 ≡ firstOf (keyed keys order) q
+  pub vertex : (q : ℕ) → q < 2 * m → getD (vertsIn m v) (getD order q 0) 0 ≡ firstOf (keyed keys order) q
   pub rest : Only 0 (2 * m) w v
 
 -- The other regions are as walks want them, but that all spokes are marked as used.
 pub record Blank (m : ℕ) (w v : List ℕ) : Type 0 where
-  pub verts : part 0 (2 * m) v ≡ part 0 (2 * m) w
-  pub order : part (5 * m) (2 * m) v ≡ part (5 * m) (2 * m) w
+  pub verts : vertsIn m v ≡ vertsIn m w
+  pub order : orderIn m v ≡ orderIn m w
   pub hub : part (7 * m) (2 * m) v ≡ ladder (2 * m) 2 (2 * m)
   pub cursors : part (9 * m) (3 * m) v ≡ ladder 0 1 (3 * m)
   pub unused : part (2 * m) m v ≡ ladder 0 0 m
-  pub even : part (3 * m) (2 * m) v ≡ ladder 1 0 (2 * m)
+  pub even : flagsIn m v ≡ ladder 1 0 (2 * m)
 
 -- The spokes to vertices that are met oddly often are unused; nothing else differs from w.
 pub record Marked (m : ℕ) (w v : List ℕ) : Type 0 where
-  pub odd : (x : ℕ) → x < 2 * m → (getD (part (3 * m) (2 * m) v) x 0 + occurs x (part 0 (2 * m) w)) % 2 ≡ 1
-  pub flags : (x : ℕ) → x < 2 * m → getD (part (3 * m) (2 * m) v) x 0 ≤ 1
+  pub odd : (x : ℕ) → x < 2 * m → (getD (flagsIn m v) x 0 + occurs x (vertsIn m w)) % 2 ≡ 1
+  pub flags : (x : ℕ) → x < 2 * m → getD (flagsIn m v) x 0 ≤ 1
   pub rest : Only (3 * m) (2 * m) w v
 
 -- The table is ready for the walks, over the strings with vertices in place of weights.

@@ -6,12 +6,11 @@ ghost use lib.ListN.{length};
 ghost use Rattle.lists.specs.Choose.{choose};
 ghost use Rattle.lists.specs.Every.{All};
 ghost use Rattle.lists.specs.Fill.{put};
-ghost use Rattle.lists.specs.Regions.{part};
 ghost use Rattle.trails.specs.Strings.{weights as endsIn};
 ghost use Rattle.tours.specs.Layout.{Fits};
 ghost use Rattle.vertices.specs.EndWeights.{endsFrom};
 ghost use Rattle.vertices.specs.Ladder.{ladder};
-ghost use Rattle.vertices.specs.Promises.{Strung, Ordered, Rising, Named, Blank, Marked, LaidOut};
+ghost use Rattle.vertices.specs.Promises.{keysIn, orderIn, vertsIn, flagsIn, Strung, Ordered, Rising, Named, Blank, Marked, LaidOut};
 
 // A number as an index.
 fn wide(x: u32) -> usize
@@ -77,8 +76,8 @@ fn vertex_of(x: u32, before: u32, v: usize, q: usize) -> usize
 // Gives each end its vertex: the first place in the order with its weight.
 fn name_vertices(work: &mut [u32], m: usize)
     requires { ⌜ Fits m (now work) ⌝ }
-    requires { ⌜ Rising m (part (12 * m) (2 * m) (now work)) (part (5 * m) (2 * m) (now work)) ⌝ }
-    ensures { λ _. ⌜ Named m (part (12 * m) (2 * m) (now (work .entry))) (part (5 * m) (2 * m) (now (work .entry))) (now (work .entry)) (now (work .exit)) ⌝ }
+    requires { ⌜ Rising m (keysIn m (now work)) (orderIn m (now work)) ⌝ }
+    ensures { λ _. ⌜ Named m (keysIn m (now (work .entry))) (orderIn m (now (work .entry))) (now (work .entry)) (now (work .exit)) ⌝ }
 {
     let mut v: usize = 0;
     let mut before: u32 = 0;
@@ -107,8 +106,8 @@ fn blank(work: &mut [u32], m: usize)
 // Turns the flag of a vertex's spoke for each end at it, so that the spokes to odd vertices are unused.
 fn mark_odd(work: &mut [u32], m: usize)
     requires { ⌜ Fits m (now work) ⌝ }
-    requires { ⌜ All (λ x. x < 2 * m) (part 0 (2 * m) (now work)) ⌝ }
-    requires { ⌜ part (3 * m) (2 * m) (now work) ≡ ladder 1 0 (2 * m) ⌝ }
+    requires { ⌜ All (λ x. x < 2 * m) (vertsIn m (now work)) ⌝ }
+    requires { ⌜ flagsIn m (now work) ≡ ladder 1 0 (2 * m) ⌝ }
     ensures { λ _. ⌜ Marked m (now (work .entry)) (now (work .exit)) ⌝ }
 {
     let mut c = 0;

@@ -60,9 +60,7 @@ same-length-6 : tie.Need-same-length-6
 same-length-6 c = search needs
 
 returns-3 : tie.Need-returns-3
-returns-3 c =
-    let e = sym (c .before .before .before .before .before .before .before .before .before .judge-cover .ensures) ∙ c .before .before .before .before .before .before .before .enum-told .given .1 in
-    cover-all (cover-good _ _ _ _ _ _ e) e (c .before .before .before .cover-strings .ensures)
+returns-3 c = cover-all _ _ _ _ _ _ (sym (c .before .before .before .before .before .before .before .before .before .judge-cover .ensures) ∙ c .before .before .before .before .before .before .before .enum-told .given .1) (c .before .before .before .cover-strings .ensures)
 
 pub cover-spec : {M : Type 1} → statement M
 cover-spec =
