@@ -1,0 +1,3 @@
+-- Laws of WEIGHT over one list of records.
+pub mod Passes
+pub mod Agree
