@@ -9,4 +9,5 @@ pub mod Applying
 pub mod TurnedStrings
 pub mod Reordered
 pub mod Handles
+pub mod Stands
 pub mod Examples

@@ -6,3 +6,4 @@ pub mod Marks
 pub mod Judged
 pub mod Parts
 pub mod Weighs
+pub mod Stands
