@@ -1,0 +1,2 @@
+-- What the answers of QUICK and PLAIN have in common.
+pub mod Agreement

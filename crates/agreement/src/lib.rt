@@ -1,0 +1,1 @@
+// QUICK and PLAIN agree: a definition and laws, no code.

@@ -1,0 +1,55 @@
+-- Laws of the stretches of a judged collection: each begins at a k-mer within the letters, its minimizer is the code of p letters, and there are no more stretches
+-- than k-mers. Assumes nothing.
+use mathlib.Core.Path.{_≡_}
+use mathlib.Core.List.{List, [], _∷_}
+use Prim.Native.Nat.{ℕ, suc, _+_, _^_, _≤_, _<_}
+use native.Mathlib.Omega.{arith}
+use lib.ListN.{length, length-append}
+use Rattle.lists.specs.Count.{countFrom}
+use Rattle.lists.specs.Every.{All}
+use Rattle.lists.proofs.Count.{length-count}
+use Rattle.lists.proofs.Every.{all-append, all-map, every-all}
+use Rattle.words.specs.Letter.{isLetter}
+use Rattle.collection.specs.Judge.{firstShort, lastEnd}
+use Rattle.collection.specs.Kmers.{within, kmersFrom, kmers}
+use Rattle.collection.proofs.Judged.{long-cons, ends-room}
+use Rattle.lookups.specs.Located.{Ready}
+use Rattle.minimizers.specs.Minimizer.{minimizerAt}
+use Rattle.stretches.specs.Stretches.{ofString, stretchesFrom, stretches}
+use Rattle.cutting.proofs.Carried.{minimizer-below}
+use Rattle.cutting.proofs.Opened.{string-few, string-at}
+
+stretches-fit : (q : ℕ → ℕ) (k i h before : ℕ) (ends : List ℕ) → firstShort k i before ends ≡ 0 → All (λ s. s .at + k ≤ lastEnd before ends) (stretchesFrom q k h before ends)
+unfolding stretchesFrom lastEnd
+stretches-fit q k i h before [] e = tt
+stretches-fit q k i h before (x ∷ ends) e =
+    let a = long-cons k i before x ends e in
+    let r = ends-room k (suc i) x ends (a .1) in
+    all-append (λ s. s .at + k ≤ lastEnd x ends) (ofString q h before (within k before x)) (stretchesFrom q k (h + within k before x) x ends)
+    (string-at q (λ j. j + k ≤ lastEnd x ends) h before (within k before x) (λ j l u. omega arith))
+    (stretches-fit q k (suc i) (h + within k before x) x ends (a .1))
+
+stretches-few : (q : ℕ → ℕ) (k h before : ℕ) (ends : List ℕ) → length (stretchesFrom q k h before ends) ≤ length (kmersFrom k before ends)
+unfolding stretchesFrom kmersFrom
+stretches-few q k h before [] = omega arith
+stretches-few q k h before (e ∷ ends) =
+    let n = within k before e in
+    omega (
+      arith,
+      length-append (ofString q h before n) (stretchesFrom q k (h + n) e ends),
+      length-append (countFrom before n) (kmersFrom k e ends),
+      length-count before n,
+      string-few q h before n,
+      stretches-few q k (h + n) e ends,
+    )
+
+-- a collection has at most as many stretches as k-mers
+pub few-stretches : (q : ℕ → ℕ) (k : ℕ) (ends : List ℕ) → length (stretches q k ends) ≤ length (kmers k ends)
+few-stretches q k ends = stretches-few q k 1 0 ends
+
+-- the minimizer of each stretch is the code of p letters
+pub cut-keys-small : (k p : ℕ) (letters ends : List ℕ) → Ready k letters ends → p ≤ k
+    → All (λ s. minimizerAt k p letters (s .at) < 4 ^ p) (stretches (minimizerAt k p letters) k ends)
+cut-keys-small k p letters ends r l =
+    all-map (λ s e. minimizer-below k p letters l (every-all isLetter letters (r .all-letters)) (s .at) (omega (arith, e, r .ends-last)))
+    (stretches (minimizerAt k p letters) k ends) (stretches-fit (minimizerAt k p letters) k 0 1 0 ends (r .ends-long .long))

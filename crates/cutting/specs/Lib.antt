@@ -1,0 +1,2 @@
+-- Stretches as four tables hold them.
+pub mod Cut

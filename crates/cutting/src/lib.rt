@@ -1,0 +1,2 @@
+// The strings of a collection cut into stretches of k-mers with one minimizer.
+pub mod inner;

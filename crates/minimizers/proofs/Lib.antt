@@ -1,0 +1,4 @@
+-- Laws of minimizers, one file a topic.
+pub mod Sizes
+pub mod Sliding
+pub mod Smallest

@@ -1,0 +1,2 @@
+-- Minimizers.
+pub mod Minimizer

@@ -1,0 +1,18 @@
+-- The weight of an asked word.
+use mathlib.Core.Path.{_≡_, refl, sym, ap, _∙_}
+use mathlib.Core.List.{List, [], _∷_}
+use Prim.Native.Nat.{ℕ}
+use Rattle.runs.specs.declared.WeightAnswer.{WeightAnswer}
+use Rattle.runs.specs.Calls.{weightAnswer}
+use Rattle.collection.specs.declared.Side.{Side}
+use Rattle.questions.specs.declared.QuickAnswer.{QuickAnswer}
+use Rattle.questions.specs.declared.QuickAnswer.the-variants.{Found, Absent, Refused}
+use Rattle.questions.specs.declared.WordAnswer.{WordAnswer}
+use Rattle.questions.specs.Weighed.{weighs, unweighed, weighedOf}
+
+module _ (runWeights runFirsts : List ℕ) (n : ℕ) where
+  -- a found word weighs what its handle does
+  pub found-weighs : (a : QuickAnswer) (handle compared : ℕ) (side : Side) (r : WeightAnswer) → a ≡ Found handle side compared → r ≡ weightAnswer runWeights runFirsts n handle
+      → weighs r ≡ weighedOf a runWeights runFirsts n
+  unfolding weighedOf
+  found-weighs a handle compared side r e f = ap weighs f ∙ sym (ap (λ (x : QuickAnswer). weighedOf x runWeights runFirsts n) e)

@@ -1,0 +1,66 @@
+-- QUICK: the handle of an asked word, by its row of the index and the row of its reverse complement.
+use mathlib.Core.Bool.{Bool, _&&_}
+use mathlib.Core.List.{List, [], _∷_}
+use Prim.Native.Nat.{ℕ, suc, _^_}
+use lib.ListN.{length}
+use Rattle.lists.specs.Choose.{choose}
+use Rattle.lists.specs.Every.{same}
+use Rattle.words.specs.Word.{spell, wordAt, turn}
+use Rattle.collection.specs.declared.Side.{Side}
+use Rattle.collection.specs.declared.Side.the-variants.{Asked, Turned}
+use Rattle.collection.specs.declared.Verdict.{Verdict}
+use Rattle.collection.specs.declared.Verdict.the-variants.{Good, Bad}
+use Rattle.collection.specs.Judge.{sizeVerdict, wordVerdict}
+use Rattle.collection.specs.Verdict.{andThen, settle}
+use Rattle.minimizers.specs.Minimizer.{sizesVerdict, minimizer}
+use Rattle.stretches.specs.Stretches.{Kmer, walk}
+use Rattle.stretches.specs.Index.{Index, rowOf, tablesFit, rowFits}
+use Rattle.questions.specs.declared.Met.{Met}
+use Rattle.questions.specs.declared.Met.the-variants.{Hit, Miss}
+use Rattle.questions.specs.declared.QuickAnswer.{QuickAnswer}
+use Rattle.questions.specs.declared.QuickAnswer.the-variants.{Found, Absent, Refused}
+
+-- ─── the walk ────────────────────────────────────────────────────────────────
+
+-- the k-mer at a position is the word w
+unfoldable pub isWord : ℕ → List ℕ → List ℕ → ℕ → Bool
+isWord k letters w a = same (wordAt k letters a) w
+
+-- K-mers are compared one after the other until one meets the test; c have been compared before. It ends at that one or past the last, with the number compared.
+unfoldable pub seek : (ℕ → Bool) → ℕ → List Kmer → Met
+seek test c [] = Miss c
+seek test c (x ∷ xs) = choose (test (x .at)) (Hit (x .handle) (suc c)) (seek test (suc c) xs)
+
+-- a walk that met its word answers; one that did not hands on how many k-mers it compared
+unfoldable pub metOr : Side → Met → (ℕ → QuickAnswer) → QuickAnswer
+metOr side (Hit handle compared) next = Found handle side compared
+metOr side (Miss compared) next = next compared
+
+-- The row of the word's minimizer is walked for the word, then the row of its reverse complement's for the turned word, also where the two are one. `z` gives a word
+-- its minimizer.
+unfoldable pub quickFound : (List ℕ → ℕ) → ℕ → List ℕ → Index → List ℕ → QuickAnswer
+quickFound z k letters index w =
+    metOr Asked (seek (isWord k letters w) 0 (walk (rowOf index (z w))))
+    (λ c. metOr Turned (seek (isWord k letters (turn w)) c (walk (rowOf index (z (turn w))))) Absent)
+
+-- ─── the refusals ────────────────────────────────────────────────────────────
+
+-- 10: the tables fit and both rows do, each judged in full; minimizers are below d
+unfoldable pub rowsVerdict : ℕ → ℕ → ℕ → Index → ℕ → ℕ → Verdict
+rowsVerdict d k N index row other = choose (tablesFit d index && (rowFits k N index row && rowFits k N index other)) Good (Bad 10 0)
+
+-- the rows are those of the word and of its reverse complement
+abbrev pub indexVerdict : (List ℕ → ℕ) → ℕ → ℕ → ℕ → Index → List ℕ → Verdict
+indexVerdict z d k N index w = rowsVerdict d k N index (z w) (z (turn w))
+
+-- 2, 3, 9; of 3 the letters alone
+unfoldable pub askVerdict : ℕ → ℕ → List ℕ → ℕ → Verdict
+askVerdict k p word N = andThen (sizesVerdict k p) (andThen (sizeVerdict N 0) (wordVerdict k word))
+
+-- 2, 3, 9, then 10
+unfoldable pub quickVerdict : ℕ → ℕ → List ℕ → List ℕ → Index → Verdict
+quickVerdict k p word letters index = andThen (askVerdict k p word (length letters)) (indexVerdict (minimizer p) (4 ^ p) k (length letters) index (spell word))
+
+-- what QUICK answers
+unfoldable pub quickOf : ℕ → ℕ → List ℕ → List ℕ → Index → QuickAnswer
+quickOf k p word letters index = settle (quickVerdict k p word letters index) Refused (quickFound (minimizer p) k letters index (spell word))

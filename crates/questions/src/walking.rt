@@ -1,0 +1,92 @@
+// The walk of a row, with a code that rolls along each stretch: one step a k-mer, whatever k is.
+use crate::Met;
+ghost use mathlib.Core.Bool.{true};
+ghost use mathlib.Core.List.{map};
+ghost use mathlib.Core.Path.{_≡_};
+ghost use Prim.Native.Nat.{ℕ, _+_, _^_, _≤_, _<_};
+ghost use lib.ListN.{length, take, drop};
+ghost use Rattle.words.specs.Letter.{twoBits};
+ghost use Rattle.words.specs.Word.{code};
+ghost use Rattle.words.specs.Turned.{spelled};
+ghost use Rattle.stretches.specs.Stretches.{stretch, kmersOf, walk};
+ghost use Rattle.stretches.specs.Index.{tables, rowOf};
+ghost use Rattle.questions.specs.Quick.{isWord, seek};
+ghost use Rattle.questions.specs.Judged.{Row};
+
+// Whether the k bytes from position a on, of code c, are the word of code w. Bytes that are no letters have codes too, so that equal codes need a second look; few
+// k-mers come so far.
+fn is_word(k: usize, letters: &[u8], a: usize, c: u64, w: u64) -> bool
+    requires { ⌜ (w < 4 ^ k) × (a + k ≤ length (now letters)) × (length (now letters) ≤ 1048576) × (k ≤ 31) ⌝ }
+    requires { ⌜ c ≡ code (map twoBits (take k (drop a (now letters)))) ⌝ }
+    ensures { λ r. ⌜ r ≡ isWord k (now (letters .entry)) (spelled k w) a ⌝ }
+{
+    if c != w {
+        return false;
+    }
+    words::all_letters(&letters[a..a + k])
+}
+
+// Compares the k-mers of one stretch with the word of code w, `compared` k-mers having been compared before.
+fn walk_stretch(
+    k: usize,
+    letters: &[u8],
+    w: u64,
+    first: usize,
+    at: usize,
+    number: usize,
+    compared: u64,
+) -> Met
+    requires { ⌜ (1 ≤ k) × (k ≤ 31) × (w < 4 ^ k) × (length (now letters) ≤ 1048576) ⌝ }
+    requires { ⌜ (at + number + k ≤ length (now letters) + 1) × (first ≤ 1048576) × (compared ≤ 2 ^ 42) ⌝ }
+    ensures { λ r. ⌜ r ≡ seek (isWord k (now (letters .entry)) (spelled k w)) compared (kmersOf (stretch first at number)) ⌝ }
+{
+    let before = at + (k - 1);
+    let mut c = words::inner::word_code(&letters[at..before]);
+    let mut i = 0;
+    while i < number {
+        c = words::inner::roll(k, c, words::letter_code(letters[before + i]));
+        if is_word(k, letters, at + i, c, w) {
+            return Met::Hit {
+                handle: first + i,
+                compared: compared + i as u64 + 1,
+            };
+        }
+        i += 1;
+    }
+    Met::Miss {
+        compared: compared + number as u64,
+    }
+}
+
+// Compares the k-mers of the row of minimizer v with the word of code w, `compared` k-mers having been compared before.
+pub(crate) fn walk_row(
+    k: usize,
+    letters: &[u8],
+    w: u64,
+    firsts: &[u32],
+    positions: &[u32],
+    numbers: &[u32],
+    before: &[u32],
+    v: usize,
+    compared: u64,
+) -> Met
+    requires { ⌜ (1 ≤ k) × (k ≤ 31) × (w < 4 ^ k) × (length (now letters) ≤ 1048576) × (compared ≤ 2 ^ 41) ⌝ }
+    requires { ⌜ Row k (length (now letters)) (tables (now firsts) (now positions) (now numbers) (now before)) v ⌝ }
+    ensures { λ r. ⌜ r ≡ seek (isWord k (now (letters .entry)) (spelled k w)) compared (walk (rowOf (tables (now (firsts .entry)) (now (positions .entry)) (now (numbers .entry)) (now (before .entry))) v)) ⌝ }
+{
+    let end = before[v + 1] as usize;
+    let mut count = compared;
+    let mut i = before[v] as usize;
+    while i < end {
+        let first = firsts[i] as usize;
+        let at = positions[i] as usize;
+        let number = numbers[i] as usize;
+        i += 1;
+        let met = walk_stretch(k, letters, w, first, at, number, count);
+        let Met::Miss { compared } = met else {
+            return met;
+        };
+        count = compared;
+    }
+    Met::Miss { compared: count }
+}
