@@ -1,5 +1,5 @@
 // CHECK: a collection is judged, and no word in it may repeat, turned or not.
-mod finding;
+pub mod inner; // the search for a repeated word, for callers that have judged their collection
 
 use collection::Verdict;
 ghost use mathlib.Core.Path.{_≡_};
@@ -53,7 +53,7 @@ pub fn check(
         return CheckAnswer::Refused { number, place };
     }
     let n = weights.len();
-    let repeat = finding::first_repeat(k, letters, ends, n, work);
+    let repeat = inner::first_repeat(k, letters, ends, n, work);
     collection::inner::zero_first(work, 4 * n);
     answer(repeat, n)
 }

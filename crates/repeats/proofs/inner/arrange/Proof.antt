@@ -11,8 +11,8 @@ use Rattle.lists.proofs.Count.{length-count}
 use Rattle.lists.proofs.Regions.{part-lent, part-length, lent-part, lent-only}
 use Rattle.repeats.proofs.Arranged.{few-kmers, laid, numbers-inside, arranged}
 use borrow.Author.Needs.{needs}
-use Rattle.repeats.proofs.finding.arrange.Statement.{statement}
-use Rattle.repeats.proofs.finding.arrange.Tie as tie
+use Rattle.repeats.proofs.inner.arrange.Statement.{statement}
+use Rattle.repeats.proofs.inner.arrange.Tie as tie
 
 -- the table after the codes and the numbers are written
 abbrev table : tie.After-number-ids → List ℕ

@@ -1,27 +1,14 @@
 // The first repeated word, by sorting: words that are equal, turned or not, have one canonical code and come to stand side by side.
 ghost use mathlib.Core.Path.{_≡_};
-ghost use Prim.Native.Nat.{ℕ, _+_, _*_, _^_, _≤_, _<_};
+ghost use Prim.Native.Nat.{ℕ, _+_, _*_, _≤_, _<_};
 ghost use lib.Dec.{eqb};
 ghost use lib.ListN.{length};
-ghost use Rattle.lists.specs.Count.{countFrom};
 ghost use Rattle.lists.specs.Regions.{Only};
 ghost use Rattle.collection.specs.Kmers.{kmers};
 ghost use Rattle.lookups.specs.Located.{Ready};
 ghost use Rattle.repeats.specs.Check.{firstRepeat};
 ghost use Rattle.canonical.specs.Codes.{heldAt};
 ghost use Rattle.repeats.specs.Order.{idAt, Least, Ordered};
-
-// Numbers the k-mers from 0.
-fn number_ids(ids: &mut [u32])
-    requires { ⌜ length (now ids) < 2 ^ 32 ⌝ }
-    ensures { λ _. ⌜ now (ids .exit) ≡ countFrom 0 (length (now (ids .entry))) ⌝ }
-{
-    let mut i = 0;
-    while i < ids.len() {
-        ids[i] = i as u32;
-        i += 1;
-    }
-}
 
 // Whether k-mers x and y have one code. Lower halves mostly differ, and then the upper ones, which lie elsewhere, are not read.
 fn same_code(work: &[u32], n: usize, x: usize, y: usize) -> bool
@@ -63,18 +50,12 @@ fn arrange(k: usize, letters: &[u8], ends: &[u32], n: usize, work: &mut [u32])
     canonical::inner::code_all(k, letters, ends, n, work);
     let ids = n + n;
     let buf = ids + n;
-    number_ids(&mut work[ids..buf]);
+    sorting::inner::number_ids(&mut work[ids..buf]);
     sorting::inner::sort_by_code(work, 0, n, ids, buf, n);
 }
 
 // The lowest handle whose word or its reverse complement stands earlier; 0 where there is none.
-pub(crate) fn first_repeat(
-    k: usize,
-    letters: &[u8],
-    ends: &[u32],
-    n: usize,
-    work: &mut [u32],
-) -> usize
+pub fn first_repeat(k: usize, letters: &[u8], ends: &[u32], n: usize, work: &mut [u32]) -> usize
     requires { ⌜ Ready k (now letters) (now ends) ⌝ }
     requires { ⌜ (n ≡ length (kmers k (now ends))) × (4 * n ≤ length (now work)) ⌝ }
     ensures { λ r. ⌜ (r ≡ firstRepeat k (now (letters .entry)) (now (ends .entry))) × Only 0 (4 * n) (now (work .entry)) (now (work .exit)) ⌝ }

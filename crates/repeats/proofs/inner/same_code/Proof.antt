@@ -2,8 +2,8 @@
 use Prim.Native.Nat.{_+_}
 use Rattle.canonical.proofs.Coded.{lower-differs, upper-decides}
 use borrow.Author.Needs.{needs}
-use Rattle.repeats.proofs.finding.same_code.Statement.{statement}
-use Rattle.repeats.proofs.finding.same_code.Tie as tie
+use Rattle.repeats.proofs.inner.same_code.Statement.{statement}
+use Rattle.repeats.proofs.inner.same_code.Tie as tie
 
 add-if1 : tie.Need-add-if1
 add-if1 c = search needs

@@ -9,8 +9,8 @@ use Rattle.canonical.specs.Codes.{heldAt}
 use Rattle.repeats.specs.Order.{idAt, Least}
 use Rattle.repeats.proofs.Neighbours.{least-begin, least-take, least-keep, least-end}
 use borrow.Author.Needs.{needs}
-use Rattle.repeats.proofs.finding.least_second.Statement.{statement}
-use Rattle.repeats.proofs.finding.least_second.Tie as tie
+use Rattle.repeats.proofs.inner.least_second.Statement.{statement}
+use Rattle.repeats.proofs.inner.least_second.Tie as tie
 
 abbrev Inv-loop : tie.InvT-loop
 Inv-loop work n ids least₀ i₀ least i = (1 ≤ i) × Least (heldAt n work) (idAt n work) n i least

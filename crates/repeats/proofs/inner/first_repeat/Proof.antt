@@ -3,8 +3,8 @@ use mathlib.Core.Path.{sym}
 use native.Mathlib.Omega.{arith}
 use Rattle.repeats.proofs.Repeats.{repeat-none, repeat-inside, repeat-found}
 use borrow.Author.Needs.{needs}
-use Rattle.repeats.proofs.finding.first_repeat.Statement.{statement}
-use Rattle.repeats.proofs.finding.first_repeat.Tie as tie
+use Rattle.repeats.proofs.inner.first_repeat.Statement.{statement}
+use Rattle.repeats.proofs.inner.first_repeat.Tie as tie
 
 arrange-requires : tie.Need-arrange-requires
 arrange-requires c κs = search needs

@@ -1,0 +1,3 @@
+-- Laws of keys in order, and of tables in that order.
+pub mod Gathered
+pub mod Ordered

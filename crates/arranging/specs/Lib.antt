@@ -1,0 +1,2 @@
+-- Keys in order.
+pub mod Arranging

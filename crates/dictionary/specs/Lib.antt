@@ -1,0 +1,4 @@
+-- The demands on the whole library, as types that the proofs inhabit.
+pub mod Determined
+pub mod Dictionary
+pub mod Journey

@@ -1,0 +1,92 @@
+-- `foresee` meets its contract: sizes, collection and rooms, one judgement after the other. Assumes nothing.
+use mathlib.Core.Path.{_≡_, sym, ap, _∙_}
+use Prim.Native.Nat.{ℕ, _+_, _^_, _≤_}
+use native.Mathlib.Nat.{pow-le-pow-right}
+use lib.Dec.{lit<}
+use native.Mathlib.Omega.{arith}
+use Rattle.collection.specs.declared.Verdict.the-variants.{Good}
+use Rattle.collection.specs.Judge.{Passes}
+use Rattle.collection.proofs.Judged.{collection-good}
+use Rattle.lookups.proofs.Asked.{judged-ready}
+use Rattle.minimizers.specs.Minimizer.{sizesVerdict}
+use Rattle.minimizers.proofs.Sizes.{sizes-good}
+use Rattle.index.proofs.Indexed.{sizes-refused, collection-refused, room-enough, room-refused}
+use borrow.Author.Needs.{needs}
+use Rattle.index.proofs.foresee.Statement.{statement}
+use Rattle.index.proofs.foresee.Tie as tie
+
+-- k and p are in their ranges, and the collection passes
+sizes : (c : tie.After-enum-told) → sizesVerdict (c .before .before .before .before .before .before .args .k) (c .before .before .before .before .before .before .args .p) ≡ Good
+sizes c = sym (c .before .before .judge-sizes .ensures) ∙ c .enum-told .given .1
+
+passes : (c : tie.After-enum-told2) → let a = c .before .before .before .before .before .before .before .before .before .args in Passes (a .k) (a .letters .now) (a .ends .now) (a .weights .now)
+passes c = sym (c .before .before .judge-collection .ensures) ∙ c .enum-told2 .given .1
+
+judge-sizes-requires : tie.Need-judge-sizes-requires
+judge-sizes-requires c κs = search needs
+
+enum-known-a : tie.Need-enum-known-a
+enum-known-a c = search needs
+
+returns : tie.Need-returns
+returns c = λ t s. sizes-refused _ _ _ _ _ (sym (c .before .before .before .judge-sizes .ensures) ∙ c .before .a .given .1) t
+
+enum-told : tie.Need-enum-told
+enum-told c = search needs
+
+judge-collection-requires : tie.Need-judge-collection-requires
+judge-collection-requires c κs = search needs
+
+enum-known-b : tie.Need-enum-known-b
+enum-known-b c = search needs
+
+returns-2 : tie.Need-returns-2
+returns-2 c = λ t s. collection-refused _ _ _ _ _ (sizes (c .before .before .before .before)) (sym (c .before .before .before .judge-collection .ensures) ∙ c .before .b .given .1) t
+
+enum-told-2 : tie.Need-enum-told-2
+enum-told-2 c = search needs
+
+count-all-requires : tie.Need-count-all-requires
+count-all-requires c κs = let s = sizes-good _ _ (sizes (c .before .before .before)) in (judged-ready (collection-good _ _ _ _ (passes c)), (s .p-low, s .p-high, s .p-fits))
+
+word-count-requires : tie.Need-word-count-requires
+word-count-requires c κs = sizes-good _ _ (sizes (c .before .before .before .before)) .p-high
+
+add-starts : tie.Need-add-starts
+add-starts c =
+    let l : 4 ^ c .before .before .before .before .before .before .before .before .before .before .before .args .p ≤ 4 ^ 8 = pow-le-pow-right (lit< tt) (sizes-good _ _ (sizes (c .before .before .before .before .before)) .p-high) in
+    omega (arith, c .word-count .ensures)
+
+mul-if1 : tie.Need-mul-if1
+mul-if1 c = search needs
+
+returns-3 : tie.Need-returns-3
+returns-3 c =
+    let a = c .before .before .before .before .before .before .before .before .before .before .before .before .args in
+    room-enough (a .k) (a .p) (a .letters .now) (a .ends .now) (a .weights .now) (sizes (c .before .before .before .before .before .before)) (passes (c .before .before .before)) (c .before .before .count-all .ensures) (ap (λ (d : ℕ). d + 1) (c .before .word-count .ensures))
+    (a .firsts) (a .positions) (a .numbers) (a .before) (a .work) (c .if1 .taken)
+
+returns-4 : tie.Need-returns-4
+returns-4 c =
+    let a = c .before .before .before .before .before .before .before .before .before .before .before .before .args in
+    room-refused (a .k) (a .p) (a .letters .now) (a .ends .now) (a .weights .now) (sizes (c .before .before .before .before .before .before)) (passes (c .before .before .before)) (c .before .before .count-all .ensures) (ap (λ (d : ℕ). d + 1) (c .before .word-count .ensures))
+    (a .firsts) (a .positions) (a .numbers) (a .before) (a .work) (c .if1 .left)
+
+pub foresee-spec : {M : Type 1} → statement M
+foresee-spec =
+    tie.close
+    (tie.spec
+    judge-sizes-requires
+    enum-known-a
+    returns
+    enum-told
+    judge-collection-requires
+    enum-known-b
+    returns-2
+    enum-told-2
+    count-all-requires
+    word-count-requires
+    add-starts
+    mul-if1
+    returns-3
+    returns-4)

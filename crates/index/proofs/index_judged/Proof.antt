@@ -1,0 +1,85 @@
+-- `index_judged` meets its contract: a repeated word is refused, else the index is made; work is zeroed (proofs/Indexed). Assumes nothing.
+use mathlib.Core.Path.{ap}
+use Prim.Native.Nat.{ℕ, _+_}
+use native.Mathlib.Omega.{arith}
+use Rattle.repeats.proofs.Arranged.{few-kmers}
+use Rattle.index.specs.Indexing.{Lent, lent}
+use Rattle.index.proofs.Indexed.{repeat-refused, judged-still, index-made, work-still}
+use borrow.Author.Needs.{needs}
+use Rattle.index.proofs.index_judged.Statement.{statement}
+use Rattle.index.proofs.index_judged.Tie as tie
+
+-- the five tables at the start
+abbrev tables : tie.Start → Lent
+tables s = lent (s .args .firsts .now) (s .args .positions .now) (s .args .numbers .now) (s .args .before .now) (s .args .work .now)
+
+first-repeat-requires : tie.Need-first-repeat-requires
+first-repeat-requires c κs = search needs
+
+mul-zero-first : tie.Need-mul-zero-first
+mul-zero-first c = search needs
+
+zero-first-requires : tie.Need-zero-first-requires
+zero-first-requires c κs = search needs
+
+same-length : tie.Need-same-length
+same-length c = search needs
+
+returns : tie.Need-returns
+returns c = let s = c .before .before .before .before .before .before .before .before .before .before .before .before .before .before .before .before in repeat-refused (tables s) (s .pre) (c .before .before .before .before .before .before .before .first-repeat .ensures) (c .before .before .before .before .if1 .taken) (c .before .before .zero-first .ensures)
+
+arrange-requires : tie.Need-arrange-requires
+arrange-requires c κs = let s = c .before .before .before .before .before .before .before .before .before .before .before .before .before .before .before .before .before in judged-still (tables s) (s .pre) (c .before .before .before .before .before .before .before .before .first-repeat .ensures)
+
+mul-zero-first-2 : tie.Need-mul-zero-first-2
+mul-zero-first-2 c = let s = c .before .before .before .before .before .before .before .before .before .before .before .before .before .before .before .before .before .before .before .before .before .before .before .before .before .before .before .before .before in omega (arith, s .pre .each, few-kmers (s .pre .ready))
+
+zero-first-requires-2 : tie.Need-zero-first-requires-2
+zero-first-requires-2 c κs = let s = c .before .before .before .before .before .before .before .before .before .before .before .before .before .before .before .before .before .before .before .before .before .before .before .before .before .before .before .before .before in work-still (tables s) (s .pre) (c .before .before .before .before .before .before .before .before .before .before .before .before .before .before .before .before .before .before .before .before .first-repeat .ensures) (c .before .before .before .before .before .before .before .before .before .before .before .arrange .ensures)
+
+word-count-requires : tie.Need-word-count-requires
+word-count-requires c κs = c .before .before .before .before .before .before .before .before .before .before .before .before .before .before .before .before .before .before .before .before .before .before .before .before .before .before .before .before .before .before .before .before .pre .p-high
+
+add-starts : tie.Need-add-starts
+add-starts c = let s = c .before .before .before .before .before .before .before .before .before .before .before .before .before .before .before .before .before .before .before .before .before .before .before .before .before .before .before .before .before .before .before .before .before in omega (arith, s .pre .before-room, c .word-count .ensures)
+
+same-length-2 : tie.Need-same-length-2
+same-length-2 c = search needs
+
+same-length-3 : tie.Need-same-length-3
+same-length-3 c = search needs
+
+same-length-4 : tie.Need-same-length-4
+same-length-4 c = search needs
+
+same-length-5 : tie.Need-same-length-5
+same-length-5 c = search needs
+
+same-length-6 : tie.Need-same-length-6
+same-length-6 c = search needs
+
+returns-2 : tie.Need-returns-2
+returns-2 c =
+    let s = c .before .before .before .before .before .before .before .before .before .before .before .before .before .before .before .before .before .before .before .before .before .before .before .before .before .before .before .before .before .before .before .before .before in
+    index-made (tables s) (s .pre) (c .before .before .before .before .before .before .before .before .before .before .before .before .before .before .before .before .before .before .before .before .before .before .before .before .first-repeat .ensures) (c .before .before .before .before .before .before .before .before .before .before .before .before .before .before .before .arrange .ensures) (c .before .before .before .before .before .before .before .before .before .before .before .before .before .before .before .before .before .before .before .before .before .if1 .left) (c .before .before .before .zero-first2 .ensures) (ap (λ (d : ℕ). d + 1) (c .word-count .ensures))
+
+pub index-judged-spec : {M : Type 1} → statement M
+index-judged-spec =
+    tie.close
+    (tie.spec
+    first-repeat-requires
+    mul-zero-first
+    zero-first-requires
+    same-length
+    returns
+    arrange-requires
+    mul-zero-first-2
+    zero-first-requires-2
+    word-count-requires
+    add-starts
+    same-length-2
+    same-length-3
+    same-length-4
+    same-length-5
+    same-length-6
+    returns-2)

@@ -1,0 +1,55 @@
+-- INDEX after 2 to 6 and 1: what these leave to do, and what it comes to.
+use mathlib.Core.Path.{_≡_}
+use mathlib.Core.List.{List}
+use Prim.Native.Nat.{ℕ, _+_, _*_, _^_, _≤_}
+use lib.ListN.{length}
+use Rattle.lists.specs.Fill.{fill}
+use Rattle.lists.specs.Regions.{Only}
+use Rattle.collection.specs.Kmers.{kmers}
+use Rattle.collection.specs.Verdict.{atPlace, settle}
+use Rattle.lookups.specs.Located.{Ready}
+use Rattle.repeats.specs.Check.{firstRepeat}
+use Rattle.stretches.specs.Index.{Index}
+use Rattle.index.specs.declared.IndexAnswer.{IndexAnswer}
+use Rattle.index.specs.declared.IndexAnswer.the-variants.{Indexed, Refused}
+use Rattle.index.specs.Indexing.{Lent, stretchCount, indexVerdict, Outcome, outcome, untouched, holding, indexWith}
+
+-- five tables of these sizes
+pub record Sized (t : Lent) (firsts positions numbers before work : ℕ) : Type 0 where
+  pub firsts-size : length (t .firsts) ≡ firsts
+  pub positions-size : length (t .positions) ≡ positions
+  pub numbers-size : length (t .numbers) ≡ numbers
+  pub before-size : length (t .before) ≡ before
+  pub work-size : length (t .work) ≡ work
+
+-- the answer where no word repeats
+unfoldable pub foreseen : ℕ → ℕ → List ℕ → List ℕ → List ℕ → Lent → IndexAnswer
+foreseen k p letters ends weights t = settle (indexVerdict k p letters ends weights t) Refused (Indexed (stretchCount k p letters ends) (4 ^ p + 1))
+
+-- what 2 to 6 and 1 leave: n k-mers in m stretches, and room for them
+pub record Judged (k p : ℕ) (letters ends : List ℕ) (n m : ℕ) (t : Lent) : Type 0 where
+  pub ready : Ready k letters ends
+  pub p-low : 1 ≤ p
+  pub p-high : p ≤ 8
+  pub p-fits : p ≤ k
+  pub each : n ≡ length (kmers k ends)
+  pub counted : m ≡ stretchCount k p letters ends
+  pub firsts-room : m ≤ length (t .firsts)
+  pub positions-room : m ≤ length (t .positions)
+  pub numbers-room : m ≤ length (t .numbers)
+  pub before-room : 4 ^ p + 1 ≤ length (t .before)
+  pub work-room : 4 * n ≤ length (t .work)
+
+-- the tables t hold the index in their first entries; of work nothing but the first 4n entries is written
+pub record Held (index : Index) (n : ℕ) (t t' : Lent) : Type 0 where
+  pub firsts-held : t' .firsts ≡ fill (index .firsts) (t .firsts)
+  pub positions-held : t' .positions ≡ fill (index .positions) (t .positions)
+  pub numbers-held : t' .numbers ≡ fill (index .numbers) (t .numbers)
+  pub before-held : t' .before ≡ fill (index .before) (t .before)
+  pub rest : Only 0 (4 * n) (t .work) (t' .work)
+
+-- 7, or the index of n k-mers
+unfoldable pub judgedOf : ℕ → ℕ → List ℕ → List ℕ → ℕ → Lent → Outcome
+judgedOf k p letters ends n t =
+    settle (atPlace 7 (firstRepeat k letters ends)) (λ number place. outcome (Refused number place) (untouched n t))
+    (outcome (Indexed (stretchCount k p letters ends) (4 ^ p + 1)) (holding (indexWith k p letters ends) n t))
