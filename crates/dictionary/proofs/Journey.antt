@@ -72,7 +72,7 @@ use Rattle.dictionary.proofs.Dictionary.{answers, many, found-stands, f
 use Rattle.dictionary.proofs.OnceEach.{reordered-distinct}
 
 -- a call that answers as one that is done was not refused
-done-by : {Out Answer : Type 0} (answer : Out → Answer) (v : Verdict) (refuse : ℕ → ℕ → Out) (done : Out) (r : Answer) → ((number place : ℕ) → answer (refuse number place) ≡ r → ⊥)
+pub done-by : {Out Answer : Type 0} (answer : Out → Answer) (v : Verdict) (refuse : ℕ → ℕ → Out) (done : Out) (r : Answer) → ((number place : ℕ) → answer (refuse number place) ≡ r → ⊥)
     → answer (settle v refuse done) ≡ r → (v ≡ Good) × (settle v refuse done ≡ done) × (answer done ≡ r)
 unfolding settle
 done-by answer Good refuse done r not e = (refl, refl, e)

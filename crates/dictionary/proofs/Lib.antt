@@ -3,3 +3,5 @@ pub mod OnceEach
 pub mod Determined
 pub mod Dictionary
 pub mod Journey
+pub mod Starred
+pub mod Demands

@@ -2,3 +2,5 @@
 pub mod Determined
 pub mod Dictionary
 pub mod Journey
+pub mod Starred
+pub mod Demands

@@ -1,0 +1,110 @@
+-- The starred examples hold, by computing. Assumes nothing.
+use mathlib.Core.Path.{_≡_, refl, ap}
+use mathlib.Core.List.{List, [], _∷_}
+use Prim.Native.Nat.{ℕ}
+use Rattle.lists.specs.Count.{countFrom, sum}
+use Rattle.lists.specs.Every.{every, same}
+use Rattle.lists.specs.First.{firstFrom}
+use Rattle.lists.specs.Pick.{pick, upTo}
+use Rattle.words.specs.Letter.{letter, isLetter, capital}
+use Rattle.words.specs.Word.{codeFrom, turn}
+use Rattle.collection.specs.Judge.{kVerdict, sizeVerdict, firstShort, lastEnd, endsVerdict, shapeVerdict, lettersVerdict, weightsVerdict, collectionVerdict, wordVerdict, handleVerdict}
+use Rattle.collection.specs.Kmers.{kmersFrom}
+use Rattle.collection.specs.Strings.{stringsFrom, lettersIn, endsIn, weightsIn}
+use Rattle.collection.specs.Verdict.{andThen, atPlace, settle}
+use Rattle.sheet_text.specs.Numbers.{valueFrom}
+use Rattle.sheet_text.specs.Parts.{upTo as partUpTo, later}
+use Rattle.sheet_text.specs.Sheet.{sheetK, sheetStrings, stringsOf}
+use Rattle.trails.specs.Counting.{agree}
+use Rattle.trails.specs.Groups.{least}
+use Rattle.trails.specs.Places.{standing, arrangedTo}
+use Rattle.vertices.specs.EndWeights.{endWeights}
+use Rattle.placing.specs.Places.{badPlace, firstBad, placesVerdict}
+use Rattle.placing.specs.Turned.{turnLetters}
+use Rattle.runs.specs.Runs.{laterRuns, runs, innerRuns}
+use Rattle.runs.specs.RunList.{allFollow, isRunList, runListVerdict, lastAt}
+use Rattle.runs.specs.Calls.{weightAnswer}
+use Rattle.minimizers.specs.Minimizer.{sizesVerdict, smallest, minimizer}
+use Rattle.stretches.specs.Stretches.{numbered, walk, openFrom, ofString, stretchesFrom}
+use Rattle.index.specs.Indexing.{indexWith}
+use Rattle.placing.specs.Apply.{reordered}
+use Rattle.collection.specs.declared.Side.the-variants.{Turned}
+use Rattle.collection.specs.declared.Verdict.the-variants.{Good, Bad}
+use Rattle.questions.specs.declared.QuickAnswer.{QuickAnswer}
+use Rattle.questions.specs.declared.QuickAnswer.the-variants.{Found, Absent}
+use Rattle.questions.specs.declared.WordAnswer.the-variants.{Weighs}
+use Rattle.runs.specs.Runs.{runWeights, runFirsts}
+use Rattle.stretches.specs.Index.{Index, built, entries, rowOf, stretchFits, rowFits, tablesFit}
+use Rattle.questions.specs.Quick.{isWord, seek, metOr, quickFound, rowsVerdict, askVerdict, quickVerdict, quickOf}
+use Rattle.questions.specs.Weighed.{weighs, weighedOf}
+use Rattle.dictionary.specs.Starred.{Starred, sheet, letters, ends, weights, places, letters', ends', weights', asked, weighed}
+
+-- ─── the sheet and the reordered collection ──────────────────────────────────
+
+read : (sheetK sheet ≡ 3) × (lettersIn (sheetStrings sheet) ≡ letters) × (endsIn 0 (sheetStrings sheet) ≡ ends) × (weightsIn (sheetStrings sheet) ≡ weights)
+unfolding partUpTo later stringsOf valueFrom lettersIn endsIn weightsIn
+read = (refl, refl, refl, refl)
+
+new-letters : lettersIn (reordered 3 letters ends weights places) ≡ letters'
+unfolding lettersIn stringsFrom standing arrangedTo turnLetters turn capital letter
+new-letters = refl
+
+new-ends : endsIn 0 (reordered 3 letters ends weights places) ≡ ends'
+unfolding endsIn stringsFrom standing arrangedTo turnLetters turn
+new-ends = refl
+
+new-weights : weightsIn (reordered 3 letters ends weights places) ≡ weights'
+unfolding weightsIn stringsFrom standing arrangedTo turnLetters turn
+new-weights = refl
+
+-- ─── questions ───────────────────────────────────────────────────────────────
+
+cag-found : asked (67 ∷ (65 ∷ (71 ∷ []))) ≡ Found 8 Turned 3
+unfolding quickOf quickVerdict askVerdict sizesVerdict kVerdict sizeVerdict wordVerdict rowsVerdict tablesFit rowFits stretchFits rowOf entries built upTo pick countFrom stretchesFrom ofString openFrom minimizer smallest codeFrom letter isLetter every same turn quickFound metOr seek isWord walk numbered andThen settle
+cag-found = refl
+
+ttt-found : asked (84 ∷ (84 ∷ (84 ∷ []))) ≡ Found 1 Turned 1
+unfolding quickOf quickVerdict askVerdict sizesVerdict kVerdict sizeVerdict wordVerdict rowsVerdict tablesFit rowFits stretchFits rowOf entries built upTo pick countFrom stretchesFrom ofString openFrom minimizer smallest codeFrom letter isLetter every same turn quickFound metOr seek isWord walk numbered andThen settle
+ttt-found = refl
+
+ccc-absent : asked (67 ∷ (67 ∷ (67 ∷ []))) ≡ Absent 0
+unfolding quickOf quickVerdict askVerdict sizesVerdict kVerdict sizeVerdict wordVerdict rowsVerdict tablesFit rowFits stretchFits rowOf entries built upTo pick countFrom stretchesFrom ofString openFrom minimizer smallest codeFrom letter isLetter every same turn quickFound metOr seek isWord walk numbered andThen settle
+ccc-absent = refl
+
+cag-weighs : weighed (67 ∷ (65 ∷ (71 ∷ []))) ≡ Weighs 7
+unfolding weighedOf weighs weightAnswer runListVerdict isRunList allFollow lastAt runs laterRuns andThen settle handleVerdict
+cag-weighs = ap (λ (a : QuickAnswer). weighedOf a (runWeights weights') (runFirsts weights') 10) cag-found
+
+-- ─── verdicts ────────────────────────────────────────────────────────────────
+
+heavy-passes : collectionVerdict 3 (65 ∷ (67 ∷ (71 ∷ []))) (3 ∷ []) (16777215 ∷ []) ≡ Good
+unfolding collectionVerdict shapeVerdict kVerdict sizeVerdict endsVerdict firstShort lastEnd lettersVerdict weightsVerdict firstFrom isLetter letter andThen atPlace
+heavy-passes = refl
+
+heavier-refused : collectionVerdict 3 (65 ∷ (67 ∷ (71 ∷ []))) (3 ∷ []) (16777216 ∷ []) ≡ Bad 6 1
+unfolding collectionVerdict shapeVerdict kVerdict sizeVerdict endsVerdict firstShort lastEnd lettersVerdict weightsVerdict firstFrom isLetter letter andThen atPlace
+heavier-refused = refl
+
+-- ─── the list ────────────────────────────────────────────────────────────────
+
+pub starred : Starred
+unfolding least agree endWeights stringsFrom innerRuns runs laterRuns sum openFrom ofString minimizer smallest codeFrom letter kVerdict placesVerdict firstBad badPlace atPlace
+starred =
+    record {
+      sheet-read = read;
+      least-five = refl;
+      applied = (new-letters, new-ends, new-weights);
+      runs-listed = refl;
+      cag = (cag-found, cag-weighs);
+      ttt = (1, ttt-found);
+      ccc = (0, ccc-absent);
+      ggctg = (refl, refl, refl);
+      without = (refl, refl);
+      one-path = refl;
+      two-paths = refl;
+      no-strings = (refl, refl);
+      heavy = heavy-passes;
+      too-heavy = heavier-refused;
+      longest = refl;
+      place-used = refl;
+    }
