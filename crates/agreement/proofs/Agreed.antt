@@ -31,7 +31,8 @@ use Rattle.lookups.specs.declared.PlainAnswer.the-variants as plain
 use Rattle.lookups.specs.Access.{accessVerdict, accessPart}
 use Rattle.lookups.specs.Plain.{plainFound, plainOf}
 use Rattle.lookups.proofs.Accessed.{access-good, access-word}
-use Rattle.lookups.proofs.Found.{Says, as-asked, as-turned, absent, Stands, Nowhere, plain-own}
+use Rattle.lookups.specs.Says.{Says, as-asked, as-turned, absent, Stands, Nowhere}
+use Rattle.lookups.proofs.Found.{plain-own}
 use Rattle.minimizers.specs.Minimizer.{sizesVerdict, minimizer, minimizerAt}
 use Rattle.minimizers.proofs.Sizes.{sizes-good}
 use Rattle.minimizers.proofs.Smallest.{minimizer-lt}

@@ -20,7 +20,8 @@ use Rattle.collection.proofs.Judged.{Shape}
 use Rattle.lookups.specs.declared.PlainAnswer.{PlainAnswer}
 use Rattle.lookups.specs.declared.PlainAnswer.the-variants as plain
 use Rattle.lookups.specs.Plain.{lowest, foundOr, plainFound}
-use Rattle.lookups.proofs.Found.{Says, plain-says}
+use Rattle.lookups.specs.Says.{Says}
+use Rattle.lookups.proofs.Found.{plain-says}
 use Rattle.stretches.specs.Index.{Index, indexed, rowOf}
 use Rattle.stretches.specs.Stretches.{Kmer, numbered, walk}
 use Rattle.stretches.proofs.Fits.{tables-fit, row-fits}

@@ -29,24 +29,6 @@ stretches-fit q k i h before (x ∷ ends) e =
     (string-at q (λ j. j + k ≤ lastEnd x ends) h before (within k before x) (λ j l u. omega arith))
     (stretches-fit q k (suc i) (h + within k before x) x ends (a .1))
 
-stretches-few : (q : ℕ → ℕ) (k h before : ℕ) (ends : List ℕ) → length (stretchesFrom q k h before ends) ≤ length (kmersFrom k before ends)
-unfolding stretchesFrom kmersFrom
-stretches-few q k h before [] = omega arith
-stretches-few q k h before (e ∷ ends) =
-    let n = within k before e in
-    omega (
-      arith,
-      length-append (ofString q h before n) (stretchesFrom q k (h + n) e ends),
-      length-append (countFrom before n) (kmersFrom k e ends),
-      length-count before n,
-      string-few q h before n,
-      stretches-few q k (h + n) e ends,
-    )
-
--- a collection has at most as many stretches as k-mers
-pub few-stretches : (q : ℕ → ℕ) (k : ℕ) (ends : List ℕ) → length (stretches q k ends) ≤ length (kmers k ends)
-few-stretches q k ends = stretches-few q k 1 0 ends
-
 -- the minimizer of each stretch is the code of p letters
 pub cut-keys-small : (k p : ℕ) (letters ends : List ℕ) → Ready k letters ends → p ≤ k
     → All (λ s. minimizerAt k p letters (s .at) < 4 ^ p) (stretches (minimizerAt k p letters) k ends)

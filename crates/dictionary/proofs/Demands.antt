@@ -59,14 +59,13 @@ covered : (k : ℕ) (letters ends weights : List ℕ) (places : List ℤ) (work 
 unfolding coverVerdict least
 covered k letters ends weights places work m paths places' work' p =
     let good = done-by (λ (x : CoverAnswer). x) (coverVerdict k letters ends weights places work) cover.Refused (cover.Covered (length ends) (least (endWeights k letters ends weights))) (cover.Covered m paths)
-      (λ number place q. let z : _≡_ {A = ℕ} 0 1 = cc in let y : ⊥ = omega arith in y) (sym (p .answered)) in
+    (λ number place q. let z : _≡_ {A = ℕ} 0 1 = cc in let y : ⊥ = omega arith in y) (sym (p .answered)) in
     let passes : Passes k letters ends weights = both-good (collectionVerdict k letters ends weights) _ (good .0) .0 in
     let c = cover-fills k letters ends weights places work p (good .0) in
     let q : cover.Covered (length ends) (least (endWeights k letters ends weights)) ≡ cover.Covered m paths = good .2 in
     let a : length ends ≡ m = cc in
     let b : least (endWeights k letters ends weights) ≡ paths = cc in
-    let e : c .0 ≡ take m places' = sym (ap (take m) (c .1) ∙ take-fill (c .0) places m (c .2 .number ∙ a)) in
-    (
+    let e : c .0 ≡ take m places' = sym (ap (take m) (c .1) ∙ take-fill (c .0) places m (c .2 .number ∙ a)) in (
       subst (SignedPermutation (length ends)) e (c .2),
       ap (runsAt k letters ends weights) (sym e) ∙ cover-fewest k letters ends weights passes (c .0) (c .3),
       sym b,

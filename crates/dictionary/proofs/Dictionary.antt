@@ -25,7 +25,7 @@ use Rattle.lookups.specs.declared.PlainAnswer.{PlainAnswer}
 use Rattle.lookups.specs.declared.PlainAnswer.the-variants as plain
 use Rattle.lookups.specs.Access.{accessVerdict, accessPart}
 use Rattle.lookups.proofs.Accessed.{access-word}
-use Rattle.lookups.proofs.Found.{Says, as-asked, as-turned, absent, Stands, Nowhere}
+use Rattle.lookups.specs.Says.{Says, as-asked, as-turned, absent, Stands, Nowhere}
 use Rattle.runs.specs.declared.WeightAnswer.{WeightAnswer}
 use Rattle.runs.specs.Runs.{runWeights, runFirsts}
 use Rattle.runs.proofs.GivenBack.{runs-then-weight}

@@ -28,7 +28,7 @@ use Rattle.sheet_text.specs.Sheet.{sheetK, sheetStrings}
 use Rattle.sheet_text.proofs.Accepted.{accepted-holds}
 use Rattle.sheet_text.proofs.Calls.{ReadDone, read-done, read-passes}
 use Rattle.lookups.proofs.Asked.{judged-ready, word-letters}
-use Rattle.lookups.proofs.Found.{Stands}
+use Rattle.lookups.specs.Says.{Stands}
 use Rattle.repeats.proofs.Checked.{check-distinct}
 use Rattle.trails.specs.Groups.{least}
 use Rattle.trails.specs.Places.{SignedPermutation}

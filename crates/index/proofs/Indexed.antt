@@ -35,11 +35,13 @@ module _ (k p : ℕ) (letters ends weights : List ℕ) where
   abbrev kmerNumber : ℕ
   kmerNumber = kmerCount k (length letters) (length ends)
 
+  -- 2, of k and p
   pub sizes-refused : {number place : ℕ} → sizesVerdict k p ≡ Bad number place → (t : Lent) → Refused number place ≡ foreseen k p letters ends weights t
   unfolding foreseen indexVerdict
   sizes-refused e t = refused Refused _ (then-bad _ e)
 
   module _ (sizes : sizesVerdict k p ≡ Good) where
+    -- 2 to 6, of the collection
     pub collection-refused : {number place : ℕ} → collectionVerdict k letters ends weights ≡ Bad number place → (t : Lent) → Refused number place ≡ foreseen k p letters ends weights t
     unfolding foreseen indexVerdict
     collection-refused e t = refused Refused _ (then-good _ sizes (then-bad _ e))
@@ -64,19 +66,22 @@ module _ (k p : ℕ) (letters ends weights : List ℕ) where
       unfolding indexVerdict
       verdict t s = then-good _ sizes (then-good _ passes (rooms t s))
 
+      -- enough room: the answer that is foreseen
       pub room-enough : room ≡ true → (t : Lent) → Sized t firsts positions numbers before work → Indexed count starts ≡ foreseen k p letters ends weights t
       unfolding foreseen
       room-enough h t s = settled Refused (ap₂ Indexed counted all) (verdict t s ∙ ap (λ (b : Bool). choose b Good (Bad 1 0)) h)
 
+      -- 1
       pub room-refused : room ≡ false → (t : Lent) → Sized t firsts positions numbers before work → Refused 1 0 ≡ foreseen k p letters ends weights t
       unfolding foreseen
       room-refused h t s = refused Refused _ (verdict t s ∙ ap (λ (b : Bool). choose b Good (Bad 1 0)) h)
 
-  -- what a good verdict says
+  -- where the verdict is good there are n weights
   weights-counted : (t : Lent) → indexVerdict k p letters ends weights t ≡ Good → length weights ≡ kmerNumber
   unfolding indexVerdict
   weights-counted t h = collection-good k letters ends weights (both-good (collectionVerdict k letters ends weights) _ (both-good (sizesVerdict k p) _ h .1) .0) .counted
 
+  -- the parts of a good verdict
   pub index-good : (t : Lent) → indexVerdict k p letters ends weights t ≡ Good → Judged k p letters ends (length weights) (stretchCount k p letters ends) t
   unfolding indexVerdict roomsVerdict
   index-good t h =
@@ -111,6 +116,7 @@ module _ {k p : ℕ} {letters ends : List ℕ} {n m : ℕ} (t : Lent) (j : Judge
   zeroed {u} only e = e ∙ only-fill (4 * n) (replicate (4 * n) 0) (t .work) u (length-replicate (4 * n) 0) (j .work-room) only
 
   module _ {repeat : ℕ} {u : List ℕ} (search : (repeat ≡ firstRepeat k letters ends) × Only 0 (4 * n) (t .work) u) where
+    -- 7
     pub repeat-refused : {z : List ℕ} → (repeat ≡ 0 → ⊥) → z ≡ fill (replicate (4 * n) 0) u → outcome (Refused 7 repeat) (lent (t .firsts) (t .positions) (t .numbers) (t .before) z) ≡ judgedOf k p letters ends n t
     unfolding judgedOf
     repeat-refused h e =
@@ -135,6 +141,7 @@ module _ {k p : ℕ} {letters ends : List ℕ} {n m : ℕ} (t : Lent) (j : Judge
         }
 
     module _ {t' : Lent} (h : Held (indexWith k p letters ends) n (lent (t .firsts) (t .positions) (t .numbers) (t .before) u) t') where
+      -- no word repeats: the index is made, and work zeroed
       pub index-made : {z : List ℕ} {starts : ℕ} → repeat ≡ 0 → z ≡ fill (replicate (4 * n) 0) (t' .work) → starts ≡ 4 ^ p + 1
           → outcome (Indexed m starts) (lent (t' .firsts) (t' .positions) (t' .numbers) (t' .before) z) ≡ judgedOf k p letters ends n t
       unfolding judgedOf
@@ -143,6 +150,7 @@ module _ {k p : ℕ} {letters ends : List ℕ} {n m : ℕ} (t : Lent) (j : Judge
           settled _ (λ i. outcome (Indexed (j .counted i) (s i)) (lent (h .firsts-held i) (h .positions-held i) (h .numbers-held i) (h .before-held i) (w i)))
           (sym (place-none 7 (sym (search .0) ∙ none)))
 
+      -- work keeps its size
       pub work-still : 4 * n ≤ length (t' .work)
       work-still = omega (arith, j .work-room, search .1 .size, h .rest .size)
 
@@ -160,6 +168,7 @@ told-good Good m starts e f = (refl, cc)
 told-good (Bad number place) m starts e f = let z : _≡_ {A = ℕ} 0 1 = cc in absurd (let y : ⊥ = omega arith in y)
 
 module _ (k p : ℕ) (letters ends weights : List ℕ) (t : Lent) {answer : IndexAnswer} (e : answer ≡ foreseen k p letters ends weights t) where
+  -- a foreseen refusal is the answer, and nothing is written
   pub index-refused : {number place : ℕ} → answer ≡ Refused number place → outcome answer t ≡ indexOf k p letters ends weights t
   unfolding foreseen indexOf
   index-refused f = told-refused (indexVerdict k p letters ends weights t) (stretchCount k p letters ends) (4 ^ p + 1) t _ e f
@@ -169,9 +178,11 @@ module _ (k p : ℕ) (letters ends weights : List ℕ) (t : Lent) {answer : Inde
     unfolding foreseen
     good = told-good (indexVerdict k p letters ends weights t) (stretchCount k p letters ends) (4 ^ p + 1) e f
 
+    -- a foreseen index: 2 to 6 and 1 refuse nothing
     pub foreseen-judged : Judged k p letters ends (length weights) m t
     foreseen-judged = subst (λ (i : ℕ). Judged k p letters ends (length weights) i t) (sym (good .1)) (index-good k p letters ends weights t (good .0))
 
+    -- and the rest of the call decides
     pub index-goes-on : {done : Outcome} → done ≡ judgedOf k p letters ends (length weights) t → done ≡ indexOf k p letters ends weights t
     unfolding judgedOf indexOf
     index-goes-on d = settled _ (d ∙ ap (λ (n : ℕ). judgedOf k p letters ends n t) (weights-counted k p letters ends weights t (good .0))) (good .0)

@@ -48,7 +48,7 @@ fn foresee(
 }
 
 // The index of n k-mers in m stretches. The stretches are stored in the order of their handles first, and their minimizers in work.
-fn arrange(
+fn build(
     k: usize,
     p: usize,
     letters: &[u8],
@@ -74,8 +74,7 @@ fn arrange(
         numbers,
         &mut work[..n],
     );
-    arranging::inner::order(work, n, m, p, before);
-    arranging::inner::reorder_all(firsts, positions, numbers, work, n + n, m);
+    arranging::inner::arrange(work, n, m, p, before, firsts, positions, numbers);
 }
 
 // 7, or the index of n k-mers in m stretches. Work is zero afterwards in both cases.
@@ -103,7 +102,7 @@ fn index_judged(
             place: repeat,
         };
     }
-    arrange(
+    build(
         k,
         p,
         letters,

@@ -17,24 +17,10 @@ use Rattle.collection.specs.Kmers.{kmers, wordOf, Distinct}
 use Rattle.lookups.specs.declared.PlainAnswer.{PlainAnswer}
 use Rattle.lookups.specs.declared.PlainAnswer.the-variants.{Found, Absent}
 use Rattle.lookups.specs.Plain.{lowest, foundOr, plainFound}
+use Rattle.lookups.specs.Says.{Stands, Nowhere, Lowest, Says, as-asked, as-turned, absent}
 
 module _ (k : ℕ) (letters ends : List ℕ) where
-  -- the word w stands at a handle
-  pub record Stands (w : List ℕ) (handle : ℕ) : Type 0 where
-    pub low : 1 ≤ handle
-    pub high : handle ≤ length (kmers k ends)
-    pub word : wordOf k letters ends handle ≡ w
-
-  -- it stands at no handle
-  abbrev pub Nowhere : List ℕ → Type 0
-  Nowhere w = (handle : ℕ) → Stands w handle → ⊥
-
-  -- it stands at this handle and at none below
-  pub record Lowest (w : List ℕ) (handle : ℕ) : Type 0 where
-    pub here : Stands w handle
-    pub none-below : (other : ℕ) → other < handle → Stands w other → ⊥
-
-  lowest-found : (w : List ℕ) (h : ℕ) → lowest k letters ends w ≡ suc h → Lowest w (suc h)
+  lowest-found : (w : List ℕ) (h : ℕ) → lowest k letters ends w ≡ suc h → Lowest k letters ends w (suc h)
   unfolding lowest
   lowest-found w h e =
       let f = first-found-from (λ a. same (wordAt k letters a) w) 0 (kmers k ends) h e in
@@ -43,25 +29,19 @@ module _ (k : ℕ) (letters ends : List ℕ) where
         none-below = λ other l s. true≢false (sym (is-same (s .word)) ∙ f .none-before 0 (other - 1) (omega (arith, s .low)));
       }
 
-  lowest-none : (w : List ℕ) → lowest k letters ends w ≡ 0 → Nowhere w
+  lowest-none : (w : List ℕ) → lowest k letters ends w ≡ 0 → Nowhere k letters ends w
   unfolding lowest
   lowest-none w e handle s =
       true≢false
       (sym (is-same (s .word))
       ∙ all-at (λ a. same (wordAt k letters a) w ≡ mathlib.Core.Bool.false) (kmers k ends) (first-none (λ a. same (wordAt k letters a) w) (kmers k ends) e) (handle - 1) 0 (omega (arith, s .low, s .high)))
 
-  -- what each answer to the word w says
-  pub data Says (w : List ℕ) : PlainAnswer → Type 0 where
-    as-asked : (handle : ℕ) → Lowest w handle → Says w (Found handle Asked)
-    as-turned : (handle : ℕ) → Nowhere w → Lowest (turn w) handle → Says w (Found handle Turned)
-    absent : Nowhere w → Nowhere (turn w) → Says w Absent
-
   -- PLAIN's answer says what is so
-  pub plain-says : (w : List ℕ) → Says w (plainFound k letters ends w)
+  pub plain-says : (w : List ℕ) → Says k letters ends w (plainFound k letters ends w)
   unfolding plainFound foundOr
   plain-says w = go (lowest k letters ends w) refl (lowest k letters ends (turn w)) refl
     where
-      go : (a : ℕ) → lowest k letters ends w ≡ a → (b : ℕ) → lowest k letters ends (turn w) ≡ b → Says w (foundOr Asked a (foundOr Turned b Absent))
+      go : (a : ℕ) → lowest k letters ends w ≡ a → (b : ℕ) → lowest k letters ends (turn w) ≡ b → Says k letters ends w (foundOr Asked a (foundOr Turned b Absent))
       go zero e zero f = absent (lowest-none w e) (lowest-none (turn w) f)
       go zero e (suc b) f = as-turned (suc b) (lowest-none w e) (lowest-found (turn w) b f)
       go (suc a) e b f = as-asked (suc a) (lowest-found w a e)
@@ -70,10 +50,10 @@ module _ (k : ℕ) (letters ends : List ℕ) where
   pub plain-own : Distinct k letters ends → (handle : ℕ) → 1 ≤ handle → handle ≤ length (kmers k ends) → plainFound k letters ends (wordOf k letters ends handle) ≡ Found handle Asked
   plain-own d handle l h = go (plain-says (wordOf k letters ends handle))
     where
-      own : Stands (wordOf k letters ends handle) handle
+      own : Stands k letters ends (wordOf k letters ends handle) handle
       own = record { low = l; high = h; word = refl }
 
-      go : {answer : PlainAnswer} → Says (wordOf k letters ends handle) answer → answer ≡ Found handle Asked
+      go : {answer : PlainAnswer} → Says k letters ends (wordOf k letters ends handle) answer → answer ≡ Found handle Asked
       go (as-asked other s) =
           let w = s .here in
           let p : suc (other - 1) ≡ other = omega (arith, w .low) in

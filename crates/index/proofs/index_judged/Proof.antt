@@ -28,14 +28,14 @@ same-length c = search needs
 returns : tie.Need-returns
 returns c = let s = c .before .before .before .before .before .before .before .before .before .before .before .before .before .before .before .before in repeat-refused (tables s) (s .pre) (c .before .before .before .before .before .before .before .first-repeat .ensures) (c .before .before .before .before .if1 .taken) (c .before .before .zero-first .ensures)
 
-arrange-requires : tie.Need-arrange-requires
-arrange-requires c κs = let s = c .before .before .before .before .before .before .before .before .before .before .before .before .before .before .before .before .before in judged-still (tables s) (s .pre) (c .before .before .before .before .before .before .before .before .first-repeat .ensures)
+build-requires : tie.Need-build-requires
+build-requires c κs = let s = c .before .before .before .before .before .before .before .before .before .before .before .before .before .before .before .before .before in judged-still (tables s) (s .pre) (c .before .before .before .before .before .before .before .before .first-repeat .ensures)
 
 mul-zero-first-2 : tie.Need-mul-zero-first-2
 mul-zero-first-2 c = let s = c .before .before .before .before .before .before .before .before .before .before .before .before .before .before .before .before .before .before .before .before .before .before .before .before .before .before .before .before .before in omega (arith, s .pre .each, few-kmers (s .pre .ready))
 
 zero-first-requires-2 : tie.Need-zero-first-requires-2
-zero-first-requires-2 c κs = let s = c .before .before .before .before .before .before .before .before .before .before .before .before .before .before .before .before .before .before .before .before .before .before .before .before .before .before .before .before .before in work-still (tables s) (s .pre) (c .before .before .before .before .before .before .before .before .before .before .before .before .before .before .before .before .before .before .before .before .first-repeat .ensures) (c .before .before .before .before .before .before .before .before .before .before .before .arrange .ensures)
+zero-first-requires-2 c κs = let s = c .before .before .before .before .before .before .before .before .before .before .before .before .before .before .before .before .before .before .before .before .before .before .before .before .before .before .before .before .before in work-still (tables s) (s .pre) (c .before .before .before .before .before .before .before .before .before .before .before .before .before .before .before .before .before .before .before .before .first-repeat .ensures) (c .before .before .before .before .before .before .before .before .before .before .before .build .ensures)
 
 word-count-requires : tie.Need-word-count-requires
 word-count-requires c κs = c .before .before .before .before .before .before .before .before .before .before .before .before .before .before .before .before .before .before .before .before .before .before .before .before .before .before .before .before .before .before .before .before .pre .p-high
@@ -61,7 +61,7 @@ same-length-6 c = search needs
 returns-2 : tie.Need-returns-2
 returns-2 c =
     let s = c .before .before .before .before .before .before .before .before .before .before .before .before .before .before .before .before .before .before .before .before .before .before .before .before .before .before .before .before .before .before .before .before .before in
-    index-made (tables s) (s .pre) (c .before .before .before .before .before .before .before .before .before .before .before .before .before .before .before .before .before .before .before .before .before .before .before .before .first-repeat .ensures) (c .before .before .before .before .before .before .before .before .before .before .before .before .before .before .before .arrange .ensures) (c .before .before .before .before .before .before .before .before .before .before .before .before .before .before .before .before .before .before .before .before .before .if1 .left) (c .before .before .before .zero-first2 .ensures) (ap (λ (d : ℕ). d + 1) (c .word-count .ensures))
+    index-made (tables s) (s .pre) (c .before .before .before .before .before .before .before .before .before .before .before .before .before .before .before .before .before .before .before .before .before .before .before .before .first-repeat .ensures) (c .before .before .before .before .before .before .before .before .before .before .before .before .before .before .before .build .ensures) (c .before .before .before .before .before .before .before .before .before .before .before .before .before .before .before .before .before .before .before .before .before .if1 .left) (c .before .before .before .zero-first2 .ensures) (ap (λ (d : ℕ). d + 1) (c .word-count .ensures))
 
 pub index-judged-spec : {M : Type 1} → statement M
 index-judged-spec =
@@ -72,7 +72,7 @@ index-judged-spec =
     zero-first-requires
     same-length
     returns
-    arrange-requires
+    build-requires
     mul-zero-first-2
     zero-first-requires-2
     word-count-requires

@@ -1,0 +1,245 @@
+// Builds the index of the sheet of 01 after the places +1 +4 -3 -2, with p = 2, and asks it: one line each, what was asked and the answer. The file `stdout` holds what
+// the lines should be.
+use collection::Side;
+use index::IndexAnswer;
+use libc::STDOUT_FILENO;
+use questions::QuickAnswer;
+use questions::WordAnswer;
+
+const LETTERS: [u8; 18] = *b"AAACCTGTAGGCTGAGAT";
+
+const ENDS: [u32; 4] = [5, 9, 14, 18];
+
+const WEIGHTS: [u32; 10] = [2, 2, 5, 5, 3, 3, 7, 7, 7, 2];
+
+const RUN_WEIGHTS: [u32; 5] = [2, 5, 3, 7, 2];
+
+const RUN_FIRSTS: [u32; 5] = [1, 3, 5, 7, 10];
+
+fn show(asked: &[u8], a: u64, b: u64, c: u64) {
+    io::write_all(STDOUT_FILENO, asked);
+    io::write_all(STDOUT_FILENO, b"\t");
+    io::print_decimal(STDOUT_FILENO, a);
+    io::write_all(STDOUT_FILENO, b"\t");
+    io::print_decimal(STDOUT_FILENO, b);
+    io::write_all(STDOUT_FILENO, b"\t");
+    io::print_decimal(STDOUT_FILENO, c);
+    io::write_all(STDOUT_FILENO, b"\n");
+}
+
+fn wide(x: u32) -> u64 {
+    x as u64
+}
+
+// One stretch: first handle, position, number of k-mers.
+fn show_stretch(firsts: &[u32], positions: &[u32], numbers: &[u32], i: usize) {
+    if firsts.len() <= i {
+        return;
+    }
+    if positions.len() <= i {
+        return;
+    }
+    if numbers.len() <= i {
+        return;
+    }
+    show(
+        b"stretch",
+        wide(firsts[i]),
+        wide(positions[i]),
+        wide(numbers[i]),
+    );
+}
+
+// INDEX's answer: stretches and entries of the fourth table; 100 + number and the place if refused.
+fn show_index(asked: &[u8], answer: IndexAnswer) {
+    match answer {
+        IndexAnswer::Indexed { stretches, starts } => {
+            show(asked, stretches as u64, starts as u64, 0)
+        }
+        IndexAnswer::Refused { number, place } => {
+            show(asked, 100 + number as u64, place as u64, 0)
+        }
+    }
+}
+
+// The handle, 1 for side + or 2 for side -, and the number compared; 0, 0 and the number if absent; 100 + number and the place if refused.
+fn show_quick(asked: &[u8], answer: QuickAnswer) {
+    match answer {
+        QuickAnswer::Found {
+            handle,
+            side,
+            compared,
+        } => match side {
+            Side::Asked => show(asked, handle as u64, 1, compared),
+            Side::Turned => show(asked, handle as u64, 2, compared),
+        },
+        QuickAnswer::Absent { compared } => show(asked, 0, 0, compared),
+        QuickAnswer::Refused { number, place } => {
+            show(asked, 100 + number as u64, place as u64, 0)
+        }
+    }
+}
+
+// The weight of a word; 0 if it is absent; 100 + number and the place if refused.
+fn show_weight(asked: &[u8], answer: WordAnswer) {
+    match answer {
+        WordAnswer::Weighs { weight } => show(asked, wide(weight), 0, 0),
+        WordAnswer::Absent => show(asked, 0, 0, 0),
+        WordAnswer::Refused { number, place } => show(asked, 100 + number as u64, place as u64, 0),
+    }
+}
+
+// Asks words of an index; with another p it does not fit.
+fn ask(firsts: &[u32], positions: &[u32], numbers: &[u32], before: &[u32]) {
+    show_quick(
+        b"CAG",
+        questions::quick(3, 2, b"CAG", &LETTERS, firsts, positions, numbers, before),
+    );
+    show_quick(
+        b"TTT",
+        questions::quick(3, 2, b"TTT", &LETTERS, firsts, positions, numbers, before),
+    );
+    show_quick(
+        b"CCC",
+        questions::quick(3, 2, b"CCC", &LETTERS, firsts, positions, numbers, before),
+    );
+    show_quick(
+        b"GGC",
+        questions::quick(3, 2, b"GGC", &LETTERS, firsts, positions, numbers, before),
+    );
+    show_quick(
+        b"GGCT",
+        questions::quick(3, 2, b"GGCT", &LETTERS, firsts, positions, numbers, before),
+    );
+    show_quick(
+        b"p = 9",
+        questions::quick(3, 9, b"CAG", &LETTERS, firsts, positions, numbers, before),
+    );
+    show_quick(
+        b"p = 1",
+        questions::quick(3, 1, b"CAG", &LETTERS, firsts, positions, numbers, before),
+    );
+}
+
+// The weights of words.
+fn weigh(firsts: &[u32], positions: &[u32], numbers: &[u32], before: &[u32]) {
+    show_weight(
+        b"weight of CAG",
+        questions::weigh(
+            3,
+            2,
+            b"CAG",
+            &LETTERS,
+            firsts,
+            positions,
+            numbers,
+            before,
+            &RUN_WEIGHTS,
+            &RUN_FIRSTS,
+            10,
+        ),
+    );
+    show_weight(
+        b"weight of CCC",
+        questions::weigh(
+            3,
+            2,
+            b"CCC",
+            &LETTERS,
+            firsts,
+            positions,
+            numbers,
+            before,
+            &RUN_WEIGHTS,
+            &RUN_FIRSTS,
+            10,
+        ),
+    );
+    show_weight(
+        b"weight of CAG, n = 7",
+        questions::weigh(
+            3,
+            2,
+            b"CAG",
+            &LETTERS,
+            firsts,
+            positions,
+            numbers,
+            before,
+            &RUN_WEIGHTS,
+            &RUN_FIRSTS,
+            7,
+        ),
+    );
+}
+
+// A word that repeats, and tables that are too short.
+fn refused() {
+    let mut firsts = [0u32; 7];
+    let mut positions = [0u32; 7];
+    let mut numbers = [0u32; 6];
+    let mut before = [0u32; 17];
+    let mut work = [0u32; 40];
+    let a = index::index(
+        3,
+        2,
+        &LETTERS,
+        &ENDS,
+        &WEIGHTS,
+        &mut firsts,
+        &mut positions,
+        &mut numbers,
+        &mut before,
+        &mut work,
+    );
+    show_index(b"numbers too short", a);
+    let b = index::index(
+        3,
+        2,
+        b"ACGCGT",
+        &[3, 6],
+        &[1, 1],
+        &mut firsts,
+        &mut positions,
+        &mut numbers,
+        &mut before,
+        &mut work,
+    );
+    show_index(b"ACG and CGT", b);
+}
+
+// The seven stretches, and the questions.
+fn after(firsts: &[u32], positions: &[u32], numbers: &[u32], before: &[u32]) {
+    show_stretch(firsts, positions, numbers, 0);
+    show_stretch(firsts, positions, numbers, 1);
+    show_stretch(firsts, positions, numbers, 2);
+    show_stretch(firsts, positions, numbers, 3);
+    show_stretch(firsts, positions, numbers, 4);
+    show_stretch(firsts, positions, numbers, 5);
+    show_stretch(firsts, positions, numbers, 6);
+    ask(firsts, positions, numbers, before);
+    weigh(firsts, positions, numbers, before);
+}
+
+fn main() {
+    let mut firsts = [0u32; 7];
+    let mut positions = [0u32; 7];
+    let mut numbers = [0u32; 7];
+    let mut before = [0u32; 17];
+    let mut work = [0u32; 40];
+    let a = index::index(
+        3,
+        2,
+        &LETTERS,
+        &ENDS,
+        &WEIGHTS,
+        &mut firsts,
+        &mut positions,
+        &mut numbers,
+        &mut before,
+        &mut work,
+    );
+    show_index(b"index", a);
+    after(&firsts, &positions, &numbers, &before);
+    refused();
+}

@@ -1,0 +1,59 @@
+-- `build` meets its contract: the stretches cut, then ordered by their minimizers (proofs/Built). Assumes nothing.
+use mathlib.Core.Path.{sym}
+use Rattle.index.specs.Indexing.{Lent, lent}
+use Rattle.index.proofs.Built.{lent-size, room4, cut-orderable, cut-low, cut-room, index-built}
+use borrow.Author.Needs.{needs}
+use Rattle.index.proofs.build.Statement.{statement}
+use Rattle.index.proofs.build.Tie as tie
+
+-- the five tables at the start
+abbrev tables : tie.Start → Lent
+tables s = lent (s .args .firsts .now) (s .args .positions .now) (s .args .numbers .now) (s .args .before .now) (s .args .work .now)
+
+slice-relend-prefix-cut-all : tie.Need-slice-relend-prefix-cut-all
+slice-relend-prefix-cut-all c = search needs
+
+slice-aggregate-cut-all : tie.Need-slice-aggregate-cut-all
+slice-aggregate-cut-all c = let s = c .before .before .before .before .before .before .before .before .before .before .before in sym (lent-size (tables s) (s .pre))
+
+cut-all-requires : tie.Need-cut-all-requires
+cut-all-requires c κs = let s = c .before .before .before .before .before .before .before .before .before .before .before in (s .pre .ready, ((s .pre .p-low, s .pre .p-high, s .pre .p-fits), room4 (tables s) (s .pre)))
+
+arrange-requires : tie.Need-arrange-requires
+arrange-requires c κs =
+    let s = c .before .before .before .before .before .before .before .before .before .before .before .before .before .before .before .before .before .before .before .before .before .before .before .before .before in
+    let cut = c .before .before .before .before .before .before .before .before .before .before .before .before .before .cut-all .ensures in
+    (cut-orderable (tables s) (s .pre) cut, (cut-low (tables s) (s .pre) cut, cut-room (tables s) (s .pre) cut))
+
+same-length : tie.Need-same-length
+same-length c = search needs
+
+same-length-2 : tie.Need-same-length-2
+same-length-2 c = search needs
+
+same-length-3 : tie.Need-same-length-3
+same-length-3 c = search needs
+
+same-length-4 : tie.Need-same-length-4
+same-length-4 c = search needs
+
+same-length-5 : tie.Need-same-length-5
+same-length-5 c = search needs
+
+returns : tie.Need-returns
+returns c = let s = c .before .before .before .before .before .before .before .before .before .before .before .before .before .before .before .before .before .before .before .before .before .before .before .before .before .before .before .before .before .before .before .before .before .before .before .before in index-built (tables s) (s .pre) (c .before .before .before .before .before .before .before .before .before .before .before .before .before .before .before .before .before .before .before .before .before .before .before .before .cut-all .ensures) (c .before .before .before .before .before .before .before .before .before .before .arrange .ensures)
+
+pub build-spec : {M : Type 1} → statement M
+build-spec =
+    tie.close
+    (tie.spec
+    slice-relend-prefix-cut-all
+    slice-aggregate-cut-all
+    cut-all-requires
+    arrange-requires
+    same-length
+    same-length-2
+    same-length-3
+    same-length-4
+    same-length-5
+    returns)
