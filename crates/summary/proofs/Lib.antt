@@ -1,0 +1,3 @@
+-- Laws of what `tally` says.
+pub mod Fits
+pub mod Told
