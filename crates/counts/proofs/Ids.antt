@@ -1,7 +1,6 @@
 -- Ids sorted by their weights, and then replaced by them. Assumes nothing.
 use mathlib.Core.Path.{_≡_, refl, sym, ap, subst, _∙_}
-use mathlib.Core.Logic.{inl, inr}
-use mathlib.Core.Bool.{true}
+use mathlib.Core.Logic.{inl}
 use mathlib.Core.List.{List, [], _∷_, _++_, map, append-nil}
 use Prim.Native.Nat.{ℕ, zero, suc, _+_, _-_, _*_, _<_, _≤_}
 use native.Mathlib.Omega.{arith}
@@ -18,7 +17,6 @@ use Rattle.lists.proofs.Puts.{put-part, put-only}
 use Rattle.lists.proofs.Regions.{part-is}
 use Rattle.lists.proofs.Sorts.{all-sortBy}
 use Rattle.lists.proofs.Storing.{Storing, begin, store, restated, stored, drop-next, put-start, length-fill}
-use Rattle.collection.specs.Judge.{isWeight}
 use Rattle.runs.specs.Runs.{runCount}
 use Rattle.sorting.specs.Keys.{keyAt}
 use Rattle.sorting.specs.Layout.{Laid}

@@ -2,7 +2,7 @@
 use mathlib.Core.Path.{_≡_, refl, sym, ap, ap₂, _∙_}
 use mathlib.Core.Bool.{Bool, true, false}
 use mathlib.Core.List.{List, [], _∷_, map}
-use Prim.Native.Nat.{ℕ, zero, suc, _+_, _-_, _<_, _≤_}
+use Prim.Native.Nat.{ℕ, _+_, _-_, _<_, _≤_}
 use native.Mathlib.Omega.{arith}
 use lib.Dec.{eqb}
 use lib.ListN.{length, take, drop, getD, drop-of-length-le, length-drop}
@@ -12,7 +12,7 @@ use Rattle.lists.specs.Count.{sum}
 use Rattle.lists.proofs.Storing.{drop-next}
 use Rattle.collection.specs.Judge.{lastEnd}
 use Rattle.collection.specs.Kmers.{within, kmersFrom}
-use Rattle.collection.specs.Strings.{Str, stringsFrom}
+use Rattle.collection.specs.Strings.{stringsFrom}
 use Rattle.collection.proofs.Kmers.{Strings-left, strings-begin, Next, next-string, strings-on}
 use Rattle.runs.specs.Joins.{goesOn}
 use Rattle.runs.specs.Runs.{runCount, innerRuns}

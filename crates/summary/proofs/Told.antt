@@ -1,11 +1,9 @@
 -- What the calls answer comes to what `tally` says. Assumes nothing.
 use mathlib.Core.Path.{_≡_, refl, sym, ap, ap₂, subst, _∙_}
-use mathlib.Core.Bool.{true, false}
 use mathlib.Core.List.{List}
 use Prim.Native.Nat.{ℕ, _+_, _-_, _*_, _<_, _≤_}
 use native.Mathlib.Omega.{arith}
 use borrow.Author.Tests.{le-ltb, le-leb, lt-leb}
-use lib.Dec.{leb}
 use lib.IntN.{ℤ}
 use lib.ListN.{length, take}
 use Rattle.lists.specs.Choose.{choose}
@@ -36,7 +34,7 @@ use Rattle.cover.specs.declared.CoverAnswer.{CoverAnswer}
 use Rattle.cover.specs.declared.CoverAnswer.the-variants as cover
 use Rattle.cover.specs.Cover.{coverVerdict, Promise}
 use Rattle.cover.proofs.Laws.{cover-answers, ends-count}
-use Rattle.runs.specs.Runs.{runCount, innerRuns}
+use Rattle.runs.specs.Runs.{runCount}
 use Rattle.counts.specs.Counts.{distinct, bitsOf, innerFrom, Weighed}
 use Rattle.counts.proofs.Inside.{inner-runs}
 use Rattle.summary_text.specs.declared.Summary.{Summary}

@@ -1,8 +1,6 @@
 -- What `tally` writes: the bytes of its summary.
 use mathlib.Core.List.{List}
 use Prim.Native.Nat.{ℕ, _≤_}
-use lib.IntN.{ℤ}
-use lib.ListN.{length}
 use Rattle.summary_text.specs.Text.{textFor}
 use Rattle.summary_text.specs.Written.{Outcome, writtenOf}
 use Rattle.summary.specs.Summary.{summaryOf}

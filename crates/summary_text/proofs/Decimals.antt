@@ -1,5 +1,4 @@
 -- How many digits a number has. Assumes nothing.
-use mathlib.Core.Path.{_≡_}
 use mathlib.Core.Logic.{_⊎_, inl, inr}
 use Prim.Native.Nat.{ℕ, zero, suc, _+_, _/_, _^_, _<_, _≤_}
 use native.Mathlib.Omega.{arith}

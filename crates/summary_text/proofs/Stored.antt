@@ -1,13 +1,13 @@
 -- Lines of a label and a number: how long they are, and how they are stored. Assumes nothing.
 use mathlib.Core.Path.{_≡_, refl, sym, ap, _∙_}
-use mathlib.Core.List.{List, [], _∷_, _++_}
+use mathlib.Core.List.{List, [], _∷_, _++_, append-assoc}
 use Prim.Native.Nat.{ℕ, _+_, _-_, _<_, _≤_}
 use native.Mathlib.Omega.{arith}
 use lib.ListN.{length, take, drop, set, length-append}
 use lib.Seq.{take-all}
 use Rattle.lists.specs.Fill.{put, fill}
 use Rattle.lists.proofs.Puts.{put-only}
-use Rattle.lists.proofs.Storing.{Storing, begin-at, begin, inside, store, stored}
+use Rattle.lists.proofs.Storing.{Storing, begin-at, begin, inside, store, restated, stored}
 use Rattle.sheet_text.specs.Numbers.{digits}
 use Rattle.sheet_text.specs.Parts.{tab, feed}
 use Rattle.sheet_text.proofs.Blocks.{block-room, store-block}
@@ -26,6 +26,11 @@ line-length label n = omega (arith, length-append (entry label n) (feed ∷ []),
 lines-more : (label : List ℕ) (n : ℕ) (ls : List (List ℕ × ℕ)) → length (lines ((label, n) ∷ ls)) ≡ length (line label n) + length (lines ls)
 unfolding lines
 lines-more label n ls = length-append (line label n) (lines ls)
+
+lines-append : (xs ys : List (List ℕ × ℕ)) → lines (xs ++ ys) ≡ lines xs ++ lines ys
+unfolding lines
+lines-append [] ys = refl
+lines-append (x ∷ xs) ys = ap (λ (r : List ℕ). line (x .0) (x .1) ++ r) (lines-append xs ys) ∙ sym (append-assoc (line (x .0) (x .1)) (lines xs) (lines ys))
 
 lines-none : length (lines []) ≡ 0
 unfolding lines
@@ -51,12 +56,12 @@ module _ (strings kmers total inner given paths least distinct bits : ℕ) where
   abbrev last : List (List ℕ × ℕ)
   last = three leastLabel least distinctLabel distinct bitsLabel bits
 
-  abbrev text-of : List ℕ
-  text-of = countedText strings kmers total inner given paths least distinct bits
-
-  nine-lines : length text-of ≡ length (lines some) + (length (lines more) + length (lines last))
+  nine-parts : countedText strings kmers total inner given paths least distinct bits ≡ lines some ++ (lines more ++ lines last)
   unfolding countedText
-  nine-lines = omega (arith, length-append (lines some) (lines more ++ lines last), length-append (lines more) (lines last))
+  nine-parts = lines-append some (more ++ last) ∙ ap (λ (r : List ℕ). lines some ++ r) (lines-append more last)
+
+  nine-lines : length (countedText strings kmers total inner given paths least distinct bits) ≡ length (lines some) + (length (lines more) + length (lines last))
+  nine-lines = omega (arith, ap length nine-parts, length-append (lines some) (lines more ++ lines last), length-append (lines more) (lines last))
 
   -- the nine labels have 49 letters
   pub counted-length : {a b c : ℕ} → a ≡ length (digits strings) + length (digits kmers) + length (digits total) + 6
@@ -162,8 +167,7 @@ module _ (strings kmers total inner given paths least distinct bits : ℕ) (text
   last-lines = lines (three leastLabel least distinctLabel distinct bitsLabel bits)
 
   counted-begun : Storing (length text) text target (first-lines ++ (next-lines ++ last-lines)) 0
-  unfolding countedText
-  counted-begun = begin text (countedText strings kmers total inner given paths least distinct bits) room
+  counted-begun = restated (nine-parts strings kmers total inner given paths least distinct bits) (begin text (countedText strings kmers total inner given paths least distinct bits) room)
 
   pub some-room : 0 + length first-lines ≤ length text
   some-room = block-room first-lines (next-lines ++ last-lines) counted-begun

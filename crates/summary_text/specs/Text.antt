@@ -66,9 +66,18 @@ refusedLabel = 114 ∷ 101 ∷ 102 ∷ 117 ∷ 115 ∷ 101 ∷ 100 ∷ []
 -- the nine lines
 unfoldable pub countedText : ℕ → ℕ → ℕ → ℕ → ℕ → ℕ → ℕ → ℕ → ℕ → List ℕ
 countedText strings kmers total inner given paths least distinct bits =
-    lines ((stringsLabel, strings) ∷ (kmersLabel, kmers) ∷ (totalLabel, total) ∷ [])
-    ++ (lines ((innerLabel, inner) ∷ (givenLabel, given) ∷ (pathsLabel, paths) ∷ [])
-    ++ lines ((leastLabel, least) ∷ (distinctLabel, distinct) ∷ (bitsLabel, bits) ∷ []))
+    lines (
+    (stringsLabel, strings)
+    ∷ (kmersLabel, kmers)
+    ∷ (totalLabel, total)
+    ∷ (innerLabel, inner)
+    ∷ (givenLabel, given)
+    ∷ (pathsLabel, paths)
+    ∷ (leastLabel, least)
+    ∷ (distinctLabel, distinct)
+    ∷ (bitsLabel, bits)
+    ∷ []
+    )
 
 -- one line: `refused`, number and place, parted by tabs
 unfoldable pub refusedText : ℕ → ℕ → List ℕ

@@ -34,7 +34,10 @@ same-length c = search needs
 
 returns : tie.Need-returns
 unfolding reportOf textOf
-returns c = c .before .before .write-summary .ensures ∙ ap (λ (s : Summary). writtenOf (textFor s) (c .before .before .before .before .before .before .before .before .before .before .before .before .before .before .before .before .before .args .text .now)) (c .before .before .before .before .before .before .before .before .before .tell .ensures)
+returns c =
+    let w = c .before .before in
+    let t = w .before .before .before .before .before .before .before in
+    w .write-summary .ensures ∙ ap (λ (s : Summary). writtenOf (textFor s) (t .before .before .before .before .before .before .before .before .args .text .now)) (t .tell .ensures)
 
 pub report-spec : {M : Type 1} → statement M
 report-spec =

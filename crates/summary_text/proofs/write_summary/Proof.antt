@@ -1,6 +1,4 @@
 -- `write_summary` meets its contract, by the kind of summary. Assumes nothing.
-use mathlib.Core.List.{List}
-use mathlib.Core.Path.{sym, ap, _∙_}
 use Rattle.summary_text.proofs.Outcomes.{of-counted, of-refused}
 use borrow.Author.Needs.{needs}
 use Rattle.summary_text.proofs.write_summary.Statement.{statement}
@@ -25,13 +23,18 @@ same-length : tie.Need-same-length
 same-length c = search needs
 
 returns : tie.Need-returns
-returns c = of-counted _ (c .before .before .before .before .before .summary .given .1) (c .before .before .write-counted .ensures)
+returns c =
+    let w = c .before .before in
+    of-counted _ (w .before .before .before .summary .given .1) (w .write-counted .ensures)
 
 same-length-2 : tie.Need-same-length-2
 same-length-2 c = search needs
 
 returns-2 : tie.Need-returns-2
-returns-2 c = of-refused _ (c .before .before .before .before .before .before .summary2 .given .1) (c .before .before .before .before .wide .ensures) (c .before .before .write-refused .ensures)
+returns-2 c =
+    let w = c .before .before in
+    let d = w .before .before in
+    of-refused _ (d .before .before .summary2 .given .1) (d .wide .ensures) (w .write-refused .ensures)
 
 pub write-summary-spec : {M : Type 1} → statement M
 write-summary-spec =

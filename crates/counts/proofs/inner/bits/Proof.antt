@@ -16,7 +16,9 @@ bits-for-requires : tie.Need-bits-for-requires
 bits-for-requires c κs = search needs
 
 mul-result : tie.Need-mul-result
-mul-result c = let b = bits-least (c .before .largest .result) .1 32 (omega arith) in omega (arith, mul-le-mul (c .before .before .before .pre .1) b, ap (λ (x : ℕ). c .before .before .before .args .distinct * x) (c .bits-for .ensures))
+mul-result c =
+    let b = bits-least (c .before .largest .result) .1 32 (omega arith) in
+    omega (arith, mul-le-mul (c .before .before .before .pre .1) b, ap (λ (x : ℕ). c .before .before .before .args .distinct * x) (c .bits-for .ensures))
 
 returns : tie.Need-returns
 unfolding bitsOf

@@ -1,5 +1,4 @@
 -- `copy_weights` meets its contract. Invariant: the weights that are left bring the table to its target. Assumes nothing.
-use native.Mathlib.Omega.{arith}
 use Prim.Native.Nat.{_-_}
 use lib.ListN.{length, drop, drop-of-length-le}
 use Rattle.lists.specs.Fill.{fill}

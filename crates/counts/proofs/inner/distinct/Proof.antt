@@ -9,16 +9,23 @@ mul-e : tie.Need-mul-e
 mul-e c = search needs
 
 copy-weights-requires : tie.Need-copy-weights-requires
-copy-weights-requires c κs = let g = c .before .before .before in omega (arith, g .pre .1)
+copy-weights-requires c κs = omega (arith, c .before .before .before .pre .1)
 
 write-ladder-requires : tie.Need-write-ladder-requires
-write-ladder-requires c κs = let g = c .before .before .before .before .before .before .before in ladder-fits _ _ (g .pre .0) (g .pre .1) (c .before .before .before .copy-weights .ensures)
+write-ladder-requires c κs =
+    let y = c .before .before .before in
+    let g = y .before .before .before .before in
+    ladder-fits _ _ (g .pre .0) (g .pre .1) (y .copy-weights .ensures)
 
 sort-by-weight-requires : tie.Need-sort-by-weight-requires
-sort-by-weight-requires c κs = let g = c .before .before .before .before .before .before .before .before .before .before .before in ready _ _ (g .pre .0) (g .pre .1) (c .before .before .before .before .before .before .before .copy-weights .ensures) (c .before .before .before .write-ladder .ensures)
+sort-by-weight-requires c κs =
+    let w = c .before .before .before in
+    let y = w .before .before .before .before in
+    let g = y .before .before .before .before in
+    ready _ _ (g .pre .0) (g .pre .1) (y .copy-weights .ensures) (w .write-ladder .ensures)
 
 mul-runs-by : tie.Need-mul-runs-by
-mul-runs-by c = let g = c .before .before .before .before .before .before .before .before .before .before .before .before .before .before in omega (arith, g .pre .0 .few)
+mul-runs-by c = omega (arith, c .before .before .before .before .before .before .before .before .before .before .before .before .before .before .pre .0 .few)
 
 sub-runs-by : tie.Need-sub-runs-by
 sub-runs-by c = search needs
@@ -27,16 +34,31 @@ part-runs-by-start : tie.Need-part-runs-by-start
 part-runs-by-start c = search needs
 
 part-runs-by-end : tie.Need-part-runs-by-end
-part-runs-by-end c = let g = c .before .before .before .before .before .before .before .before .before .before .before .before .before .before in omega (arith, g .pre .1, sorted-size _ _ (g .pre .0) (g .pre .1) (c .before .before .before .before .before .before .before .before .before .before .copy-weights .ensures) (c .before .before .before .before .before .before .write-ladder .ensures) (c .before .before .sort-by-weight .ensures))
+part-runs-by-end c =
+    let s = c .before .before in
+    let w = s .before .before .before .before in
+    let y = w .before .before .before .before in
+    let g = y .before .before .before .before in
+    omega (arith, g .pre .1, sorted-size _ _ (g .pre .0) (g .pre .1) (y .copy-weights .ensures) (w .write-ladder .ensures) (s .sort-by-weight .ensures))
 
 runs-by-requires : tie.Need-runs-by-requires
-runs-by-requires c κs = let g = c .before .before .before .before .before .before .before .before .before .before .before .before .before .before .before in order-low _ _ (g .pre .0) (g .pre .1) (c .before .before .before .before .before .before .before .before .before .before .before .copy-weights .ensures) (c .before .before .before .before .before .before .before .write-ladder .ensures) (c .before .before .before .sort-by-weight .ensures)
+runs-by-requires c κs =
+    let s = c .before .before .before in
+    let w = s .before .before .before .before in
+    let y = w .before .before .before .before in
+    let g = y .before .before .before .before in
+    order-low _ _ (g .pre .0) (g .pre .1) (y .copy-weights .ensures) (w .write-ladder .ensures) (s .sort-by-weight .ensures)
 
 same-length : tie.Need-same-length
 same-length c = search needs
 
 returns : tie.Need-returns
-returns c = let g = c .before .before .before .before .before .before .before .before .before .before .before .before .before .before .before .before .before .before in different _ _ (g .pre .0) (g .pre .1) (c .before .before .before .before .before .before .before .before .before .before .before .before .before .before .copy-weights .ensures) (c .before .before .before .before .before .before .before .before .before .before .write-ladder .ensures) (c .before .before .before .before .before .before .sort-by-weight .ensures) (c .before .before .runs-by .ensures)
+returns c =
+    let s = c .before .before .before .before .before .before in
+    let w = s .before .before .before .before in
+    let y = w .before .before .before .before in
+    let g = y .before .before .before .before in
+    different _ _ (g .pre .0) (g .pre .1) (y .copy-weights .ensures) (w .write-ladder .ensures) (s .sort-by-weight .ensures) (c .before .before .runs-by .ensures)
 
 pub distinct-spec : {M : Type 1} → statement M
 distinct-spec =

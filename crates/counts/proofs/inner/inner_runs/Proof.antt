@@ -26,34 +26,70 @@ wide-requires : tie.Need-wide-requires Inv-loop μ-loop
 wide-requires c κs = search needs
 
 add-to : tie.Need-add-to Inv-loop μ-loop
-add-to c = let l = c .before .before .before .loop .inv in let t = c .before .before .loop-test .taken in let w = c .wide .ensures in omega (arith, string-here l t w, c .before .before .before .before .before .before .pre .few-letters)
+add-to c =
+    let w = c in
+    let t = w .before .before in
+    let l = t .before in
+    omega (arith, string-here (l .loop .inv) (t .loop-test .taken) (w .wide .ensures), l .before .before .before .pre .few-letters)
 
 add-to-2 : tie.Need-add-to-2 Inv-loop μ-loop
-add-to-2 c = let l = c .before .before .before .loop .inv in let t = c .before .before .loop-test .taken in let w = c .wide .ensures in omega (arith, string-here l t w, c .before .before .before .before .before .before .pre .few-letters)
+add-to-2 c =
+    let w = c in
+    let t = w .before .before in
+    let l = t .before in
+    omega (arith, string-here (l .loop .inv) (t .loop-test .taken) (w .wide .ensures), l .before .before .before .pre .few-letters)
 
 sub-to : tie.Need-sub-to Inv-loop μ-loop
-sub-to c = let l = c .before .before .before .loop .inv in let t = c .before .before .loop-test .taken in let w = c .wide .ensures in omega (arith, string-here l t w)
+sub-to c =
+    let w = c in
+    let t = w .before .before in
+    let l = t .before in
+    omega (arith, string-here (l .loop .inv) (t .loop-test .taken) (w .wide .ensures))
 
 add-to-3 : tie.Need-add-to-3 Inv-loop μ-loop
-add-to-3 c = let l = c .before .before .before .loop .inv in let t = c .before .before .loop-test .taken in let w = c .wide .ensures in omega (arith, weights-inside l t w)
+add-to-3 c =
+    let w = c in
+    let t = w .before .before in
+    let l = t .before in
+    omega (arith, weights-inside (l .loop .inv) (t .loop-test .taken) (w .wide .ensures))
 
 mul-count-runs : tie.Need-mul-count-runs Inv-loop μ-loop
-mul-count-runs c = let l = c .before .before .before .loop .inv in let t = c .before .before .loop-test .taken in let w = c .wide .ensures in omega (arith, weights-inside l t w)
+mul-count-runs c =
+    let w = c in
+    let t = w .before .before in
+    let l = t .before in
+    omega (arith, weights-inside (l .loop .inv) (t .loop-test .taken) (w .wide .ensures))
 
 sub-count-runs : tie.Need-sub-count-runs Inv-loop μ-loop
-sub-count-runs c = let l = c .before .before .before .loop .inv in let t = c .before .before .loop-test .taken in let w = c .wide .ensures in omega (arith, weights-inside l t w)
+sub-count-runs c =
+    let w = c in
+    let t = w .before .before in
+    let l = t .before in
+    omega (arith, weights-inside (l .loop .inv) (t .loop-test .taken) (w .wide .ensures))
 
 part-count-runs-start : tie.Need-part-count-runs-start Inv-loop μ-loop
-part-count-runs-start c = let l = c .before .before .before .loop .inv in let t = c .before .before .loop-test .taken in let w = c .wide .ensures in omega (arith, weights-inside l t w)
+part-count-runs-start c =
+    let w = c in
+    let t = w .before .before in
+    let l = t .before in
+    omega (arith, weights-inside (l .loop .inv) (t .loop-test .taken) (w .wide .ensures))
 
 part-count-runs-end : tie.Need-part-count-runs-end Inv-loop μ-loop
-part-count-runs-end c = let l = c .before .before .before .loop .inv in let t = c .before .before .loop-test .taken in let w = c .wide .ensures in omega (arith, weights-inside l t w)
+part-count-runs-end c =
+    let w = c in
+    let t = w .before .before in
+    let l = t .before in
+    omega (arith, weights-inside (l .loop .inv) (t .loop-test .taken) (w .wide .ensures))
 
 count-runs-requires : tie.Need-count-runs-requires Inv-loop μ-loop
 count-runs-requires c κs = search needs
 
 add-r : tie.Need-add-r Inv-loop μ-loop
-add-r c = let l = c .before .before .before .before .before .loop .inv in let t = c .before .before .before .before .loop-test .taken in let w = c .before .before .wide .ensures in omega (arith, runs-inside l t w (c .count-runs .ensures))
+add-r c =
+    let w = c .before .before in
+    let t = w .before .before in
+    let l = t .before in
+    omega (arith, runs-inside (l .loop .inv) (t .loop-test .taken) (w .wide .ensures) (c .count-runs .ensures))
 
 add-i : tie.Need-add-i Inv-loop μ-loop
 add-i c = search needs
@@ -62,7 +98,11 @@ loop-less : tie.Need-loop-less Inv-loop μ-loop
 loop-less c = search needs
 
 loop-again : tie.Need-loop-again Inv-loop μ-loop
-loop-again c = let l = c .before .before .before .before .before .loop .inv in let t = c .before .before .before .before .loop-test .taken in let w = c .before .before .wide .ensures in added l t w (c .before .before .before .before .before .before .before .before .pre .ends-long .k-low) (c .count-runs .ensures)
+loop-again c =
+    let w = c .before .before in
+    let t = w .before .before in
+    let l = t .before in
+    added (l .loop .inv) (t .loop-test .taken) (w .wide .ensures) (l .before .before .before .pre .ends-long .k-low) (c .count-runs .ensures)
 
 returns : tie.Need-returns Inv-loop μ-loop
 returns c = added-all (c .before .loop .inv) (c .loop-test .left)

@@ -31,16 +31,22 @@ loop-less : tie.Need-loop-less Inv-loop μ-loop
 loop-less c = search needs
 
 loop-again : tie.Need-loop-again Inv-loop μ-loop
-loop-again c = let l = c .before .before .before .loop in omega (arith, l .inv, largest-next (c .before .before .before .before .args .weights .now) (l .i) (c .before .before .loop-test .taken), c .if1 .taken)
+loop-again c =
+    let l = c .before .before .before .loop in
+    omega (arith, l .inv, largest-next (c .before .before .before .before .args .weights .now) (l .i) (c .before .before .loop-test .taken), c .if1 .taken)
 
 loop-less-2 : tie.Need-loop-less-2 Inv-loop μ-loop
 loop-less-2 c = search needs
 
 loop-again-2 : tie.Need-loop-again-2 Inv-loop μ-loop
-loop-again-2 c = let l = c .before .before .before .loop in omega (arith, l .inv, largest-next (c .before .before .before .before .args .weights .now) (l .i) (c .before .before .loop-test .taken), c .if1 .left)
+loop-again-2 c =
+    let l = c .before .before .before .loop in
+    omega (arith, l .inv, largest-next (c .before .before .before .before .args .weights .now) (l .i) (c .before .before .loop-test .taken), c .if1 .left)
 
 returns : tie.Need-returns Inv-loop μ-loop
-returns c = let l = c .before .loop in omega (arith, l .inv, largest-end (c .before .before .args .weights .now) (l .i) (c .loop-test .left))
+returns c =
+    let l = c .before .loop in
+    omega (arith, l .inv, largest-end (c .before .before .args .weights .now) (l .i) (c .loop-test .left))
 
 pub largest-spec : {M : Type 1} → statement M
 largest-spec =

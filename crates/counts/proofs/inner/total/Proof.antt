@@ -28,7 +28,10 @@ wide-requires : tie.Need-wide-requires Inv-loop μ-loop
 wide-requires c κs = search needs
 
 add-t : tie.Need-add-t Inv-loop μ-loop
-add-t c = let l = c .before .before .before .loop in let g = c .before .before .before .before .before in omega (arith, l .inv .1, c .wide .ensures, weight-low (g .args .weights .now) (g .pre .in-range) (l .i) (c .before .before .loop-test .taken), g .pre .few, c .before .before .loop-test .taken)
+add-t c =
+    let l = c .before .before .before .loop in
+    let g = c .before .before .before .before .before in
+    omega (arith, l .inv .1, c .wide .ensures, weight-low (g .args .weights .now) (g .pre .in-range) (l .i) (c .before .before .loop-test .taken), g .pre .few, c .before .before .loop-test .taken)
 
 add-i : tie.Need-add-i Inv-loop μ-loop
 add-i c = search needs
@@ -37,10 +40,15 @@ loop-less : tie.Need-loop-less Inv-loop μ-loop
 loop-less c = search needs
 
 loop-again : tie.Need-loop-again Inv-loop μ-loop
-loop-again c = let l = c .before .before .before .loop in let g = c .before .before .before .before .before in (omega (arith, l .inv .0, c .wide .ensures, sum-next (g .args .weights .now) (l .i) (c .before .before .loop-test .taken)), omega (arith, l .inv .1, c .wide .ensures, weight-low (g .args .weights .now) (g .pre .in-range) (l .i) (c .before .before .loop-test .taken)))
+loop-again c =
+    let l = c .before .before .before .loop in
+    let g = c .before .before .before .before .before in
+    (omega (arith, l .inv .0, c .wide .ensures, sum-next (g .args .weights .now) (l .i) (c .before .before .loop-test .taken)), omega (arith, l .inv .1, c .wide .ensures, weight-low (g .args .weights .now) (g .pre .in-range) (l .i) (c .before .before .loop-test .taken)))
 
 returns : tie.Need-returns Inv-loop μ-loop
-returns c = let l = c .before .loop in omega (arith, l .inv .0, sum-end (c .before .before .before .args .weights .now) (l .i) (c .loop-test .left))
+returns c =
+    let l = c .before .loop in
+    omega (arith, l .inv .0, sum-end (c .before .before .before .args .weights .now) (l .i) (c .loop-test .left))
 
 pub total-spec : {M : Type 1} → statement M
 total-spec =

@@ -1,7 +1,6 @@
 -- `weigh_ids` meets its contract. Invariant: the ids before i are replaced, the others are as they were. Assumes nothing.
 use native.Mathlib.Omega.{arith}
-use mathlib.Core.Path.{sym, subst}
-use Prim.Native.Nat.{ℕ, _-_, _<_}
+use Prim.Native.Nat.{_-_}
 use lib.ListN.{length, length-set}
 use Rattle.counts.proofs.Ids.{Weighing, weighing, id-low, weighed, weighed-all}
 use borrow.Author.Needs.{needs}

@@ -29,7 +29,11 @@ same-length : tie.Need-same-length
 same-length c = search needs
 
 returns : tie.Need-returns
-returns c = counted-from _ _ _ _ (c .before .before .total .ensures) (c .before .before .before .before .before .before .before .inner-runs .ensures .0) (c .before .count-runs .ensures) (c .before .before .before .before .before .distinct .ensures .0) (c .bits .ensures)
+returns c =
+    let n = c .before .before in
+    let d = n .before .before .before in
+    let i = d .before .before in
+    counted-from _ _ _ _ (n .total .ensures) (i .inner-runs .ensures .0) (c .before .count-runs .ensures) (d .distinct .ensures .0) (c .bits .ensures)
 
 pub count-all-spec : {M : Type 1} → statement M
 count-all-spec =

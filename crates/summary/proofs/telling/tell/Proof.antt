@@ -16,25 +16,60 @@ enum-known-a : tie.Need-enum-known-a
 enum-known-a c = search needs
 
 slice-reshare-prefix-tell-checked : tie.Need-slice-reshare-prefix-tell-checked
-slice-reshare-prefix-tell-checked c = let g = c .before .before .before .before .before .before .before .before .before .before .before .before .before .before .before .before .before .before .before in let x = g .args in parts-inside (x .sheet .now) (x .letters .now) (x .ends .now) (x .weights .now) _ _ (c .before .before .before .before .before .before .before .before .before .before .before .before .before .if1 .left) (g .pre) (c .before .before .before .before .before .before .before .before .before .read .ensures) (c .before .a .given .1) .0
+slice-reshare-prefix-tell-checked c =
+    let a = c .before in
+    let r = a .before .before .before .before .before .before .before .before in
+    let t = r .before .before .before .before in
+    let g = t .before .before .before .before .before .before in
+    parts-inside _ _ _ _ _ _ (t .if1 .left) (g .pre) (r .read .ensures) (a .a .given .1) .0
 
 slice-aggregate-tell-checked : tie.Need-slice-aggregate-tell-checked
-slice-aggregate-tell-checked c = let g = c .before .before .before .before .before .before .before .before .before .before .before .before .before .before .before .before .before .before .before .before in let x = g .args in sym (length-take-le _ _ (parts-inside (x .sheet .now) (x .letters .now) (x .ends .now) (x .weights .now) _ _ (c .before .before .before .before .before .before .before .before .before .before .before .before .before .before .if1 .left) (g .pre) (c .before .before .before .before .before .before .before .before .before .before .read .ensures) (c .before .before .a .given .1) .0))
+slice-aggregate-tell-checked c =
+    let a = c .before .before in
+    let r = a .before .before .before .before .before .before .before .before in
+    let t = r .before .before .before .before in
+    let g = t .before .before .before .before .before .before in
+    sym (length-take-le _ _ (parts-inside _ _ _ _ _ _ (t .if1 .left) (g .pre) (r .read .ensures) (a .a .given .1) .0))
 
 slice-reshare-prefix-tell-checked-2 : tie.Need-slice-reshare-prefix-tell-checked-2
-slice-reshare-prefix-tell-checked-2 c = let g = c .before .before .before .before .before .before .before .before .before .before .before .before .before .before .before .before .before .before .before .before in let x = g .args in parts-inside (x .sheet .now) (x .letters .now) (x .ends .now) (x .weights .now) _ _ (c .before .before .before .before .before .before .before .before .before .before .before .before .before .before .if1 .left) (g .pre) (c .before .before .before .before .before .before .before .before .before .before .read .ensures) (c .before .before .a .given .1) .1
+slice-reshare-prefix-tell-checked-2 c =
+    let a = c .before .before in
+    let r = a .before .before .before .before .before .before .before .before in
+    let t = r .before .before .before .before in
+    let g = t .before .before .before .before .before .before in
+    parts-inside _ _ _ _ _ _ (t .if1 .left) (g .pre) (r .read .ensures) (a .a .given .1) .1
 
 slice-aggregate-tell-checked-2 : tie.Need-slice-aggregate-tell-checked-2
-slice-aggregate-tell-checked-2 c = let g = c .before .before .before .before .before .before .before .before .before .before .before .before .before .before .before .before .before .before .before .before .before in let x = g .args in sym (length-take-le _ _ (parts-inside (x .sheet .now) (x .letters .now) (x .ends .now) (x .weights .now) _ _ (c .before .before .before .before .before .before .before .before .before .before .before .before .before .before .before .if1 .left) (g .pre) (c .before .before .before .before .before .before .before .before .before .before .before .read .ensures) (c .before .before .before .a .given .1) .1))
+slice-aggregate-tell-checked-2 c =
+    let a = c .before .before .before in
+    let r = a .before .before .before .before .before .before .before .before in
+    let t = r .before .before .before .before in
+    let g = t .before .before .before .before .before .before in
+    sym (length-take-le _ _ (parts-inside _ _ _ _ _ _ (t .if1 .left) (g .pre) (r .read .ensures) (a .a .given .1) .1))
 
 slice-reshare-prefix-tell-checked-3 : tie.Need-slice-reshare-prefix-tell-checked-3
-slice-reshare-prefix-tell-checked-3 c = let g = c .before .before .before .before .before .before .before .before .before .before .before .before .before .before .before .before .before .before .before .before .before in let x = g .args in parts-inside (x .sheet .now) (x .letters .now) (x .ends .now) (x .weights .now) _ _ (c .before .before .before .before .before .before .before .before .before .before .before .before .before .before .before .if1 .left) (g .pre) (c .before .before .before .before .before .before .before .before .before .before .before .read .ensures) (c .before .before .before .a .given .1) .2
+slice-reshare-prefix-tell-checked-3 c =
+    let a = c .before .before .before in
+    let r = a .before .before .before .before .before .before .before .before in
+    let t = r .before .before .before .before in
+    let g = t .before .before .before .before .before .before in
+    parts-inside _ _ _ _ _ _ (t .if1 .left) (g .pre) (r .read .ensures) (a .a .given .1) .2
 
 slice-aggregate-tell-checked-3 : tie.Need-slice-aggregate-tell-checked-3
-slice-aggregate-tell-checked-3 c = let g = c .before .before .before .before .before .before .before .before .before .before .before .before .before .before .before .before .before .before .before .before .before .before in let x = g .args in sym (length-take-le _ _ (parts-inside (x .sheet .now) (x .letters .now) (x .ends .now) (x .weights .now) _ _ (c .before .before .before .before .before .before .before .before .before .before .before .before .before .before .before .before .if1 .left) (g .pre) (c .before .before .before .before .before .before .before .before .before .before .before .before .read .ensures) (c .before .before .before .before .a .given .1) .2))
+slice-aggregate-tell-checked-3 c =
+    let a = c .before .before .before .before in
+    let r = a .before .before .before .before .before .before .before .before in
+    let t = r .before .before .before .before in
+    let g = t .before .before .before .before .before .before in
+    sym (length-take-le _ _ (parts-inside _ _ _ _ _ _ (t .if1 .left) (g .pre) (r .read .ensures) (a .a .given .1) .2))
 
 tell-checked-requires : tie.Need-tell-checked-requires
-tell-checked-requires c κs = let g = c .before .before .before .before .before .before .before .before .before .before .before .before .before .before .before .before .before .before .before .before .before .before .before .before in let x = g .args in (read-judged (x .sheet .now) (x .letters .now) (x .ends .now) (x .weights .now) _ _ (c .before .before .before .before .before .before .before .before .before .before .before .before .before .before .before .before .before .before .if1 .left) (g .pre) (c .before .before .before .before .before .before .before .before .before .before .before .before .before .before .read .ensures) (c .before .before .before .before .before .before .a .given .1), tables-room (x .sheet .now) (x .letters .now) (x .ends .now) (x .weights .now) _ _ (c .before .before .before .before .before .before .before .before .before .before .before .before .before .before .before .before .before .before .if1 .left) (g .pre) (c .before .before .before .before .before .before .before .before .before .before .before .before .before .before .read .ensures) (c .before .before .before .before .before .before .a .given .1))
+tell-checked-requires c κs =
+    let a = c .before .before .before .before .before .before in
+    let r = a .before .before .before .before .before .before .before .before in
+    let t = r .before .before .before .before in
+    let g = t .before .before .before .before .before .before in
+    (read-judged _ _ _ _ _ _ (t .if1 .left) (g .pre) (r .read .ensures) (a .a .given .1), tables-room _ _ _ _ _ _ (t .if1 .left) (g .pre) (r .read .ensures) (a .a .given .1))
 
 enum-known-a-2 : tie.Need-enum-known-a-2
 enum-known-a-2 c = search needs
@@ -55,7 +90,12 @@ same-length-5 : tie.Need-same-length-5
 same-length-5 c = search needs
 
 returns-2 : tie.Need-returns-2
-returns-2 c = let g = c .before .before .before .before .before .before .before .before .before .before .before .before .before .before .before .before .before .before .before .before .before .before .before .before .before .before .before .before in let x = g .args in read-told (x .sheet .now) (x .letters .now) (x .ends .now) (x .weights .now) _ _ (c .before .before .before .before .before .before .before .before .before .before .before .before .before .before .before .before .before .before .before .before .before .before .if1 .left) (g .pre) (c .before .before .before .before .before .before .before .before .before .before .before .before .before .before .before .before .before .before .read .ensures) (c .before .before .before .before .before .before .before .before .before .before .a .given .1) (c .before .before .before .tell-checked .ensures)
+returns-2 c =
+    let a = c .before .before .before .before .before .before .before .before .before .before in
+    let r = a .before .before .before .before .before .before .before .before in
+    let t = r .before .before .before .before in
+    let g = t .before .before .before .before .before .before in
+    read-told _ _ _ _ _ _ (t .if1 .left) (g .pre) (r .read .ensures) (a .a .given .1) (c .before .before .before .tell-checked .ensures)
 
 same-length-6 : tie.Need-same-length-6
 same-length-6 c = search needs
@@ -67,7 +107,12 @@ same-length-8 : tie.Need-same-length-8
 same-length-8 c = search needs
 
 returns-3 : tie.Need-returns-3
-returns-3 c = let g = c .before .before .before .before .before .before .before .before .before .before .before .before .before .before .before .before .before .before .before in let x = g .args in read-refused (x .sheet .now) (x .letters .now) (x .ends .now) (x .weights .now) _ _ (c .before .before .before .before .before .before .before .before .before .before .before .before .before .if1 .left) (g .pre) (c .before .before .before .before .before .before .before .before .before .read .ensures) (c .before .a2 .given .1)
+returns-3 c =
+    let a = c .before in
+    let r = a .before .before .before .before .before .before .before .before in
+    let t = r .before .before .before .before in
+    let g = t .before .before .before .before .before .before in
+    read-refused _ _ _ _ _ _ (t .if1 .left) (g .pre) (r .read .ensures) (a .a2 .given .1)
 
 pub tell-spec : {M : Type 1} → statement M
 tell-spec =

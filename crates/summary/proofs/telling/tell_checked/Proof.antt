@@ -15,7 +15,10 @@ same-length : tie.Need-same-length
 same-length c = search needs
 
 returns : tie.Need-returns
-returns c = let g = c .before .before .before .before .before .before .before .before .before .before .before in let x = g .args in check-refused (x .k) (x .letters .now) (x .ends .now) (x .weights .now) (g .pre .0) (x .work .now) (g .pre .1 .2) (c .before .before .before .before .before .check .ensures) (c .before .a .given .1)
+returns c =
+    let h = c .before .before .before .before .before in
+    let g = h .before .before .before .before .before .before in
+    check-refused _ _ _ _ (g .pre .0) _ (g .pre .1 .2) (h .check .ensures) (c .before .a .given .1)
 
 enum-told : tie.Need-enum-told
 enum-told c = search needs
@@ -27,7 +30,11 @@ enum-known-b : tie.Need-enum-known-b
 enum-known-b c = search needs
 
 count-all-requires : tie.Need-count-all-requires
-count-all-requires c κs = let g = c .before .before .before .before .before .before .before .before .before .before .before .before .before .before .before .before .before .before .before .before in let x = g .args in ((strung (x .k) (x .letters .now) (x .ends .now) (x .weights .now) (g .pre .0), weighed (x .k) (x .letters .now) (x .ends .now) (x .weights .now) (g .pre .0)), (paths-low (x .k) (x .letters .now) (x .ends .now) (x .weights .now) (g .pre .0) (c .before .before .before .before .before .before .before .cover .ensures) (g .pre .1 .0) (omega (arith, g .pre .1 .1)) (c .before .before .b .given .1), omega (arith, g .pre .1 .2)))
+count-all-requires c κs =
+    let b = c .before .before in
+    let v = b .before .before .before .before .before in
+    let g = v .before .before .before .before .before .before .before .before .before .before .before .before .before in
+    ((strung _ _ _ _ (g .pre .0), weighed _ _ _ _ (g .pre .0)), (paths-low _ _ _ _ (g .pre .0) (v .cover .ensures) (g .pre .1 .0) (omega (arith, g .pre .1 .1)) (b .b .given .1), omega (arith, g .pre .1 .2)))
 
 enum-known-b-2 : tie.Need-enum-known-b-2
 enum-known-b-2 c = search needs
@@ -39,7 +46,13 @@ same-length-3 : tie.Need-same-length-3
 same-length-3 c = search needs
 
 returns-2 : tie.Need-returns-2
-returns-2 c = let g = c .before .before .before .before .before .before .before .before .before .before .before .before .before .before .before .before .before .before .before .before .before .before .before in let x = g .args in check-passed (x .k) (x .letters .now) (x .ends .now) (x .weights .now) (g .pre .0) (x .work .now) (g .pre .1 .2) (c .before .before .before .before .before .before .before .before .before .before .before .before .before .before .before .before .before .check .ensures) (c .before .before .before .before .before .before .before .before .before .before .before .before .before .enum-told .given .1) (numbers-told (x .k) (x .letters .now) (x .ends .now) (x .weights .now) (g .pre .0) (c .before .before .before .before .before .before .before .before .before .before .cover .ensures) (g .pre .1 .0) (omega (arith, g .pre .1 .1)) (c .before .before .before .before .before .b .given .1) (c .before .before .count-all .ensures))
+returns-2 c =
+    let b = c .before .before .before .before .before in
+    let v = b .before .before .before .before .before in
+    let a = v .before .before .before in
+    let h = a .before .before .before .before in
+    let g = h .before .before .before .before .before .before in
+    check-passed _ _ _ _ (g .pre .0) _ (g .pre .1 .2) (h .check .ensures) (a .enum-told .given .1) (numbers-told _ _ _ _ (g .pre .0) (v .cover .ensures) (g .pre .1 .0) (omega (arith, g .pre .1 .1)) (b .b .given .1) (c .before .before .count-all .ensures))
 
 same-length-4 : tie.Need-same-length-4
 same-length-4 c = search needs
@@ -48,7 +61,11 @@ same-length-5 : tie.Need-same-length-5
 same-length-5 c = search needs
 
 returns-3 : tie.Need-returns-3
-returns-3 c = let g = c .before .before .before .before .before .before .before .before .before .before .before .before .before .before .before .before .before .before .before in let x = g .args in cover-refused (x .k) (x .letters .now) (x .ends .now) (x .weights .now) (g .pre .0) (c .before .before .before .before .before .before .cover .ensures) (g .pre .1 .0) (omega (arith, g .pre .1 .1)) (c .before .b2 .given .1)
+returns-3 c =
+    let b = c .before in
+    let v = b .before .before .before .before .before in
+    let g = v .before .before .before .before .before .before .before .before .before .before .before .before .before in
+    cover-refused _ _ _ _ (g .pre .0) (v .cover .ensures) (g .pre .1 .0) (omega (arith, g .pre .1 .1)) (b .b2 .given .1)
 
 pub tell-checked-spec : {M : Type 1} → statement M
 tell-checked-spec =

@@ -6,25 +6,37 @@ use Rattle.summary_text.proofs.lines.put_entry.Statement.{statement}
 use Rattle.summary_text.proofs.lines.put_entry.Tie as tie
 
 copy-bytes-requires : tie.Need-copy-bytes-requires
-copy-bytes-requires c κs = let g = c .before .before .before in (omega arith, omega arith, label-room (g .args .label .now) (g .args .n) _ (g .args .out .now) (g .pre))
+copy-bytes-requires c κs =
+    let g = c .before .before .before in
+    (omega arith, omega arith, label-room (g .args .label .now) (g .args .n) _ (g .args .out .now) (g .pre))
 
 add-e : tie.Need-add-e
 add-e c = search needs
 
 slice-write-out : tie.Need-slice-write-out
-slice-write-out c = let g = c .before .before .before .before .before .before in tab-inside _ _ _ _ (g .pre) (c .before .before .copy-bytes .ensures)
+slice-write-out c =
+    let b = c .before .before in
+    tab-inside _ _ _ _ (b .before .before .before .before .pre) (b .copy-bytes .ensures)
 
 add-put-number : tie.Need-add-put-number
 add-put-number c = search needs
 
 put-number-requires : tie.Need-put-number-requires
-put-number-requires c κs = let g = c .before .before .before .before .before .before .before in digits-room _ _ _ _ (g .pre) (c .before .before .before .copy-bytes .ensures)
+put-number-requires c κs =
+    let b = c .before .before .before in
+    digits-room _ _ _ _ (b .before .before .before .before .pre) (b .copy-bytes .ensures)
 
 same-length : tie.Need-same-length
-same-length c = entry-size _ _ _ _ (c .before .before .before .before .before .before .before .before .before .before .pre) (c .before .before .before .before .before .before .copy-bytes .ensures) (c .before .before .put-number .ensures .1)
+same-length c =
+    let p = c .before .before in
+    let b = p .before .before .before .before in
+    entry-size _ _ _ _ (b .before .before .before .before .pre) (b .copy-bytes .ensures) (p .put-number .ensures .1)
 
 returns : tie.Need-returns
-returns c = let g = c .before .before .before .before .before .before .before .before .before .before in let p = c .before .before .put-number .ensures in entry-end _ _ _ _ (g .pre) (c .before .before .before .before .before .before .copy-bytes .ensures) (p .0) (p .1)
+returns c =
+    let p = c .before .before in
+    let b = p .before .before .before .before in
+    entry-end _ _ _ _ (b .before .before .before .before .pre) (b .copy-bytes .ensures) (p .put-number .ensures .0) (p .put-number .ensures .1)
 
 pub put-entry-spec : {M : Type 1} → statement M
 put-entry-spec =

@@ -1,7 +1,7 @@
 -- `digit_count` meets its contract. Invariant: the digits counted and those of what is left of the number are all, and one is counted twice. Assumes
 -- nothing.
 use mathlib.Core.Path.{_≡_}
-use Prim.Native.Nat.{ℕ, _+_, _≤_}
+use Prim.Native.Nat.{_+_, _≤_}
 use native.Mathlib.Omega.{arith}
 use lib.ListN.{length}
 use Rattle.sheet_text.specs.Numbers.{digits}
