@@ -1,6 +1,6 @@
 // RUNS lists the runs of a collection's weights; WEIGHT finds the weight of a handle in a run list.
 pub mod inner;
-mod listing;
+pub mod listing;
 
 use collection::Verdict;
 ghost use mathlib.Core.Path.{_≡_};

@@ -8,7 +8,7 @@ ghost use Rattle.runs.specs.Runs.{runCount, runWeights, runFirsts};
 ghost use Rattle.runs.specs.RunList.{follows, isRunList};
 
 // How many runs.
-pub(crate) fn count_runs(weights: &[u32]) -> usize
+pub fn count_runs(weights: &[u32]) -> usize
     ensures { λ r. ⌜ r ≡ runCount (now (weights .entry)) ⌝ }
 {
     if weights.len() == 0 {

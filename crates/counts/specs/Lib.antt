@@ -1,0 +1,2 @@
+-- What there is to count of the weights of a collection.
+pub mod Counts

@@ -1,0 +1,2 @@
+// Numbers of the weights of a judged collection.
+pub mod inner;

@@ -1,0 +1,67 @@
+-- A sheet of at most 8,192 bytes fits the tables, and the number of paths is at most that of strings. Assumes nothing.
+use mathlib.Core.Path.{refl, ap}
+use mathlib.Core.Logic.{_⊎_, inl, inr}
+use mathlib.Core.List.{List, [], _∷_}
+use Prim.Native.Nat.{ℕ, _+_, _*_, _<_, _≤_}
+use native.Mathlib.Omega.{arith}
+use lib.ListN.{length, length-append}
+use Rattle.lists.proofs.Compare.{lt-or-le}
+use Rattle.collection.specs.Strings.{Str, lettersIn, weightsIn}
+use Rattle.sheet_text.specs.Numbers.{digits}
+use Rattle.sheet_text.specs.Parts.{tab, feed}
+use Rattle.sheet_text.specs.Read.{sheetN, sheetM, sheetWeights}
+use Rattle.sheet_text.specs.Sheet.{sheetK, sheetStrings, Accepted}
+use Rattle.sheet_text.specs.Text.{weightsText, stringText, linesText, sheetText}
+use Rattle.sheet_text.proofs.Accepted.{accepted-text}
+use Rattle.trails.specs.Groups.{least}
+use Rattle.trails.specs.Places.{arranged}
+use Rattle.trails.specs.Strings.{Ends, turned}
+use Rattle.trails.proofs.Amounts.{paths-few}
+use Rattle.trails.proofs.Arranged.{length-arranged}
+use Rattle.trails.proofs.Bounds.{one-reaches}
+use Rattle.sheet_write.proofs.Decimals.{count-one, count-more}
+
+-- ─── how much a sheet holds ──────────────────────────────────────────────────
+
+digits-some : (n : ℕ) → 1 ≤ length (digits n)
+digits-some n = go (lt-or-le n 10)
+  where
+    go : (n < 10) ⊎ (10 ≤ n) → 1 ≤ length (digits n)
+    go (inl l) = omega (arith, count-one n l)
+    go (inr l) = omega (arith, count-more n l)
+
+-- each weight takes a tab and a digit, at least
+weights-size : (ws : List ℕ) → 2 * length ws ≤ length (weightsText ws)
+unfolding weightsText
+weights-size [] = omega arith
+weights-size (w ∷ ws) = omega (arith, length-append (digits w) (weightsText ws), digits-some w, weights-size ws)
+
+-- each string takes three bytes beside its letters and weights
+lines-size : (ss : List Str) → 3 * length ss + length (lettersIn ss) + 2 * length (weightsIn ss) ≤ length (linesText ss)
+unfolding linesText lettersIn weightsIn
+lines-size [] = omega arith
+lines-size (s ∷ ss) =
+    omega (
+      arith,
+      length-append (s .letters) (lettersIn ss),
+      length-append (s .weights) (weightsIn ss),
+      length-append (s .letters) (weightsText (s .weights)),
+      length-append (stringText s) (feed ∷ linesText ss),
+      weights-size (s .weights),
+      lines-size ss,
+    )
+
+-- letters, strings and weights of an accepted sheet, by its length
+pub sheet-size : (bs : List ℕ) → Accepted bs → 3 * sheetM bs + sheetN bs + 2 * sheetWeights bs ≤ length bs
+unfolding sheetText
+sheet-size bs h =
+    omega
+    (arith, lines-size (sheetStrings bs), length-append (75 ∷ (tab ∷ digits (sheetK bs))) (feed ∷ linesText (sheetStrings bs)), ap length (accepted-text bs h))
+
+-- ─── how many paths ──────────────────────────────────────────────────────────
+
+-- the least number of paths is at most the number of strings
+pub least-few : (strings : List Ends) → least strings ≤ length strings
+least-few strings =
+    let r = one-reaches strings in
+    omega (arith, r .2, paths-few (arranged turned (r .0) strings), length-arranged turned (0, 0) (length strings) (r .0) strings (r .1) refl)

@@ -1,0 +1,5 @@
+-- Laws of what `tally` says.
+pub mod Fits
+pub mod Told
+pub mod Reported
+pub mod Examples

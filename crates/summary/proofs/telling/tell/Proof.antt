@@ -1,0 +1,141 @@
+-- `tell` meets its contract, by what READ answers. Assumes nothing.
+use mathlib.Core.Path.{sym}
+use lib.Seq.{length-take-le}
+use Rattle.summary.proofs.Told.{too-long, read-refused, parts-inside, read-judged, tables-room, read-told}
+use borrow.Author.Needs.{needs}
+use Rattle.summary.proofs.telling.tell.Statement.{statement}
+use Rattle.summary.proofs.telling.tell.Tie as tie
+
+returns : tie.Need-returns
+returns c = too-long _ (c .if1 .taken)
+
+read-requires : tie.Need-read-requires
+read-requires c κs = search needs
+
+enum-known-a : tie.Need-enum-known-a
+enum-known-a c = search needs
+
+slice-reshare-prefix-tell-checked : tie.Need-slice-reshare-prefix-tell-checked
+slice-reshare-prefix-tell-checked c =
+    let a = c .before in
+    let r = a .before .before .before .before .before .before .before .before in
+    let t = r .before .before .before .before in
+    let g = t .before .before .before .before .before .before in
+    parts-inside _ _ _ _ _ _ (t .if1 .left) (g .pre) (r .read .ensures) (a .a .given .1) .0
+
+slice-aggregate-tell-checked : tie.Need-slice-aggregate-tell-checked
+slice-aggregate-tell-checked c =
+    let a = c .before .before in
+    let r = a .before .before .before .before .before .before .before .before in
+    let t = r .before .before .before .before in
+    let g = t .before .before .before .before .before .before in
+    sym (length-take-le _ _ (parts-inside _ _ _ _ _ _ (t .if1 .left) (g .pre) (r .read .ensures) (a .a .given .1) .0))
+
+slice-reshare-prefix-tell-checked-2 : tie.Need-slice-reshare-prefix-tell-checked-2
+slice-reshare-prefix-tell-checked-2 c =
+    let a = c .before .before in
+    let r = a .before .before .before .before .before .before .before .before in
+    let t = r .before .before .before .before in
+    let g = t .before .before .before .before .before .before in
+    parts-inside _ _ _ _ _ _ (t .if1 .left) (g .pre) (r .read .ensures) (a .a .given .1) .1
+
+slice-aggregate-tell-checked-2 : tie.Need-slice-aggregate-tell-checked-2
+slice-aggregate-tell-checked-2 c =
+    let a = c .before .before .before in
+    let r = a .before .before .before .before .before .before .before .before in
+    let t = r .before .before .before .before in
+    let g = t .before .before .before .before .before .before in
+    sym (length-take-le _ _ (parts-inside _ _ _ _ _ _ (t .if1 .left) (g .pre) (r .read .ensures) (a .a .given .1) .1))
+
+slice-reshare-prefix-tell-checked-3 : tie.Need-slice-reshare-prefix-tell-checked-3
+slice-reshare-prefix-tell-checked-3 c =
+    let a = c .before .before .before in
+    let r = a .before .before .before .before .before .before .before .before in
+    let t = r .before .before .before .before in
+    let g = t .before .before .before .before .before .before in
+    parts-inside _ _ _ _ _ _ (t .if1 .left) (g .pre) (r .read .ensures) (a .a .given .1) .2
+
+slice-aggregate-tell-checked-3 : tie.Need-slice-aggregate-tell-checked-3
+slice-aggregate-tell-checked-3 c =
+    let a = c .before .before .before .before in
+    let r = a .before .before .before .before .before .before .before .before in
+    let t = r .before .before .before .before in
+    let g = t .before .before .before .before .before .before in
+    sym (length-take-le _ _ (parts-inside _ _ _ _ _ _ (t .if1 .left) (g .pre) (r .read .ensures) (a .a .given .1) .2))
+
+tell-checked-requires : tie.Need-tell-checked-requires
+tell-checked-requires c κs =
+    let a = c .before .before .before .before .before .before in
+    let r = a .before .before .before .before .before .before .before .before in
+    let t = r .before .before .before .before in
+    let g = t .before .before .before .before .before .before in
+    (read-judged _ _ _ _ _ _ (t .if1 .left) (g .pre) (r .read .ensures) (a .a .given .1), tables-room _ _ _ _ _ _ (t .if1 .left) (g .pre) (r .read .ensures) (a .a .given .1))
+
+enum-known-a-2 : tie.Need-enum-known-a-2
+enum-known-a-2 c = search needs
+
+same-length : tie.Need-same-length
+same-length c = search needs
+
+same-length-2 : tie.Need-same-length-2
+same-length-2 c = search needs
+
+same-length-3 : tie.Need-same-length-3
+same-length-3 c = search needs
+
+same-length-4 : tie.Need-same-length-4
+same-length-4 c = search needs
+
+same-length-5 : tie.Need-same-length-5
+same-length-5 c = search needs
+
+returns-2 : tie.Need-returns-2
+returns-2 c =
+    let a = c .before .before .before .before .before .before .before .before .before .before in
+    let r = a .before .before .before .before .before .before .before .before in
+    let t = r .before .before .before .before in
+    let g = t .before .before .before .before .before .before in
+    read-told _ _ _ _ _ _ (t .if1 .left) (g .pre) (r .read .ensures) (a .a .given .1) (c .before .before .before .tell-checked .ensures)
+
+same-length-6 : tie.Need-same-length-6
+same-length-6 c = search needs
+
+same-length-7 : tie.Need-same-length-7
+same-length-7 c = search needs
+
+same-length-8 : tie.Need-same-length-8
+same-length-8 c = search needs
+
+returns-3 : tie.Need-returns-3
+returns-3 c =
+    let a = c .before in
+    let r = a .before .before .before .before .before .before .before .before in
+    let t = r .before .before .before .before in
+    let g = t .before .before .before .before .before .before in
+    read-refused _ _ _ _ _ _ (t .if1 .left) (g .pre) (r .read .ensures) (a .a2 .given .1)
+
+pub tell-spec : {M : Type 1} → statement M
+tell-spec =
+    tie.close
+    (tie.spec
+    returns
+    read-requires
+    enum-known-a
+    slice-reshare-prefix-tell-checked
+    slice-aggregate-tell-checked
+    slice-reshare-prefix-tell-checked-2
+    slice-aggregate-tell-checked-2
+    slice-reshare-prefix-tell-checked-3
+    slice-aggregate-tell-checked-3
+    tell-checked-requires
+    enum-known-a-2
+    same-length
+    same-length-2
+    same-length-3
+    same-length-4
+    same-length-5
+    returns-2
+    same-length-6
+    same-length-7
+    same-length-8
+    returns-3)

@@ -1,0 +1,3 @@
+-- What `tally` says of a sheet.
+pub mod Summary
+pub mod Report

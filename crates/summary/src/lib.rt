@@ -1,0 +1,28 @@
+// What `tally` does: from the bytes of a sheet to the bytes of a report.
+mod telling;
+
+use summary_text::ReportAnswer;
+ghost use mathlib.Core.Path.{_≡_};
+ghost use Rattle.summary_text.specs.Written.{outcome};
+ghost use Rattle.summary.specs.Report.{reportOf};
+
+// Writes what there is to say of a sheet. The tables that READ, CHECK and COVER need stand on the stack; a sheet of at most
+// 8,192 bytes fits them.
+pub fn report(sheet: &[u8], text: &mut [u8]) -> ReportAnswer
+    ensures { λ r. ⌜ outcome r (now (text .exit)) ≡ reportOf (now (sheet .entry)) (now (text .entry)) ⌝ }
+{
+    let mut letters = [0u8; 8192];
+    let mut ends = [0u32; 4096];
+    let mut weights = [0u32; 4096];
+    let mut places = [0i32; 4096];
+    let mut work = [0u32; 65536];
+    let s = telling::tell(
+        sheet,
+        &mut letters,
+        &mut ends,
+        &mut weights,
+        &mut places,
+        &mut work,
+    );
+    summary_text::write_summary(s, text)
+}

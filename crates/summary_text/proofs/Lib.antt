@@ -1,0 +1,4 @@
+-- Laws of the text of a summary.
+pub mod Decimals
+pub mod Stored
+pub mod Outcomes

@@ -1,0 +1,211 @@
+-- Lines of a label and a number: how long they are, and how they are stored. Assumes nothing.
+use mathlib.Core.Path.{_≡_, refl, sym, ap, _∙_}
+use mathlib.Core.List.{List, [], _∷_, _++_, append-assoc}
+use Prim.Native.Nat.{ℕ, _+_, _-_, _<_, _≤_}
+use native.Mathlib.Omega.{arith}
+use lib.ListN.{length, take, drop, set, length-append}
+use lib.Seq.{take-all}
+use Rattle.lists.specs.Fill.{put, fill}
+use Rattle.lists.proofs.Puts.{put-only}
+use Rattle.lists.proofs.Storing.{Storing, begin-at, begin, inside, store, restated, stored}
+use Rattle.sheet_text.specs.Numbers.{digits}
+use Rattle.sheet_text.specs.Parts.{tab, feed}
+use Rattle.sheet_text.proofs.Blocks.{block-room, store-block}
+use Rattle.summary_text.specs.Text.{entry, line, lines, stringsLabel, kmersLabel, totalLabel, innerLabel, givenLabel, pathsLabel, leastLabel, distinctLabel, bitsLabel, refusedLabel, countedText, refusedText}
+
+-- ─── how long ────────────────────────────────────────────────────────────────
+
+pub entry-length : (label : List ℕ) (n : ℕ) → length (entry label n) ≡ length label + 1 + length (digits n)
+unfolding entry
+entry-length label n = omega (arith, length-append label (tab ∷ digits n))
+
+pub line-length : (label : List ℕ) (n : ℕ) → length (line label n) ≡ length label + 2 + length (digits n)
+unfolding line
+line-length label n = omega (arith, length-append (entry label n) (feed ∷ []), entry-length label n)
+
+lines-more : (label : List ℕ) (n : ℕ) (ls : List (List ℕ × ℕ)) → length (lines ((label, n) ∷ ls)) ≡ length (line label n) + length (lines ls)
+unfolding lines
+lines-more label n ls = length-append (line label n) (lines ls)
+
+lines-append : (xs ys : List (List ℕ × ℕ)) → lines (xs ++ ys) ≡ lines xs ++ lines ys
+unfolding lines
+lines-append [] ys = refl
+lines-append (x ∷ xs) ys = ap (λ (r : List ℕ). line (x .0) (x .1) ++ r) (lines-append xs ys) ∙ sym (append-assoc (line (x .0) (x .1)) (lines xs) (lines ys))
+
+lines-none : length (lines []) ≡ 0
+unfolding lines
+lines-none = refl
+
+module _ (l₁ : List ℕ) (n₁ : ℕ) (l₂ : List ℕ) (n₂ : ℕ) (l₃ : List ℕ) (n₃ : ℕ) where
+  abbrev three : List (List ℕ × ℕ)
+  three = (l₁, n₁) ∷ (l₂, n₂) ∷ (l₃, n₃) ∷ []
+
+  three-lines : length (lines three) ≡ length (line l₁ n₁) + length (line l₂ n₂) + length (line l₃ n₃)
+  three-lines = omega (arith, lines-more l₁ n₁ ((l₂, n₂) ∷ (l₃, n₃) ∷ []), lines-more l₂ n₂ ((l₃, n₃) ∷ []), lines-more l₃ n₃ [], lines-none)
+
+  three-length : length (lines three) ≡ length l₁ + length l₂ + length l₃ + (length (digits n₁) + length (digits n₂) + length (digits n₃) + 6)
+  three-length = omega (arith, three-lines, line-length l₁ n₁, line-length l₂ n₂, line-length l₃ n₃)
+
+module _ (strings kmers total inner given paths least distinct bits : ℕ) where
+  abbrev some : List (List ℕ × ℕ)
+  some = three stringsLabel strings kmersLabel kmers totalLabel total
+
+  abbrev more : List (List ℕ × ℕ)
+  more = three innerLabel inner givenLabel given pathsLabel paths
+
+  abbrev last : List (List ℕ × ℕ)
+  last = three leastLabel least distinctLabel distinct bitsLabel bits
+
+  nine-parts : countedText strings kmers total inner given paths least distinct bits ≡ lines some ++ (lines more ++ lines last)
+  unfolding countedText
+  nine-parts = lines-append some (more ++ last) ∙ ap (λ (r : List ℕ). lines some ++ r) (lines-append more last)
+
+  nine-lines : length (countedText strings kmers total inner given paths least distinct bits) ≡ length (lines some) + (length (lines more) + length (lines last))
+  nine-lines = omega (arith, ap length nine-parts, length-append (lines some) (lines more ++ lines last), length-append (lines more) (lines last))
+
+  -- the nine labels have 49 letters
+  pub counted-length : {a b c : ℕ} → a ≡ length (digits strings) + length (digits kmers) + length (digits total) + 6
+      → b ≡ length (digits inner) + length (digits given) + length (digits paths) + 6 → c ≡ length (digits least) + length (digits distinct) + length (digits bits) + 6
+      → 49 + a + b + c ≡ length (countedText strings kmers total inner given paths least distinct bits)
+  counted-length p q r =
+      omega (arith, p, q, r, nine-lines, three-length stringsLabel strings kmersLabel kmers totalLabel total, three-length innerLabel inner givenLabel given pathsLabel paths, three-length leastLabel least distinctLabel distinct bitsLabel bits)
+
+-- `refused`, two tabs and a feed are ten bytes
+pub refused-length : (number place : ℕ) {a b : ℕ} → a ≡ length (digits number) → b ≡ length (digits place) → 10 + a + b ≡ length (refusedText number place)
+unfolding refusedText
+refused-length number place p q =
+    omega (arith, p, q, length-append (entry refusedLabel number) (line [] place), entry-length refusedLabel number, line-length [] place)
+
+-- ─── an entry ────────────────────────────────────────────────────────────────
+
+whole : (l : List ℕ) → take (length l - 0) (drop 0 l) ≡ l
+whole l = take-all (length l - 0) l (omega arith)
+
+module _ (label : List ℕ) (n at : ℕ) (out : List ℕ) (room : at + length (entry label n) ≤ length out) where
+  entry-begun : Storing (length out) out (put at (entry label n) out) (label ++ (tab ∷ digits n)) at
+  unfolding entry
+  entry-begun = begin-at at out (entry label n) room
+
+  pub label-room : at + (length label - 0) ≤ length out
+  label-room = omega (arith, entry-length label n)
+
+  module _ {out₁ : List ℕ} (f : out₁ ≡ put at (take (length label - 0) (drop 0 label)) out) where
+    labelled : Storing (length out) out₁ (put at (entry label n) out) (tab ∷ digits n) (at + length label)
+    labelled = store-block label (tab ∷ digits n) entry-begun (f ∙ ap (λ (l : List ℕ). put at l out) (whole label)) refl
+
+    pub tab-inside : at + length label < length out₁
+    tab-inside = inside labelled
+
+    pub digits-room : at + length label + 1 + length (digits n) ≤ length (set out₁ (at + length label) tab)
+    digits-room = store labelled .room
+
+    pub entry-size : {out₂ : List ℕ} → out₂ ≡ put (at + length label + 1) (digits n) (set out₁ (at + length label) tab) → length out₂ ≡ length out
+    entry-size g = ap length g ∙ (put-only (at + length label + 1) (digits n) (set out₁ (at + length label) tab) digits-room .size ∙ store labelled .size-kept)
+
+    pub entry-end : {p : ℕ} {out₂ : List ℕ} → p ≡ at + length label + 1 + length (digits n) → out₂ ≡ put (at + length label + 1) (digits n) (set out₁ (at + length label) tab)
+        → (p ≡ at + length (entry label n)) × (out₂ ≡ put at (entry label n) out)
+    entry-end q g = (omega (arith, q, entry-length label n), g ∙ store labelled .ends)
+
+-- ─── a line ──────────────────────────────────────────────────────────────────
+
+module _ (label : List ℕ) (n at : ℕ) (out : List ℕ) (room : at + length (line label n) ≤ length out) where
+  line-begun : Storing (length out) out (put at (line label n) out) (entry label n ++ (feed ∷ [])) at
+  unfolding line
+  line-begun = begin-at at out (line label n) room
+
+  pub entry-room : at + length (entry label n) ≤ length out
+  entry-room = block-room (entry label n) (feed ∷ []) line-begun
+
+  module _ {p : ℕ} {out₁ : List ℕ} (q : p ≡ at + length (entry label n)) (f : out₁ ≡ put at (entry label n) out) where
+    ended : Storing (length out) out₁ (put at (line label n) out) (feed ∷ []) p
+    ended = store-block (entry label n) (feed ∷ []) line-begun f q
+
+    pub feed-inside : p < length out₁
+    feed-inside = inside ended
+
+    pub line-end : (p + 1 ≡ at + length (line label n)) × (set out₁ p feed ≡ put at (line label n) out)
+    line-end = (omega (arith, q, entry-length label n, line-length label n), stored (store ended))
+
+-- ─── three lines ─────────────────────────────────────────────────────────────
+
+-- the lines ls are still to be stored, from p on, and end at `total`
+pub record Lining (size total : ℕ) (target : List ℕ) (ls : List (List ℕ × ℕ)) (out : List ℕ) (p : ℕ) : Type 0 where
+  pub storing : Storing size out target (lines ls) p
+  pub place : p + length (lines ls) ≡ total
+
+pub lining : (ls : List (List ℕ × ℕ)) (at : ℕ) (out : List ℕ) → at + length (lines ls) ≤ length out → Lining (length out) (at + length (lines ls)) (put at (lines ls) out) ls out at
+lining ls at out h = record { storing = begin-at at out (lines ls) h; place = refl }
+
+module _ {size total : ℕ} {target : List ℕ} {label : List ℕ} {n : ℕ} {ls : List (List ℕ × ℕ)} {out : List ℕ} {p : ℕ} (s : Lining size total target ((label, n) ∷ ls) out p) where
+  here : Storing size out target (line label n ++ lines ls) p
+  unfolding lines
+  here = s .storing
+
+  pub line-room : p + length (line label n) ≤ length out
+  line-room = block-room (line label n) (lines ls) here
+
+  pub lined : {p' : ℕ} {out' : List ℕ} → p' ≡ p + length (line label n) → out' ≡ put p (line label n) out → Lining size total target ls out' p'
+  lined q f = record { storing = store-block (line label n) (lines ls) here f q; place = omega (arith, q, s .place, lines-more label n ls) }
+
+pub lined-all : {size total : ℕ} {target out : List ℕ} {p : ℕ} → Lining size total target [] out p → (p ≡ total) × (out ≡ target)
+unfolding lines
+lined-all s = (omega (arith, s .place, lines-none), stored (s .storing))
+
+-- ─── the whole text ──────────────────────────────────────────────────────────
+
+module _ (strings kmers total inner given paths least distinct bits : ℕ) (text : List ℕ) (room : length (countedText strings kmers total inner given paths least distinct bits) ≤ length text) where
+  abbrev target : List ℕ
+  target = fill (countedText strings kmers total inner given paths least distinct bits) text
+
+  abbrev first-lines : List ℕ
+  first-lines = lines (three stringsLabel strings kmersLabel kmers totalLabel total)
+
+  abbrev next-lines : List ℕ
+  next-lines = lines (three innerLabel inner givenLabel given pathsLabel paths)
+
+  abbrev last-lines : List ℕ
+  last-lines = lines (three leastLabel least distinctLabel distinct bitsLabel bits)
+
+  counted-begun : Storing (length text) text target (first-lines ++ (next-lines ++ last-lines)) 0
+  counted-begun = restated (nine-parts strings kmers total inner given paths least distinct bits) (begin text (countedText strings kmers total inner given paths least distinct bits) room)
+
+  pub some-room : 0 + length first-lines ≤ length text
+  some-room = block-room first-lines (next-lines ++ last-lines) counted-begun
+
+  module _ {p₁ : ℕ} {text₁ : List ℕ} (q₁ : p₁ ≡ 0 + length first-lines) (f₁ : text₁ ≡ put 0 first-lines text) where
+    some-stored : Storing (length text) text₁ target (next-lines ++ last-lines) p₁
+    some-stored = store-block first-lines (next-lines ++ last-lines) counted-begun f₁ q₁
+
+    pub more-room : p₁ + length next-lines ≤ length text₁
+    more-room = block-room next-lines last-lines some-stored
+
+    module _ {p₂ : ℕ} {text₂ : List ℕ} (q₂ : p₂ ≡ p₁ + length next-lines) (f₂ : text₂ ≡ put p₁ next-lines text₁) where
+      more-stored : Storing (length text) text₂ target last-lines p₂
+      more-stored = store-block next-lines last-lines some-stored f₂ q₂
+
+      pub last-room : p₂ + length last-lines ≤ length text₂
+      last-room = more-stored .room
+
+      pub counted-end : {p₃ : ℕ} {text₃ : List ℕ} → p₃ ≡ p₂ + length last-lines → text₃ ≡ put p₂ last-lines text₂
+          → (p₃ ≡ length (countedText strings kmers total inner given paths least distinct bits)) × (text₃ ≡ target)
+      counted-end q₃ f₃ = (omega (arith, q₁, q₂, q₃, nine-lines strings kmers total inner given paths least distinct bits), f₃ ∙ more-stored .ends)
+
+module _ (number place : ℕ) (text : List ℕ) (room : length (refusedText number place) ≤ length text) where
+  refused-begun : Storing (length text) text (fill (refusedText number place) text) (entry refusedLabel number ++ line [] place) 0
+  unfolding refusedText
+  refused-begun = begin text (refusedText number place) room
+
+  pub number-room : 0 + length (entry refusedLabel number) ≤ length text
+  number-room = block-room (entry refusedLabel number) (line [] place) refused-begun
+
+  module _ {p : ℕ} {text₁ : List ℕ} (q : p ≡ 0 + length (entry refusedLabel number)) (f : text₁ ≡ put 0 (entry refusedLabel number) text) where
+    number-stored : Storing (length text) text₁ (fill (refusedText number place) text) (line [] place) p
+    number-stored = store-block (entry refusedLabel number) (line [] place) refused-begun f q
+
+    pub place-room : p + length (line [] place) ≤ length text₁
+    place-room = number-stored .room
+
+    pub refused-end : {p' : ℕ} {text₂ : List ℕ} → p' ≡ p + length (line [] place) → text₂ ≡ put p (line [] place) text₁
+        → (p' ≡ length (refusedText number place)) × (text₂ ≡ fill (refusedText number place) text)
+    unfolding refusedText
+    refused-end q' f' = (omega (arith, q, q', length-append (entry refusedLabel number) (line [] place)), f' ∙ number-stored .ends)

@@ -1,0 +1,48 @@
+// Lines of a label and a number.
+use crate::numbers;
+ghost use mathlib.Core.Path.{_≡_};
+ghost use mathlib.Core.List.{[], _∷_};
+ghost use Prim.Native.Nat.{_+_, _≤_};
+ghost use lib.ListN.{length};
+ghost use Rattle.lists.specs.Fill.{put};
+ghost use Rattle.summary_text.specs.Text.{entry, line, lines};
+
+// A label, a tab, and a number, from a place on; answers where they end.
+pub(crate) fn put_entry(label: &[u8], n: usize, out: &mut [u8], at: usize) -> usize
+    requires { ⌜ at + length (entry (now label) n) ≤ length (now out) ⌝ }
+    ensures { λ r. ⌜ (r ≡ at + length (entry (now (label .entry)) n)) × (now (out .exit) ≡ put at (entry (now (label .entry)) n) (now (out .entry))) ⌝ }
+{
+    sheet_lines::inner::copy_bytes(label, 0, label.len(), out, at);
+    let e = at + label.len();
+    out[e] = 9;
+    numbers::put_number(n, out, e + 1)
+}
+
+// The same as a line.
+pub(crate) fn put_line(label: &[u8], n: usize, out: &mut [u8], at: usize) -> usize
+    requires { ⌜ at + length (line (now label) n) ≤ length (now out) ⌝ }
+    ensures { λ r. ⌜ (r ≡ at + length (line (now (label .entry)) n)) × (now (out .exit) ≡ put at (line (now (label .entry)) n) (now (out .entry))) ⌝ }
+{
+    let e = put_entry(label, n, out, at);
+    out[e] = 10;
+    e + 1
+}
+
+// Three lines.
+pub(crate) fn put_lines(
+    label1: &[u8],
+    n1: usize,
+    label2: &[u8],
+    n2: usize,
+    label3: &[u8],
+    n3: usize,
+    out: &mut [u8],
+    at: usize,
+) -> usize
+    requires { ⌜ at + length (lines ((now label1, n1) ∷ (now label2, n2) ∷ (now label3, n3) ∷ [])) ≤ length (now out) ⌝ }
+    ensures { λ r. ⌜ (r ≡ at + length (lines ((now (label1 .entry), n1) ∷ (now (label2 .entry), n2) ∷ (now (label3 .entry), n3) ∷ []))) × (now (out .exit) ≡ put at (lines ((now (label1 .entry), n1) ∷ (now (label2 .entry), n2) ∷ (now (label3 .entry), n3) ∷ [])) (now (out .entry))) ⌝ }
+{
+    let a = put_line(label1, n1, out, at);
+    let b = put_line(label2, n2, out, a);
+    put_line(label3, n3, out, b)
+}
