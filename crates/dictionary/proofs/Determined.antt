@@ -58,6 +58,8 @@ one-outcome =
       quick = λ k p word letters t a b e f. e ∙ sym f;
       weigh = λ answer runWeights runFirsts n a b e f. e ∙ sym f;
       weight = λ runWeights runFirsts n handle a b e f. e ∙ sym f;
+      weight-records = λ records n handle a b e f. e ∙ sym f;
+      report = λ sheet text a b e f. e ∙ sym f;
       cover = λ k letters ends weights places work a b places₁ places₂ work₁ work₂ p q. cover-only k letters ends weights places work p q;
     }
 

@@ -2,7 +2,7 @@
 -- outcome at all, is what the check of its function says: none of them asks anything of its caller.
 use mathlib.Core.Path.{_≡_}
 use mathlib.Core.Logic.{_⊎_}
-use mathlib.Core.List.{List}
+use mathlib.Core.List.{List, map}
 use Prim.Native.Nat.{ℕ, _*_}
 use lib.IntN.{ℤ}
 use lib.ListN.{length, replicate}
@@ -40,6 +40,8 @@ use Rattle.questions.specs.declared.QuickAnswer.{QuickAnswer}
 use Rattle.questions.specs.declared.WordAnswer.{WordAnswer}
 use Rattle.questions.specs.Quick.{quickOf}
 use Rattle.questions.specs.Weighed.{weighedOf}
+use Rattle.summary_text.specs.Written as reporting
+use Rattle.summary.specs.Report.{reportOf}
 
 -- a promise that one outcome alone meets
 abbrev pub One : (Out : Type 0) → (Out → Type 0) → Type 0
@@ -63,6 +65,8 @@ pub record OneOutcome : Type 0 where
   pub quick : (k p : ℕ) (word letters : List ℕ) (t : Index) → One QuickAnswer (λ r. r ≡ quickOf k p word letters t)
   pub weigh : (answer : QuickAnswer) (runWeights runFirsts : List ℕ) (n : ℕ) → One WordAnswer (λ r. r ≡ weighedOf answer runWeights runFirsts n)
   pub weight : (runWeights runFirsts : List ℕ) (n handle : ℕ) → One WeightAnswer (λ r. r ≡ weightAnswer runWeights runFirsts n handle)
+  pub weight-records : (records : List Run) (n handle : ℕ) → One WeightAnswer (λ r. r ≡ weightAnswer (map weightIn records) (map firstIn records) n handle)
+  pub report : (sheet text : List ℕ) → One reporting.Outcome (λ o. o ≡ reportOf sheet text)
   pub cover : (k : ℕ) (letters ends weights : List ℕ) (places : List ℤ) (work : List ℕ) (a b : CoverAnswer) (places₁ places₂ : List ℤ) (work₁ work₂ : List ℕ)
       → Promise k letters ends weights places work a places₁ work₁ → Promise k letters ends weights places work b places₂ work₂ → (a ≡ b) × (work₁ ≡ work₂)
 
