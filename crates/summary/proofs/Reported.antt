@@ -1,4 +1,4 @@
--- What a report that was written says: the bytes of the table's start are the text of the sheet. Assumes nothing.
+-- What a report's answer says. Assumes nothing.
 use mathlib.Core.Path.{_≡_, refl, sym, ap, _∙_}
 use mathlib.Core.List.{List}
 use Prim.Native.Nat.{ℕ, _≤_}
@@ -9,12 +9,14 @@ use Rattle.lists.proofs.Storing.{length-fill, take-fill}
 use Rattle.collection.specs.declared.Verdict.{Verdict}
 use Rattle.collection.specs.declared.Verdict.the-variants.{Good, Bad}
 use Rattle.collection.specs.Verdict.{settle, roomVerdict}
-use Rattle.collection.proofs.Verdicts.{room-good}
+use Rattle.collection.proofs.Verdicts.{room-good, settled}
 use Rattle.summary_text.specs.declared.ReportAnswer.{ReportAnswer}
 use Rattle.summary_text.specs.declared.ReportAnswer.the-variants.{Written, Refused}
 use Rattle.summary_text.specs.Written.{Outcome, outcome, writtenOf}
 use Rattle.summary.specs.Report.{textOf, reportOf}
+use Rattle.summary.proofs.Told.{good-room}
 
+-- where it is written, the table starts with the text of the sheet
 pub report-writes : (bs text : List ℕ) {answer : ReportAnswer} {n : ℕ} {text' : List ℕ} → outcome answer text' ≡ reportOf bs text → answer ≡ Written n → (n ≤ length text') × (take n text' ≡ textOf bs)
 unfolding reportOf writtenOf settle
 report-writes bs text {n = n} {text' = text'} e f = go (roomVerdict (length text) (length (textOf bs))) refl (sym (ap (λ (a : ReportAnswer). outcome a text') f) ∙ e)
@@ -32,3 +34,8 @@ report-writes bs text {n = n} {text' = text'} e f = go (roomVerdict (length text
         let a : Written n ≡ Refused number place = ap (λ (o : Outcome). o .answer) q in
         let z : _≡_ {A = ℕ} 0 1 = cc in
         absurd (let w : ⊥ = omega arith in w)
+
+-- where the text has room, it is written
+pub report-enough : (bs text : List ℕ) {answer : ReportAnswer} {text' : List ℕ} → outcome answer text' ≡ reportOf bs text → length (textOf bs) ≤ length text → answer ≡ Written (length (textOf bs))
+unfolding reportOf writtenOf
+report-enough bs text e h = ap (λ (o : Outcome). o .answer) (e ∙ sym (settled _ refl (good-room h)))

@@ -43,7 +43,7 @@ use Rattle.summary.specs.Report.{Ample}
 use Rattle.summary.specs.Summary.{numbersOf, numbersFrom, checkedOf, longVerdict, linesVerdict, summaryOf}
 use Rattle.summary.proofs.Fits.{sheet-size, least-few}
 
-good-room : {have need : ℕ} → need ≤ have → roomVerdict have need ≡ Good
+pub good-room : {have need : ℕ} → need ≤ have → roomVerdict have need ≡ Good
 unfolding roomVerdict
 good-room {have} {need} h = ap (λ t. choose t (Bad 1 0) Good) (le-ltb have need h)
 

@@ -1,5 +1,5 @@
 -- What a write comes to. Assumes nothing.
-use mathlib.Core.Path.{_≡_, sym, ap, _∙_}
+use mathlib.Core.Path.{_≡_, sym, ap, subst, _∙_}
 use mathlib.Core.List.{List}
 use Prim.Native.Nat.{ℕ, _≤_}
 use lib.ListN.{length}
@@ -31,11 +31,19 @@ module _ (bytes text : List ℕ) {n : ℕ} (e : n ≡ length bytes) {v : Verdict
   written-done q x y = settled (λ number place. outcome (answer.Refused number place) text) (λ i. outcome (answer.Written (x i)) (y i)) (sym verdict ∙ q)
 
 -- the text of each kind of summary
-module _ (text : List ℕ) {s : Summary} {o : Outcome} where
-  pub of-counted : {a b c d e f g h i : ℕ} → s ≡ Counted a b c d e f g h i → o ≡ writtenOf (countedText a b c d e f g h i) text → o ≡ writtenOf (textFor s) text
-  unfolding textFor
-  of-counted q w = w ∙ sym (ap (λ (x : Summary). writtenOf (textFor x) text) q)
+text-counted : {s : Summary} {a b c d e f g h i : ℕ} → s ≡ Counted a b c d e f g h i → textFor s ≡ countedText a b c d e f g h i
+unfolding textFor
+text-counted q = ap textFor q
 
-  pub of-refused : {number number' place : ℕ} → s ≡ Refused number place → number' ≡ number → o ≡ writtenOf (refusedText number' place) text → o ≡ writtenOf (textFor s) text
-  unfolding textFor
-  of-refused {place = place} q n w = w ∙ (ap (λ (x : ℕ). writtenOf (refusedText x place) text) n ∙ sym (ap (λ (x : Summary). writtenOf (textFor x) text) q))
+text-refused : {s : Summary} {number number' place : ℕ} → s ≡ Refused number place → number' ≡ number → textFor s ≡ refusedText number' place
+unfolding textFor
+text-refused {place = place} q n = ap textFor q ∙ ap (λ (x : ℕ). refusedText x place) (sym n)
+
+module _ (text : List ℕ) {s : Summary} {o : Outcome} {most : ℕ} where
+  pub of-counted : {a b c d e f g h i : ℕ} → s ≡ Counted a b c d e f g h i → (o ≡ writtenOf (countedText a b c d e f g h i) text) × (length (countedText a b c d e f g h i) ≤ most)
+      → (o ≡ writtenOf (textFor s) text) × (length (textFor s) ≤ most)
+  of-counted q w = subst (λ (t : List ℕ). (o ≡ writtenOf t text) × (length t ≤ most)) (sym (text-counted q)) w
+
+  pub of-refused : {number number' place : ℕ} → s ≡ Refused number place → number' ≡ number → (o ≡ writtenOf (refusedText number' place) text) × (length (refusedText number' place) ≤ most)
+      → (o ≡ writtenOf (textFor s) text) × (length (textFor s) ≤ most)
+  of-refused q n w = subst (λ (t : List ℕ). (o ≡ writtenOf t text) × (length t ≤ most)) (sym (text-refused q n)) w

@@ -96,6 +96,7 @@ fn write_counted(
     text: &mut [u8],
 ) -> ReportAnswer
     ensures { λ r. ⌜ outcome r (now (text .exit)) ≡ writtenOf (countedText strings kmers total inner given paths least distinct bits) (now (text .entry)) ⌝ }
+    ensures { λ _. ⌜ length (countedText strings kmers total inner given paths least distinct bits) ≤ 247 ⌝ }
 {
     let a = numbers_length(strings, kmers, total);
     let b = numbers_length(inner, given, paths);
@@ -131,6 +132,7 @@ fn put_refused(number: usize, place: usize, text: &mut [u8]) -> usize
 // Writes the line of a refusal, where it has room.
 fn write_refused(number: usize, place: usize, text: &mut [u8]) -> ReportAnswer
     ensures { λ r. ⌜ outcome r (now (text .exit)) ≡ writtenOf (refusedText number place) (now (text .entry)) ⌝ }
+    ensures { λ _. ⌜ length (refusedText number place) ≤ 247 ⌝ }
 {
     let a = numbers::digit_count(number);
     let b = numbers::digit_count(place);
@@ -155,9 +157,10 @@ fn wide(x: u32) -> usize
     x as usize
 }
 
-// Writes a summary, where it has room (else 1).
+// Writes a summary, where it has room (else 1). 247 bytes are room for every summary.
 pub fn write_summary(summary: Summary, text: &mut [u8]) -> ReportAnswer
     ensures { λ r. ⌜ outcome r (now (text .exit)) ≡ writtenOf (textFor summary) (now (text .entry)) ⌝ }
+    ensures { λ _. ⌜ length (textFor summary) ≤ 247 ⌝ }
 {
     match summary {
         Summary::Counted {

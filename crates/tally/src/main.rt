@@ -3,7 +3,7 @@ use libc::STDIN_FILENO;
 use libc::STDOUT_FILENO;
 use summary_text::ReportAnswer;
 
-// Nine lines, their labels and numbers of 64 bits, take at most 247 bytes.
+// A report takes at most 247 bytes, so that it always has room.
 fn tell(sheet: &[u8]) {
     let mut text = [0u8; 256];
     let answer = summary::report(sheet, &mut text);

@@ -1,5 +1,7 @@
 -- `report` meets its contract: the summary of the sheet is written. Assumes nothing.
-use mathlib.Core.Path.{ap, _∙_}
+use mathlib.Core.Path.{ap, subst, _∙_}
+use Prim.Native.Nat.{_≤_}
+use lib.ListN.{length}
 use Rattle.summary_text.specs.declared.Summary.{Summary}
 use Rattle.summary_text.specs.Text.{textFor}
 use Rattle.summary_text.specs.Written.{writtenOf}
@@ -37,7 +39,7 @@ unfolding reportOf textOf
 returns c =
     let w = c .before .before in
     let t = w .before .before .before .before .before .before .before in
-    w .write-summary .ensures ∙ ap (λ (s : Summary). writtenOf (textFor s) (t .before .before .before .before .before .before .before .before .args .text .now)) (t .tell .ensures)
+    (w .write-summary .ensures .0 ∙ ap (λ (s : Summary). writtenOf (textFor s) (t .before .before .before .before .before .before .before .before .args .text .now)) (t .tell .ensures), subst (λ (s : Summary). length (textFor s) ≤ 247) (t .tell .ensures) (w .write-summary .ensures .1))
 
 pub report-spec : {M : Type 1} → statement M
 report-spec =

@@ -1,4 +1,5 @@
 -- `write_counted` meets its contract: the length is judged, then the lines are stored. Assumes nothing.
+use native.Mathlib.Omega.{arith}
 use Rattle.summary_text.specs.Text.{countedText}
 use Rattle.summary_text.proofs.Stored.{counted-length}
 use Rattle.summary_text.proofs.Outcomes.{written-refused, written-room, written-done}
@@ -37,7 +38,7 @@ returns c =
     let y = z .before in
     let x = y .before in
     let n = counted-length _ _ _ _ _ _ _ _ _ (x .numbers-length .ensures .0) (y .numbers-length2 .ensures .0) (z .numbers-length3 .ensures .0) in
-    written-refused _ _ n (j .judge-room .ensures) (c .before .v .given .1)
+    (written-refused _ _ n (j .judge-room .ensures) (c .before .v .given .1), omega (arith, n, x .numbers-length .ensures .1, y .numbers-length2 .ensures .1, z .numbers-length3 .ensures .1))
 
 enum-told : tie.Need-enum-told
 enum-told c = search needs
@@ -64,7 +65,7 @@ returns-2 c =
     let x = y .before in
     let n = counted-length _ _ _ _ _ _ _ _ _ (x .numbers-length .ensures .0) (y .numbers-length2 .ensures .0) (z .numbers-length3 .ensures .0) in
     let p = c .before .before in
-    written-done _ _ n (j .judge-room .ensures) (c .before .before .before .before .enum-told .given .1) (p .put-counted .ensures .0) (p .put-counted .ensures .1)
+    (written-done _ _ n (j .judge-room .ensures) (c .before .before .before .before .enum-told .given .1) (p .put-counted .ensures .0) (p .put-counted .ensures .1), omega (arith, n, x .numbers-length .ensures .1, y .numbers-length2 .ensures .1, z .numbers-length3 .ensures .1))
 
 pub write-counted-spec : {M : Type 1} → statement M
 write-counted-spec =

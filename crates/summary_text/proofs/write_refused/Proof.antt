@@ -1,4 +1,5 @@
 -- `write_refused` meets its contract: the length is judged, then the line is stored. Assumes nothing.
+use native.Mathlib.Omega.{arith}
 use Rattle.summary_text.specs.Text.{refusedText}
 use Rattle.summary_text.proofs.Stored.{refused-length}
 use Rattle.summary_text.proofs.Outcomes.{written-refused, written-room, written-done}
@@ -30,7 +31,7 @@ returns c =
     let y = j .before in
     let x = y .before in
     let n = refused-length _ _ (x .digit-count .ensures .0) (y .digit-count2 .ensures .0) in
-    written-refused _ _ n (j .judge-room .ensures) (c .before .v .given .1)
+    (written-refused _ _ n (j .judge-room .ensures) (c .before .v .given .1), omega (arith, n, x .digit-count .ensures .1, y .digit-count2 .ensures .1))
 
 enum-told : tie.Need-enum-told
 enum-told c = search needs
@@ -54,7 +55,7 @@ returns-2 c =
     let x = y .before in
     let n = refused-length _ _ (x .digit-count .ensures .0) (y .digit-count2 .ensures .0) in
     let p = c .before .before in
-    written-done _ _ n (j .judge-room .ensures) (c .before .before .before .before .enum-told .given .1) (p .put-refused .ensures .0) (p .put-refused .ensures .1)
+    (written-done _ _ n (j .judge-room .ensures) (c .before .before .before .before .enum-told .given .1) (p .put-refused .ensures .0) (p .put-refused .ensures .1), omega (arith, n, x .digit-count .ensures .1, y .digit-count2 .ensures .1))
 
 pub write-refused-spec : {M : Type 1} → statement M
 write-refused-spec =

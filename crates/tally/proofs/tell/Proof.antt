@@ -22,10 +22,10 @@ returns : tie.Need-returns
 returns c = search needs
 
 array-share-prefix-text : tie.Need-array-share-prefix-text
-array-share-prefix-text c = report-writes _ _ (c .before .before .before .before .report .ensures) (c .before .answer .given .1) .0
+array-share-prefix-text c = report-writes _ _ (c .before .before .before .before .report .ensures .0) (c .before .answer .given .1) .0
 
 slice-aggregate-write-all : tie.Need-slice-aggregate-write-all
-slice-aggregate-write-all c = sym (length-take-le _ _ (report-writes _ _ (c .before .before .before .before .before .report .ensures) (c .before .before .answer .given .1) .0))
+slice-aggregate-write-all c = sym (length-take-le _ _ (report-writes _ _ (c .before .before .before .before .before .report .ensures .0) (c .before .before .answer .given .1) .0))
 
 write-all-requires : tie.Need-write-all-requires
 write-all-requires c κs = search needs
