@@ -53,6 +53,7 @@ one-outcome =
       index = λ k p letters ends weights t a b e f. e ∙ sym f;
       access = λ k letters ends handle a b e f. e ∙ sym f;
       access-start = λ k letters ends handle a b e f. e ∙ sym f;
+      access-at = λ k letters ends handle a b e f. e ∙ sym f;
       access-told = λ k letters ends handle a b e f. e ∙ sym f;
       plain = λ k letters ends weights word a b e f. e ∙ sym f;
       quick = λ k p word letters t a b e f. e ∙ sym f;

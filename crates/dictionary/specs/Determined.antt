@@ -29,8 +29,9 @@ use Rattle.runs.specs.Calls as listing
 use Rattle.runs.specs.Calls.{runsOf, weightAnswer}
 use Rattle.run_records.specs.declared.Run.{Run}
 use Rattle.run_records.specs.Records.{weightIn, firstIn}
+use Rattle.lookups.specs.declared.AccessAnswer.{AccessAnswer}
 use Rattle.lookups.specs.declared.PlainAnswer.{PlainAnswer}
-use Rattle.lookups.specs.Access.{accessVerdict, accessPart, accessStart}
+use Rattle.lookups.specs.Access.{accessVerdict, accessPart, accessStart, accessAt}
 use Rattle.lookups.specs.Plain.{plainOf}
 use Rattle.index.specs.declared.IndexAnswer.the-variants as index
 use Rattle.index.specs.Indexing as indexing
@@ -60,6 +61,7 @@ pub record OneOutcome : Type 0 where
   pub index : (k p : ℕ) (letters ends weights : List ℕ) (t : Lent) → One indexing.Outcome (λ o. o ≡ indexOf k p letters ends weights t)
   pub access : (k : ℕ) (letters ends : List ℕ) (handle : ℕ) → One (List ℕ) (λ part. part ≡ accessPart k letters ends handle)
   pub access-start : (k : ℕ) (letters ends : List ℕ) (handle : ℕ) → One ℕ (λ at. at ≡ accessStart k letters ends handle)
+  pub access-at : (k : ℕ) (letters ends : List ℕ) (handle : ℕ) → One AccessAnswer (λ r. r ≡ accessAt k letters ends handle)
   pub access-told : (k : ℕ) (letters ends : List ℕ) (handle : ℕ) → One Told (λ t. t ≡ told (accessVerdict k letters ends handle))
   pub plain : (k : ℕ) (letters ends weights word : List ℕ) → One PlainAnswer (λ r. r ≡ plainOf k letters ends weights word)
   pub quick : (k p : ℕ) (word letters : List ℕ) (t : Index) → One QuickAnswer (λ r. r ≡ quickOf k p word letters t)

@@ -6,6 +6,8 @@ use Rattle.collection.specs.declared.Verdict.{Verdict}
 use Rattle.collection.specs.Judge.{shapeVerdict, handleVerdict, kmerCount}
 use Rattle.collection.specs.Kmers.{positionOf}
 use Rattle.collection.specs.Verdict.{andThen, settle}
+use Rattle.lookups.specs.declared.AccessAnswer.{AccessAnswer}
+use Rattle.lookups.specs.declared.AccessAnswer.the-variants.{At, Refused}
 
 -- 2, 3, 4, 9
 unfoldable pub accessVerdict : ℕ → List ℕ → List ℕ → ℕ → Verdict
@@ -18,3 +20,7 @@ accessPart k letters ends handle = settle (accessVerdict k letters ends handle) 
 -- where in the lent letters the part starts: at the k-mer's position; refused, at their start
 unfoldable pub accessStart : ℕ → List ℕ → List ℕ → ℕ → ℕ
 accessStart k letters ends handle = settle (accessVerdict k letters ends handle) (λ number place. 0) (positionOf k ends handle)
+
+-- where the part starts, as an answer that carries the refusal
+unfoldable pub accessAt : ℕ → List ℕ → List ℕ → ℕ → AccessAnswer
+accessAt k letters ends handle = settle (accessVerdict k letters ends handle) Refused (At (positionOf k ends handle))

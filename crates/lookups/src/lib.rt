@@ -8,8 +8,14 @@ use collection::Verdict;
 ghost use mathlib.Core.Path.{_≡_};
 ghost use Prim.Native.Nat.{_+_};
 ghost use Rattle.collection.specs.Verdict.{told};
-ghost use Rattle.lookups.specs.Access.{accessVerdict, accessPart, accessStart};
+ghost use Rattle.lookups.specs.Access.{accessVerdict, accessPart, accessStart, accessAt};
 ghost use Rattle.lookups.specs.Plain.{plainOf};
+
+// What ACCESS answers where no part can be handed back: the position of the first of the k letters.
+pub enum AccessAnswer {
+    At { position: usize },
+    Refused { number: u32, place: usize },
+}
 
 // What PLAIN answers.
 pub enum PlainAnswer {
@@ -48,6 +54,18 @@ pub fn access_told(k: usize, letters: &[u8], ends: &[u32], handle: usize) -> Tol
         },
         Verdict::Bad { number, place } => Told { number, place },
     }
+}
+
+// ACCESS for a caller that has no use for a part: where it starts in the lent letters, or the refusal.
+pub fn access_at(k: usize, letters: &[u8], ends: &[u32], handle: usize) -> AccessAnswer
+    ensures { λ r. ⌜ r ≡ accessAt k (now (letters .entry)) (now (ends .entry)) handle ⌝ }
+{
+    let v = locating::judge_access(k, letters, ends, handle);
+    if let Verdict::Bad { number, place } = v {
+        return AccessAnswer::Refused { number, place };
+    }
+    let p = locating::position(k, ends, handle);
+    AccessAnswer::At { position: p }
 }
 
 // PLAIN: the lowest handle of a word as asked, else of its reverse complement, by a scan of the whole collection.

@@ -1,0 +1,2 @@
+-- What a host may rely on.
+pub mod Once

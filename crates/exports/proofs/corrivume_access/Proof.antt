@@ -1,0 +1,37 @@
+-- `corrivume_access` meets its contract: the answer table is judged, then the call is made and its answer told. Assumes nothing.
+use mathlib.Core.Path.{ap, _∙_}
+use Rattle.replies.specs.Replies.{accessReply}
+use Rattle.replies.specs.Exported.{none}
+use Rattle.replies.proofs.Telling.{too-short, shown}
+use borrow.Author.Needs.{needs}
+use Rattle.exports.proofs.corrivume_access.Statement.{statement}
+use Rattle.exports.proofs.corrivume_access.Tie as tie
+
+returns : tie.Need-returns
+returns c = too-short (c .before .before .before .before .args .answer .now) _ none (c .if1 .taken)
+
+access-at-requires : tie.Need-access-at-requires
+access-at-requires c κs = search needs
+
+access-reply-requires : tie.Need-access-reply-requires
+access-reply-requires c κs = search needs
+
+tell-requires : tie.Need-tell-requires
+tell-requires c κs = search needs
+
+same-length : tie.Need-same-length
+same-length c = search needs
+
+returns-2 : tie.Need-returns-2
+returns-2 c = shown (c .before .before .before .before .before .before .before .before .before .before .args .answer .now) none (c .before .before .before .before .before .before .if1 .left) (c .before .before .before .before .access-reply .ensures ∙ ap (accessReply _) (c .before .before .before .before .before .access-at .ensures)) (c .before .before .tell .ensures)
+
+pub corrivume-access-spec : {M : Type 1} → statement M
+corrivume-access-spec =
+    tie.close
+    (tie.spec
+    returns
+    access-at-requires
+    access-reply-requires
+    tell-requires
+    same-length
+    returns-2)

@@ -1,0 +1,43 @@
+-- `corrivume_check` meets its contract: the answer table is judged, then the call is made and its answer told. Assumes nothing.
+use mathlib.Core.Path.{ap, _∙_}
+use Rattle.exports.specs.Calls.{checkExported}
+use Rattle.replies.proofs.Telling.{too-short, shown}
+use borrow.Author.Needs.{needs}
+use Rattle.exports.proofs.corrivume_check.Statement.{statement}
+use Rattle.exports.proofs.corrivume_check.Tie as tie
+
+returns : tie.Need-returns
+returns c = let a = c .before .before .before .before .before .before .args in too-short (a .answer .now) _ _ (c .if1 .taken)
+
+check-requires : tie.Need-check-requires
+check-requires c κs = search needs
+
+check-reply-requires : tie.Need-check-reply-requires
+check-reply-requires c κs = search needs
+
+tell-requires : tie.Need-tell-requires
+tell-requires c κs = search needs
+
+same-length : tie.Need-same-length
+same-length c = search needs
+
+same-length-2 : tie.Need-same-length-2
+same-length-2 c = search needs
+
+returns-2 : tie.Need-returns-2
+returns-2 c =
+    let a = c .before .before .before .before .before .before .before .before .before .before .before .before .before .before .before .args in
+    shown (a .answer .now) (a .work .now) (c .before .before .before .before .before .before .before .before .before .if1 .left) (c .before .before .before .before .check-reply .ensures) (c .before .before .tell .ensures)
+    ∙ ap (checkExported (a .answer .now) (a .work .now)) (c .before .before .before .before .before .before .before .check .ensures)
+
+pub corrivume-check-spec : {M : Type 1} → statement M
+corrivume-check-spec =
+    tie.close
+    (tie.spec
+    returns
+    check-requires
+    check-reply-requires
+    tell-requires
+    same-length
+    same-length-2
+    returns-2)

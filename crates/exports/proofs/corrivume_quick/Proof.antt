@@ -1,0 +1,37 @@
+-- `corrivume_quick` meets its contract: the answer table is judged, then the call is made and its answer told. Assumes nothing.
+use mathlib.Core.Path.{ap, _∙_}
+use Rattle.replies.specs.Replies.{quickReply}
+use Rattle.replies.specs.Exported.{none}
+use Rattle.replies.proofs.Telling.{too-short, shown}
+use borrow.Author.Needs.{needs}
+use Rattle.exports.proofs.corrivume_quick.Statement.{statement}
+use Rattle.exports.proofs.corrivume_quick.Tie as tie
+
+returns : tie.Need-returns
+returns c = too-short (c .before .before .before .before .before .before .before .before .args .answer .now) _ none (c .if1 .taken)
+
+quick-requires : tie.Need-quick-requires
+quick-requires c κs = search needs
+
+quick-reply-requires : tie.Need-quick-reply-requires
+quick-reply-requires c κs = search needs
+
+tell-requires : tie.Need-tell-requires
+tell-requires c κs = search needs
+
+same-length : tie.Need-same-length
+same-length c = search needs
+
+returns-2 : tie.Need-returns-2
+returns-2 c = shown (c .before .before .before .before .before .before .before .before .before .before .before .before .before .before .args .answer .now) none (c .before .before .before .before .before .before .if1 .left) (c .before .before .before .before .quick-reply .ensures ∙ ap quickReply (c .before .before .before .before .before .quick .ensures)) (c .before .before .tell .ensures)
+
+pub corrivume-quick-spec : {M : Type 1} → statement M
+corrivume-quick-spec =
+    tie.close
+    (tie.spec
+    returns
+    quick-requires
+    quick-reply-requires
+    tell-requires
+    same-length
+    returns-2)

@@ -1,0 +1,37 @@
+-- `corrivume_weight` meets its contract: the answer table is judged, then the call is made and its answer told. Assumes nothing.
+use mathlib.Core.Path.{ap, _∙_}
+use Rattle.replies.specs.Replies.{weightReply}
+use Rattle.replies.specs.Exported.{none}
+use Rattle.replies.proofs.Telling.{too-short, shown}
+use borrow.Author.Needs.{needs}
+use Rattle.exports.proofs.corrivume_weight.Statement.{statement}
+use Rattle.exports.proofs.corrivume_weight.Tie as tie
+
+returns : tie.Need-returns
+returns c = too-short (c .before .before .before .before .args .answer .now) _ none (c .if1 .taken)
+
+weight-requires : tie.Need-weight-requires
+weight-requires c κs = search needs
+
+weight-reply-requires : tie.Need-weight-reply-requires
+weight-reply-requires c κs = search needs
+
+tell-requires : tie.Need-tell-requires
+tell-requires c κs = search needs
+
+same-length : tie.Need-same-length
+same-length c = search needs
+
+returns-2 : tie.Need-returns-2
+returns-2 c = shown (c .before .before .before .before .before .before .before .before .before .before .args .answer .now) none (c .before .before .before .before .before .before .if1 .left) (c .before .before .before .before .weight-reply .ensures ∙ ap weightReply (c .before .before .before .before .before .weight .ensures)) (c .before .before .tell .ensures)
+
+pub corrivume-weight-spec : {M : Type 1} → statement M
+corrivume-weight-spec =
+    tie.close
+    (tie.spec
+    returns
+    weight-requires
+    weight-reply-requires
+    tell-requires
+    same-length
+    returns-2)

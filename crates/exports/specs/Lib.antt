@@ -1,0 +1,2 @@
+-- What a host sees of each call.
+pub mod Calls
