@@ -12,11 +12,12 @@ use Rattle.collection.specs.declared.Side.{Side}
 use Rattle.collection.specs.declared.Side.the-variants.{Asked, Turned}
 use Rattle.stretches.specs.Index.{Index, rowOf}
 use Rattle.stretches.specs.Stretches.{Kmer, walk}
-use Rattle.questions.specs.declared.Met.{Met}
-use Rattle.questions.specs.declared.Met.the-variants.{Hit, Miss}
+use Rattle.walks.specs.declared.Met.{Met}
+use Rattle.walks.specs.declared.Met.the-variants.{Hit, Miss}
 use Rattle.questions.specs.declared.QuickAnswer.{QuickAnswer}
 use Rattle.questions.specs.declared.QuickAnswer.the-variants.{Found, Absent}
-use Rattle.questions.specs.Quick.{isWord, seek, metOr, quickFound}
+use Rattle.walks.specs.Walk.{isWord, seek}
+use Rattle.questions.specs.Quick.{metOr, quickFound}
 
 -- ─── one walk ────────────────────────────────────────────────────────────────
 

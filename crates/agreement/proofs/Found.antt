@@ -28,7 +28,8 @@ use Rattle.stretches.proofs.Fits.{tables-fit, row-fits}
 use Rattle.stretches.proofs.Rows.{row-walks}
 use Rattle.questions.specs.declared.QuickAnswer.{QuickAnswer}
 use Rattle.questions.specs.declared.QuickAnswer.the-variants.{Absent}
-use Rattle.questions.specs.Quick.{isWord, seek, metOr, quickFound, rowsVerdict, indexVerdict}
+use Rattle.walks.specs.Walk.{isWord, seek}
+use Rattle.questions.specs.Quick.{metOr, quickFound, rowsVerdict, indexVerdict}
 use Rattle.agreement.specs.Agreement.{unnumbered}
 
 -- ─── a row is enough ─────────────────────────────────────────────────────────

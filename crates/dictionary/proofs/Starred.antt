@@ -35,7 +35,8 @@ use Rattle.questions.specs.declared.QuickAnswer.the-variants.{Found, Absent}
 use Rattle.questions.specs.declared.WordAnswer.the-variants.{Weighs}
 use Rattle.runs.specs.Runs.{runWeights, runFirsts}
 use Rattle.stretches.specs.Index.{Index, built, entries, rowOf, stretchFits, rowFits, tablesFit}
-use Rattle.questions.specs.Quick.{isWord, seek, metOr, quickFound, rowsVerdict, askVerdict, quickVerdict, quickOf}
+use Rattle.walks.specs.Walk.{isWord, seek}
+use Rattle.questions.specs.Quick.{metOr, quickFound, rowsVerdict, askVerdict, quickVerdict, quickOf}
 use Rattle.questions.specs.Weighed.{weighs, weighedOf}
 use Rattle.dictionary.specs.Starred.{Starred, sheet, letters, ends, weights, places, letters', ends', weights', asked, weighed}
 

@@ -16,13 +16,6 @@ module _ {A : Type 0} where
   pairs-at R (x ∷ xs) h zero (suc j) d l k = all-at (R x) xs (h .0) j d (omega arith)
   pairs-at R (x ∷ xs) h (suc i) (suc j) d l k = pairs-at R xs (h .1) i j d (omega arith) (omega arith)
 
-  pub at-pairs : (R : A → A → Type 0) (xs : List A) → ((i j : ℕ) (d : A) → i < j → j < length xs → R (getD xs i d) (getD xs j d)) → Pairs R xs
-  at-pairs R [] h = tt
-  at-pairs R (x ∷ xs) h = (
-    at-all (R x) x xs (λ j l. h 0 (suc j) x (omega arith) (omega arith)),
-    at-pairs R xs (λ i j d l k. h (suc i) (suc j) d (omega arith) (omega arith)),
-  )
-
   pub pairs-map : {R S : A → A → Type 0} → ((x y : A) → R x y → S x y) → (xs : List A) → Pairs R xs → Pairs S xs
   pairs-map f [] h = tt
   pairs-map f (x ∷ xs) h = (all-map (f x) xs (h .0), pairs-map f xs (h .1))

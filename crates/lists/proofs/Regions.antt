@@ -70,10 +70,6 @@ module _ {A : Type 0} where
       front (suc m) (x ∷ l) g zero = g 0
       front (suc m) (x ∷ l) g (suc j) = front m l (λ t. g (suc t)) j
 
-  pub part-all : (P : A → Type 0) (b n : ℕ) (w : List A) → All P w → All P (part b n w)
-  unfolding part
-  part-all P b n w h = all-take P n (drop b w) (all-drop P b w h)
-
   -- ─── the parts of a region ─────────────────────────────────────────────────
 
   pub part-add : (b a n : ℕ) (w : List A) → part b (a + n) w ≡ part b a w ++ part (b + a) n w

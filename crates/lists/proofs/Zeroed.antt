@@ -12,11 +12,6 @@ use Rattle.lists.proofs.Regions.{part-is, only-part}
 
 module _ {A : Type 0} where
   module _ (a : A) (n i : ℕ) where
-    pub replicate-next : i < n → replicate (n - i) a ≡ a ∷ replicate (n - (i + 1)) a
-    replicate-next h = let q : n - i ≡ suc (n - (i + 1)) = omega arith in ap (λ (m : ℕ). replicate m a) q
-
-    pub replicate-end : n ≤ i → replicate (n - i) a ≡ []
-    replicate-end h = let q : n - i ≡ 0 = omega arith in ap (λ (m : ℕ). replicate m a) q
 
   -- the table v is w but for its first n entries, and these are filled
   pub only-fill : (n : ℕ) (xs w v : List A) → length xs ≡ n → n ≤ length w → Only 0 n w v → fill xs v ≡ fill xs w

@@ -35,12 +35,6 @@ unfoldable pub plainOf : ℕ → List ℕ → List ℕ → List ℕ → List ℕ
 plainOf k letters ends weights word =
     settle (andThen (collectionVerdict k letters ends weights) (wordVerdict k word)) Refused (plainFound k letters ends (spell word))
 
--- document 01's answer: the handle, 0 if the word is absent
-unfoldable pub handleOf : PlainAnswer → ℕ
-handleOf (Found handle side) = handle
-handleOf Absent = 0
-handleOf (Refused number place) = 0
-
 -- ─── the pass over the k-mers ────────────────────────────────────────────────
 
 -- One pass looks for both words. h k-mers have passed, and `turned` is the handle at which the turned word was first seen, 0 where it was not;

@@ -10,4 +10,3 @@ pub mod TurnedStrings
 pub mod Reordered
 pub mod Handles
 pub mod Stands
-pub mod Examples

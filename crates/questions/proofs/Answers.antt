@@ -6,12 +6,13 @@ use Rattle.words.specs.Turned.{spelled}
 use Rattle.collection.specs.declared.Side.the-variants.{Asked, Turned}
 use Rattle.stretches.specs.Stretches.{walk}
 use Rattle.stretches.specs.Index.{Index, rowOf}
-use Rattle.questions.specs.declared.Met.{Met}
-use Rattle.questions.specs.declared.Met.the-variants.{Hit, Miss}
+use Rattle.walks.specs.declared.Met.{Met}
+use Rattle.walks.specs.declared.Met.the-variants.{Hit, Miss}
 use Rattle.questions.specs.declared.Question.{Question}
 use Rattle.questions.specs.declared.QuickAnswer.{QuickAnswer}
 use Rattle.questions.specs.declared.QuickAnswer.the-variants.{Found, Absent}
-use Rattle.questions.specs.Quick.{isWord, seek, metOr}
+use Rattle.walks.specs.Walk.{isWord, seek}
+use Rattle.questions.specs.Quick.{metOr}
 use Rattle.questions.specs.Asking.{turnedOf, askedOf}
 
 module _ (k : ℕ) (letters : List ℕ) (index : Index) (q : Question) where

@@ -32,9 +32,11 @@ use Rattle.stretches.specs.Stretches.{walk}
 use Rattle.stretches.specs.Index.{Index, rowOf, tablesFit, rowFits}
 use Rattle.questions.specs.declared.QuickAnswer.{QuickAnswer}
 use Rattle.questions.specs.declared.QuickAnswer.the-variants.{Absent}
-use Rattle.questions.specs.Quick.{isWord, seek, metOr, quickFound, rowsVerdict, askVerdict}
+use Rattle.walks.specs.Walk.{isWord, seek}
+use Rattle.walks.specs.Judged.{Alike, Row}
+use Rattle.questions.specs.Quick.{metOr, quickFound, rowsVerdict, askVerdict}
 use Rattle.questions.specs.Asking.{question, questionOf, turnedOf, askedOf}
-use Rattle.questions.specs.Judged.{Alike, Row, Askable}
+use Rattle.questions.specs.Judged.{Askable}
 
 -- ─── a judged question ───────────────────────────────────────────────────────
 

@@ -10,7 +10,8 @@ use Rattle.stretches.specs.Index.{Index, rowOf}
 use Rattle.questions.specs.declared.Question.{Question}
 use Rattle.questions.specs.declared.QuickAnswer.{QuickAnswer}
 use Rattle.questions.specs.declared.QuickAnswer.the-variants.{Absent}
-use Rattle.questions.specs.Quick.{isWord, seek, metOr}
+use Rattle.walks.specs.Walk.{isWord, seek}
+use Rattle.questions.specs.Quick.{metOr}
 
 abbrev pub question : ℕ → ℕ → ℕ → ℕ → Question
 question asked turned row other = record { asked = asked; turned = turned; row = row; other = other }

@@ -1,23 +1,8 @@
--- What the walks ask of a judged index.
-use mathlib.Core.Bool.{true}
-use mathlib.Core.Path.{_≡_}
+-- What asking wants of a question.
 use mathlib.Core.List.{List}
-use Prim.Native.Nat.{ℕ, suc, _+_, _^_, _<_, _≤_}
+use Prim.Native.Nat.{ℕ, _^_, _<_, _≤_}
 use lib.ListN.{length}
-use Rattle.stretches.specs.Index.{Index, rowFits}
 use Rattle.questions.specs.declared.Question.{Question}
-
--- the tables of the stretches are equally long, and not too long
-pub record Alike (t : Index) : Type 0 where
-  pub positions-long : length (t .positions) ≡ length (t .firsts)
-  pub numbers-long : length (t .numbers) ≡ length (t .firsts)
-  pub few : length (t .firsts) ≤ 1048576
-
--- the row of the minimizer v can be walked over N letters
-pub record Row (k N : ℕ) (t : Index) (v : ℕ) : Type 0 where
-  pub alike : Alike t
-  pub inside : v + 1 < length (t .before)
-  pub fits : rowFits k N t v ≡ true
 
 -- a question that can be asked over these letters
 pub record Askable (k : ℕ) (letters : List ℕ) (q : Question) : Type 0 where

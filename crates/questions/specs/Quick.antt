@@ -1,11 +1,10 @@
 -- QUICK: the handle of an asked word, by its row of the index and the row of its reverse complement.
-use mathlib.Core.Bool.{Bool, _&&_}
-use mathlib.Core.List.{List, [], _∷_}
-use Prim.Native.Nat.{ℕ, suc, _^_}
+use mathlib.Core.Bool.{_&&_}
+use mathlib.Core.List.{List}
+use Prim.Native.Nat.{ℕ, _^_}
 use lib.ListN.{length}
 use Rattle.lists.specs.Choose.{choose}
-use Rattle.lists.specs.Every.{same}
-use Rattle.words.specs.Word.{spell, wordAt, turn}
+use Rattle.words.specs.Word.{spell, turn}
 use Rattle.collection.specs.declared.Side.{Side}
 use Rattle.collection.specs.declared.Side.the-variants.{Asked, Turned}
 use Rattle.collection.specs.declared.Verdict.{Verdict}
@@ -13,23 +12,15 @@ use Rattle.collection.specs.declared.Verdict.the-variants.{Good, Bad}
 use Rattle.collection.specs.Judge.{sizeVerdict, wordVerdict}
 use Rattle.collection.specs.Verdict.{andThen, settle}
 use Rattle.minimizers.specs.Minimizer.{sizesVerdict, minimizer}
-use Rattle.stretches.specs.Stretches.{Kmer, walk}
+use Rattle.stretches.specs.Stretches.{walk}
 use Rattle.stretches.specs.Index.{Index, rowOf, tablesFit, rowFits}
-use Rattle.questions.specs.declared.Met.{Met}
-use Rattle.questions.specs.declared.Met.the-variants.{Hit, Miss}
+use Rattle.walks.specs.declared.Met.{Met}
+use Rattle.walks.specs.declared.Met.the-variants.{Hit, Miss}
+use Rattle.walks.specs.Walk.{isWord, seek}
 use Rattle.questions.specs.declared.QuickAnswer.{QuickAnswer}
 use Rattle.questions.specs.declared.QuickAnswer.the-variants.{Found, Absent, Refused}
 
--- ─── the walk ────────────────────────────────────────────────────────────────
-
--- the k-mer at a position is the word w
-unfoldable pub isWord : ℕ → List ℕ → List ℕ → ℕ → Bool
-isWord k letters w a = same (wordAt k letters a) w
-
--- K-mers are compared one after the other until one meets the test; c have been compared before. It ends at that one or past the last, with the number compared.
-unfoldable pub seek : (ℕ → Bool) → ℕ → List Kmer → Met
-seek test c [] = Miss c
-seek test c (x ∷ xs) = choose (test (x .at)) (Hit (x .handle) (suc c)) (seek test (suc c) xs)
+-- ─── the walks ───────────────────────────────────────────────────────────────
 
 -- a walk that met its word answers; one that did not hands on how many k-mers it compared
 unfoldable pub metOr : Side → Met → (ℕ → QuickAnswer) → QuickAnswer

@@ -1,9 +1,9 @@
 // Asking over a judged index, for callers that ask many words.
-use crate::Met;
 use crate::Question;
 use crate::QuickAnswer;
 use collection::Side;
 use collection::Verdict;
+use walks::Met;
 ghost use mathlib.Core.Bool.{true};
 ghost use mathlib.Core.Path.{_≡_};
 ghost use Prim.Native.Nat.{ℕ, _^_, _≤_, _<_};
@@ -12,7 +12,8 @@ ghost use Rattle.lists.specs.Every.{every};
 ghost use Rattle.words.specs.Letter.{isLetter};
 ghost use Rattle.words.specs.Word.{spell};
 ghost use Rattle.stretches.specs.Index.{tables};
-ghost use Rattle.questions.specs.Judged.{Row, Askable};
+ghost use Rattle.walks.specs.Judged.{Row};
+ghost use Rattle.questions.specs.Judged.{Askable};
 ghost use Rattle.questions.specs.Quick.{rowsVerdict};
 ghost use Rattle.questions.specs.Asking.{questionOf, askedOf, turnedOf};
 
@@ -52,13 +53,13 @@ pub fn judge_index(
         number: 10,
         place: 0,
     };
-    if !crate::fitting::tables_fit(1 << (2 * p), firsts, positions, numbers, before) {
+    if !walks::inner::tables_fit(1 << (2 * p), firsts, positions, numbers, before) {
         return bad;
     }
-    if !crate::fitting::row_fits(k, n, firsts, positions, numbers, before, q.row) {
+    if !walks::inner::row_fits(k, n, firsts, positions, numbers, before, q.row) {
         return bad;
     }
-    if !crate::fitting::row_fits(k, n, firsts, positions, numbers, before, q.other) {
+    if !walks::inner::row_fits(k, n, firsts, positions, numbers, before, q.other) {
         return bad;
     }
     Verdict::Good
@@ -79,7 +80,7 @@ fn ask_turned(
     requires { ⌜ Row k (length (now letters)) (tables (now firsts) (now positions) (now numbers) (now before)) (q .other) ⌝ }
     ensures { λ r. ⌜ r ≡ turnedOf k (now (letters .entry)) (tables (now (firsts .entry)) (now (positions .entry)) (now (numbers .entry)) (now (before .entry))) q compared ⌝ }
 {
-    let met = crate::walking::walk_row(
+    let met = walks::inner::walk_row(
         k,
         letters,
         q.turned,
@@ -115,7 +116,7 @@ pub fn ask(
     requires { ⌜ Row k (length (now letters)) (tables (now firsts) (now positions) (now numbers) (now before)) (q .other) ⌝ }
     ensures { λ r. ⌜ r ≡ askedOf k (now (letters .entry)) (tables (now (firsts .entry)) (now (positions .entry)) (now (numbers .entry)) (now (before .entry))) q ⌝ }
 {
-    let met = crate::walking::walk_row(
+    let met = walks::inner::walk_row(
         k,
         letters,
         q.asked,

@@ -1,7 +1,5 @@
 // QUICK: the handle of an asked word, by the index. The word's row is walked for the word, then the row of its reverse complement for the turned word.
-mod fitting;
 pub mod inner;
-mod walking;
 
 use collection::Side;
 use collection::Verdict;
@@ -11,12 +9,6 @@ ghost use Prim.Native.Nat.{ℕ, _≤_};
 ghost use Rattle.stretches.specs.Index.{tables};
 ghost use Rattle.questions.specs.Quick.{askVerdict, quickOf};
 ghost use Rattle.questions.specs.Weighed.{unweighed, weighedOf};
-
-// Where a walk ends: at a k-mer, or past the last; with the number compared.
-pub enum Met {
-    Hit { handle: usize, compared: u64 },
-    Miss { compared: u64 },
-}
 
 // What QUICK answers. The number compared can pass 32 bits on a damaged index.
 pub enum QuickAnswer {

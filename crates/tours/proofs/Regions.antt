@@ -29,14 +29,8 @@ stack-at m w n h = sym (part-at (12 * m) (3 * m) w n 0 h)
 -- ─── sizes ───────────────────────────────────────────────────────────────────
 
 module _ {m : ℕ} {w : List ℕ} (f : Fits m w) where
-  pub verts-size : length (tables m w .verts) ≡ 2 * m
-  verts-size = part-length 0 (2 * m) w (omega (arith, f .size))
-
   pub used-size : length (tables m w .used) ≡ 3 * m
   used-size = part-length (2 * m) (3 * m) w (omega (arith, f .size))
-
-  pub rows-size : length (tables m w .rows) ≡ 4 * m
-  rows-size = part-length (5 * m) (4 * m) w (omega (arith, f .size))
 
   pub cursors-size : length (tables m w .cursors) ≡ 3 * m
   cursors-size = part-length (9 * m) (3 * m) w (omega (arith, f .size))

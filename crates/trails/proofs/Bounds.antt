@@ -50,14 +50,3 @@ odd-weights-halves strings = omega (arith, odd-weights-even strings)
 pub no-strings : (evenGroups [] ≡ 0) × (oddWeights [] ≡ 0) × (least [] ≡ 0)
 unfolding evenGroups oddWeights least weights
 no-strings = (no-even-groups 0 (λ w. w), no-odd 0, refl)
-
--- and only then
-pub none-if-zero : (strings : List Ends) → least strings ≡ 0 → strings ≡ []
-none-if-zero strings e =
-    let b = upper strings in
-    go strings (b .0) (b .1) (omega (arith, b .2))
-  where
-    go : (strings order : List Ends) → Reordered strings order → pathCount order ≡ 0 → strings ≡ []
-    go [] order r z = refl
-    go (s ∷ strings) [] r z = absurd (omega (arith, length-reordered r))
-    go (s ∷ strings) (t ∷ order) r z = absurd (omega (arith, paths-breaks t order))

@@ -217,11 +217,6 @@ module _ (h : ℕ) (strings : List Ends) (os : List ℕ) (odd : (w : ℕ) → oc
   pub spoked-listed : Reordered (spoked h strings) (spokesTo h os ++ strings)
   spoked-listed = reordered-left strings spokes-listed
 
-  pub length-listed : length os ≡ oddWeights strings
-  unfolding oddWeights countOdd
-  length-listed =
-      omega (arith, length-reordered spokes-listed, length-spokes h (weights strings) (limit strings), length-map {B = Ends} os (λ w. (h, w)))
-
 -- ─── without the spokes ──────────────────────────────────────────────────────
 
 abbrev keepIf : ℕ → ℕ → Ends → List Ends → List Ends

@@ -13,5 +13,4 @@ pub mod Upper
 pub mod Bounds
 pub mod Renamed
 pub mod Amounts
-pub mod Examples
 pub mod Kept

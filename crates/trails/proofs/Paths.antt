@@ -82,21 +82,6 @@ unfoldable pub together : List (List Ends) → List Ends
 together [] = []
 together (path ∷ others) = path ++ together others
 
--- the paths are the order, cut
-pub together-paths : (order : List Ends) → together (paths order) ≡ order
-unfolding paths together
-together-paths [] = refl
-together-paths (s ∷ order) = go s order
-  where
-    step : (j : Bool) (s : Ends) (ps : List (List Ends)) → together (before j s ps) ≡ s ∷ together ps
-    step true s [] = refl
-    step true s (p ∷ ps) = refl
-    step false s ps = refl
-
-    go : (s : Ends) (order : List Ends) → together (pathsFrom s order) ≡ s ∷ order
-    go s [] = refl
-    go s (t ∷ order) = step (joins s t) s (pathsFrom t order) ∙ ap (λ (L : List Ends). s ∷ L) (go t order)
-
 -- a path that ends at y: it has strings, and each joins the one behind it
 abbrev pub PathTo : ℕ → List Ends → Type 0
 PathTo y [] = ⊥

@@ -12,7 +12,8 @@ use Rattle.questions.specs.declared.Question.{Question}
 use Rattle.questions.specs.declared.QuickAnswer.{QuickAnswer}
 use Rattle.questions.specs.Quick.{quickOf, quickVerdict, askVerdict, rowsVerdict, quickFound}
 use Rattle.questions.specs.Asking.{questionOf, askedOf}
-use Rattle.questions.specs.Judged.{Askable, Row}
+use Rattle.walks.specs.Judged.{Row}
+use Rattle.questions.specs.Judged.{Askable}
 use Rattle.minimizers.specs.Minimizer.{minimizer}
 use Rattle.questions.proofs.Asked.{ask-good, askable, asked-quick, row-below, other-below, rows-good}
 use borrow.Author.Needs.{needs}

@@ -2,8 +2,8 @@
 use mathlib.Core.Path.{sym, _∙_}
 use native.Mathlib.Omega.{arith}
 use Rattle.questions.proofs.Answers.{asked-hit, asked-miss}
-use Rattle.questions.proofs.RowWalks.{row-short}
-use Rattle.questions.proofs.Walks.{miss-counts}
+use Rattle.walks.proofs.RowWalks.{row-short}
+use Rattle.walks.proofs.Walks.{miss-counts}
 use borrow.Author.Needs.{needs}
 use Rattle.questions.proofs.inner.ask.Statement.{statement}
 use Rattle.questions.proofs.inner.ask.Tie as tie

@@ -12,11 +12,11 @@ use Rattle.lists.proofs.Every.{and-left, and-right}
 use Rattle.stretches.specs.Stretches.{Kmer, Stretch, kmersOf, walk}
 use Rattle.stretches.proofs.Walks.{length-numbered}
 use Rattle.stretches.specs.Index.{Index, entry, entries, start, rowOf, stretchFits, rowFits}
-use Rattle.questions.specs.declared.Met.{Met}
-use Rattle.questions.specs.declared.Met.the-variants.{Hit, Miss}
-use Rattle.questions.specs.Quick.{seek}
-use Rattle.questions.proofs.Rows.{Fits, row-good, row-walk, fit-here, fit-rest, walk-next, walk-end, room, room-few, Room}
-use Rattle.questions.proofs.Walks.{seek-on, seek-met, seek-none, miss-counts}
+use Rattle.walks.specs.declared.Met.{Met}
+use Rattle.walks.specs.declared.Met.the-variants.{Hit, Miss}
+use Rattle.walks.specs.Walk.{seek}
+use Rattle.walks.proofs.Rows.{Fits, row-good, row-walk, fit-here, fit-rest, walk-next, walk-end, room, room-few, Room}
+use Rattle.walks.proofs.Walks.{seek-on, seek-met, seek-none, miss-counts}
 
 -- the k-mers of a stretch
 pub length-stretch : (s : Stretch) → length (kmersOf s) ≡ s .number

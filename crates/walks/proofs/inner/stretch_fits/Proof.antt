@@ -2,8 +2,8 @@
 use mathlib.Core.Path.{refl}
 use Rattle.stretches.specs.Index.{stretchFits}
 use borrow.Author.Needs.{needs}
-use Rattle.questions.proofs.fitting.stretch_fits.Statement.{statement}
-use Rattle.questions.proofs.fitting.stretch_fits.Tie as tie
+use Rattle.walks.proofs.inner.stretch_fits.Statement.{statement}
+use Rattle.walks.proofs.inner.stretch_fits.Tie as tie
 
 add-result : tie.Need-add-result
 add-result c = search needs

@@ -6,10 +6,10 @@ use native.Mathlib.Omega.{arith}
 use lib.ListN.{length, getD}
 use Rattle.lists.specs.Every.{every}
 use Rattle.stretches.specs.Index.{tables, entries, stretchFits, rowFits}
-use Rattle.questions.proofs.Rows.{row-wrong, row-each, fit-next, fit-end}
+use Rattle.walks.proofs.Rows.{row-wrong, row-each, fit-next, fit-end}
 use borrow.Author.Needs.{needs}
-use Rattle.questions.proofs.fitting.row_fits.Statement.{statement}
-use Rattle.questions.proofs.fitting.row_fits.Tie as tie
+use Rattle.walks.proofs.inner.row_fits.Statement.{statement}
+use Rattle.walks.proofs.inner.row_fits.Tie as tie
 
 abbrev Inv-loop : tie.InvT-loop
 Inv-loop k n firsts positions numbers before v start end good₀ i₀ good i =

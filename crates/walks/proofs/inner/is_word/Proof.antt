@@ -7,10 +7,10 @@ use borrow.Author.Tests.{eq-eqb, ne-eqb}
 use lib.ListN.{take, drop}
 use Rattle.lists.specs.Every.{every}
 use Rattle.words.specs.Letter.{isLetter}
-use Rattle.questions.proofs.Words.{word-test}
+use Rattle.walks.proofs.Words.{word-test}
 use borrow.Author.Needs.{needs}
-use Rattle.questions.proofs.walking.is_word.Statement.{statement}
-use Rattle.questions.proofs.walking.is_word.Tie as tie
+use Rattle.walks.proofs.inner.is_word.Statement.{statement}
+use Rattle.walks.proofs.inner.is_word.Tie as tie
 
 returns : tie.Need-returns
 returns c =

@@ -8,12 +8,12 @@ use lib.ListN.{length, getD, drop, length-take}
 use Rattle.words.specs.Turned.{spelled}
 use Rattle.words.proofs.Letters.{bits-lt}
 use Rattle.stretches.specs.Stretches.{stretch, kmersOf}
-use Rattle.questions.specs.Quick.{isWord, seek}
-use Rattle.questions.proofs.Rolls.{Rolls, rolls-begin, rolls-here, rolls-on}
-use Rattle.questions.proofs.Walks.{left, left-start, left-hit, left-on, left-end}
+use Rattle.walks.specs.Walk.{isWord, seek}
+use Rattle.walks.proofs.Rolls.{Rolls, rolls-begin, rolls-here, rolls-on}
+use Rattle.walks.proofs.Walks.{left, left-start, left-hit, left-on, left-end}
 use borrow.Author.Needs.{needs}
-use Rattle.questions.proofs.walking.walk_stretch.Statement.{statement}
-use Rattle.questions.proofs.walking.walk_stretch.Tie as tie
+use Rattle.walks.proofs.inner.walk_stretch.Statement.{statement}
+use Rattle.walks.proofs.inner.walk_stretch.Tie as tie
 
 abbrev Inv-loop : tie.InvT-loop
 Inv-loop k letters w first at number compared before c₀ i₀ c i =

@@ -15,7 +15,7 @@ use Rattle.words.specs.Turned.{spelled}
 use Rattle.words.proofs.Codes.{spelled-letters, length-spelled, code-spelled}
 use Rattle.words.proofs.Letters.{spell-letters, spell-bits}
 use Rattle.lookups.proofs.Scans.{code-test}
-use Rattle.questions.specs.Quick.{isWord}
+use Rattle.walks.specs.Walk.{isWord}
 
 -- only letters have codes below 4
 letters-every : (bytes : List ℕ) → Letters (spell bytes) → every isLetter bytes ≡ true

@@ -2,8 +2,8 @@
 use mathlib.Core.Path.{refl}
 use Rattle.stretches.specs.Index.{tablesFit}
 use borrow.Author.Needs.{needs}
-use Rattle.questions.proofs.fitting.tables_fit.Statement.{statement}
-use Rattle.questions.proofs.fitting.tables_fit.Tie as tie
+use Rattle.walks.proofs.inner.tables_fit.Statement.{statement}
+use Rattle.walks.proofs.inner.tables_fit.Tie as tie
 
 add-result : tie.Need-add-result
 add-result c = search needs

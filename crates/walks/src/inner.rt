@@ -1,17 +1,75 @@
-// The walk of a row, with a code that rolls along each stretch: one step a k-mer, whatever k is.
+// Rows of an index: whether they fit (10), and the walk of one, with a code that rolls along each stretch: one step a k-mer, whatever k is.
 use crate::Met;
 ghost use mathlib.Core.Bool.{true};
 ghost use mathlib.Core.List.{map};
 ghost use mathlib.Core.Path.{_≡_};
-ghost use Prim.Native.Nat.{ℕ, _+_, _^_, _≤_, _<_};
+ghost use Prim.Native.Nat.{ℕ, _+_, _≤_, _<_, _^_};
 ghost use lib.ListN.{length, take, drop};
+ghost use Rattle.stretches.specs.Stretches.{stretch, kmersOf, walk};
+ghost use Rattle.stretches.specs.Index.{tables, stretchFits, rowFits, tablesFit, rowOf};
+ghost use Rattle.walks.specs.Judged.{Alike, Row};
 ghost use Rattle.words.specs.Letter.{twoBits};
 ghost use Rattle.words.specs.Word.{code};
 ghost use Rattle.words.specs.Turned.{spelled};
-ghost use Rattle.stretches.specs.Stretches.{stretch, kmersOf, walk};
-ghost use Rattle.stretches.specs.Index.{tables, rowOf};
-ghost use Rattle.questions.specs.Quick.{isWord, seek};
-ghost use Rattle.questions.specs.Judged.{Row};
+ghost use Rattle.walks.specs.Walk.{isWord, seek};
+
+// Whether the fourth table has d + 1 entries, and the other three equally many, 1,048,576 at most.
+pub fn tables_fit(
+    d: usize,
+    firsts: &[u32],
+    positions: &[u32],
+    numbers: &[u32],
+    before: &[u32],
+) -> bool
+    requires { ⌜ d ≤ 65536 ⌝ }
+    ensures { λ r. ⌜ r ≡ tablesFit d (tables (now (firsts .entry)) (now (positions .entry)) (now (numbers .entry)) (now (before .entry))) ⌝ }
+{
+    (before.len() == d + 1)
+        & ((positions.len() == firsts.len())
+            & ((numbers.len() == firsts.len()) & (firsts.len() <= 1048576)))
+}
+
+// Whether a stretch fits n letters.
+fn stretch_fits(k: usize, n: usize, first: u32, at: u32, number: u32) -> bool
+    requires { ⌜ (k ≤ 31) × (n ≤ 1048576) ⌝ }
+    ensures { λ r. ⌜ r ≡ stretchFits k n (stretch first at number) ⌝ }
+{
+    (1 <= first)
+        & ((1 <= number)
+            & ((first as usize + number as usize <= 1048577)
+                & (at as usize + number as usize + k <= n + 1)))
+}
+
+// Whether the row of minimizer v fits n letters. It looks at the whole row.
+pub fn row_fits(
+    k: usize,
+    n: usize,
+    firsts: &[u32],
+    positions: &[u32],
+    numbers: &[u32],
+    before: &[u32],
+    v: usize,
+) -> bool
+    requires { ⌜ (k ≤ 31) × (n ≤ 1048576) × (v + 1 < length (now before)) ⌝ }
+    requires { ⌜ Alike (tables (now firsts) (now positions) (now numbers) (now before)) ⌝ }
+    ensures { λ r. ⌜ r ≡ rowFits k n (tables (now (firsts .entry)) (now (positions .entry)) (now (numbers .entry)) (now (before .entry))) v ⌝ }
+{
+    let start = before[v] as usize;
+    let end = before[v + 1] as usize;
+    if end < start {
+        return false;
+    }
+    if firsts.len() < end {
+        return false;
+    }
+    let mut good = true;
+    let mut i = start;
+    while i < end {
+        good = good & stretch_fits(k, n, firsts[i], positions[i], numbers[i]);
+        i += 1;
+    }
+    good
+}
 
 // Whether the k bytes from position a on, of code c, are the word of code w. Bytes that are no letters have codes too, so that equal codes need a second look; few
 // k-mers come so far.
@@ -59,7 +117,7 @@ fn walk_stretch(
 }
 
 // Compares the k-mers of the row of minimizer v with the word of code w, `compared` k-mers having been compared before.
-pub(crate) fn walk_row(
+pub fn walk_row(
     k: usize,
     letters: &[u8],
     w: u64,

@@ -10,9 +10,9 @@ use Rattle.lists.specs.Choose.{choose}
 use Rattle.lists.specs.Count.{countFrom}
 use Rattle.lists.proofs.Count.{count-start, count-next, count-end}
 use Rattle.stretches.specs.Stretches.{Kmer, numbered, Stretch, stretch, kmersOf}
-use Rattle.questions.specs.declared.Met.{Met}
-use Rattle.questions.specs.declared.Met.the-variants.{Hit, Miss}
-use Rattle.questions.specs.Quick.{seek}
+use Rattle.walks.specs.declared.Met.{Met}
+use Rattle.walks.specs.declared.Met.the-variants.{Hit, Miss}
+use Rattle.walks.specs.Walk.{seek}
 
 -- ─── along one stretch ───────────────────────────────────────────────────────
 

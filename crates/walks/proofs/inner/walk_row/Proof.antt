@@ -6,11 +6,11 @@ use lib.ListN.{length, getD}
 use Rattle.words.specs.Turned.{spelled}
 use Rattle.stretches.specs.Stretches.{walk}
 use Rattle.stretches.specs.Index.{tables, rowOf}
-use Rattle.questions.specs.Quick.{isWord, seek}
-use Rattle.questions.proofs.RowWalks.{Walking, walking-begins, walking-room, walking-met, walking-on, walking-ends}
+use Rattle.walks.specs.Walk.{isWord, seek}
+use Rattle.walks.proofs.RowWalks.{Walking, walking-begins, walking-room, walking-met, walking-on, walking-ends}
 use borrow.Author.Needs.{needs}
-use Rattle.questions.proofs.walking.walk_row.Statement.{statement}
-use Rattle.questions.proofs.walking.walk_row.Tie as tie
+use Rattle.walks.proofs.inner.walk_row.Statement.{statement}
+use Rattle.walks.proofs.inner.walk_row.Tie as tie
 
 abbrev Inv-loop : tie.InvT-loop
 Inv-loop k letters w firsts positions numbers before v compared end count₀ i₀ count i =
