@@ -59,3 +59,25 @@ module _ (n : ℕ) (name : ℕ → ℕ) (ws : List ℕ) (l : ℕ) where
 
 -- Of the groups of strings: l is counted exactly if it is the name of a group with an end weight, in which all weights occur evenly often.
 module _ (strings : List Ends) where
+  pub counted-group : (l : ℕ) → evenGroup (above (weights strings)) (nameOf strings) (weights strings) l ≡ 1
+      → (w : ℕ) × (1 ≤ occurs w (weights strings)) × (nameOf strings w ≡ l) × ((v : ℕ) → Joined strings w v → oddly (weights strings) v ≡ 0)
+  unfolding evenGroup
+  counted-group l e =
+      let m = even-members (occurs l (map (nameOf strings) (weights strings))) (oddMembers (above (weights strings)) (nameOf strings) (weights strings) l) e in
+      let w = occurs-map-some (nameOf strings) l (weights strings) (m .0) in
+      (w .0, w .1, w .2, λ v j. go v (m .1) (sym (w .2) ∙ joined-same-name strings j) (decLt v (above (weights strings))))
+    where
+      beyond : (v : ℕ) → occurs v (weights strings) ≡ 0 → oddly (weights strings) v ≡ 0
+      beyond v z = unfold oddly in (omega (arith, z))
+
+      go : (v : ℕ) → oddMembers (above (weights strings)) (nameOf strings) (weights strings) l ≡ 0 → l ≡ nameOf strings v → Dec (v < above (weights strings)) → oddly (weights strings) v ≡ 0
+      go v z q (yes b) = no-odd-member (above (weights strings)) (nameOf strings) (weights strings) l z v b q
+      go v z q (no b) = beyond v (occurs-beyond (above (weights strings)) v (weights strings) (above-all (weights strings)) (omega arith))
+
+  pub group-counted : (w : ℕ) → 1 ≤ occurs w (weights strings) → ((v : ℕ) → Joined strings w v → oddly (weights strings) v ≡ 0)
+      → evenGroup (above (weights strings)) (nameOf strings) (weights strings) (nameOf strings w) ≡ 1
+  unfolding evenGroup
+  group-counted w m h =
+      even-is (occurs (nameOf strings w) (map (nameOf strings) (weights strings))) (oddMembers (above (weights strings)) (nameOf strings) (weights strings) (nameOf strings w))
+      (occurs-map (nameOf strings) w (weights strings) m)
+      (no-odd-members (above (weights strings)) (nameOf strings) (weights strings) (nameOf strings w) (λ v b q. h v (same-name-joined strings w v q)))
