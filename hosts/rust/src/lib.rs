@@ -39,47 +39,124 @@ pub const MOST_STRINGS: usize = 65_536;
 /// ```
 /// let refused = corrivume::Collection::read(b"K\t3\nS\tACN\t1\n").unwrap_err();
 /// assert_eq!((refused.number(), refused.place()), (11, 2));
+/// assert_eq!(refused, corrivume::Error::Line(2));
 /// assert_eq!(refused.to_string(), "line 2 of the sheet is wrong (refusal 11)");
 /// ```
 #[derive(Clone, Copy, Debug, PartialEq, Eq, Hash)]
-pub struct Error {
-    number: u32,
-    place: usize,
+#[non_exhaustive]
+pub enum Error {
+    /// 1: a lent output or work table is too short.
+    Room,
+    /// 2: k is not 3 to 31, or p is not 1 to 8 and at most k.
+    Sizes,
+    /// 3: too many letters or strings.
+    TooLarge,
+    /// 4: this string is shorter than k; or it is one past the last, and the last end is not the number of letters.
+    String(usize),
+    /// 5: this letter is not A, C, G or T.
+    Letter(usize),
+    /// 6: there is not exactly one weight for each k-mer.
+    WeightCount,
+    /// 6: this weight is not 1 to 16,777,215.
+    Weight(usize),
+    /// 7: the word of this handle stands earlier too, as it is or turned.
+    Repeat(usize),
+    /// 8: there is not exactly one place for each string.
+    PlaceCount,
+    /// 8: the place of this string is zero, too large or used by an earlier string.
+    Place(usize),
+    /// 9: the asked word is not k letters of A, C, G, T, or the handle is not 1 to n.
+    Asked,
+    /// 10: the index doesn't fit.
+    Index,
+    /// 11: this line of the sheet is wrong.
+    Line(usize),
+    /// 12: the run list is bad.
+    RunList,
+    /// A number that is none of these, with its place.
+    Other(u32, usize),
 }
 
 impl Error {
+    fn new(number: u32, place: usize) -> Self {
+        match (number, place) {
+            (1, 0) => Error::Room,
+            (2, 0) => Error::Sizes,
+            (3, 0) => Error::TooLarge,
+            (4, _) => Error::String(place),
+            (5, _) => Error::Letter(place),
+            (6, 0) => Error::WeightCount,
+            (6, _) => Error::Weight(place),
+            (7, _) => Error::Repeat(place),
+            (8, 0) => Error::PlaceCount,
+            (8, _) => Error::Place(place),
+            (9, 0) => Error::Asked,
+            (10, 0) => Error::Index,
+            (11, _) => Error::Line(place),
+            (12, 0) => Error::RunList,
+            _ => Error::Other(number, place),
+        }
+    }
+
     /// The number of the refusal, 1 to 12.
     pub fn number(&self) -> u32 {
-        self.number
+        match self {
+            Error::Room => 1,
+            Error::Sizes => 2,
+            Error::TooLarge => 3,
+            Error::String(_) => 4,
+            Error::Letter(_) => 5,
+            Error::WeightCount | Error::Weight(_) => 6,
+            Error::Repeat(_) => 7,
+            Error::PlaceCount | Error::Place(_) => 8,
+            Error::Asked => 9,
+            Error::Index => 10,
+            Error::Line(_) => 11,
+            Error::RunList => 12,
+            Error::Other(number, _) => *number,
+        }
     }
 
     /// The place that goes with the number, counted from 1; 0 where the refusal has none.
     pub fn place(&self) -> usize {
-        self.place
+        match *self {
+            Error::String(place)
+            | Error::Letter(place)
+            | Error::Weight(place)
+            | Error::Repeat(place)
+            | Error::Place(place)
+            | Error::Line(place)
+            | Error::Other(_, place) => place,
+            _ => 0,
+        }
     }
 }
 
 impl fmt::Display for Error {
     fn fmt(&self, f: &mut fmt::Formatter<'_>) -> fmt::Result {
-        let at = self.place;
-        match (self.number, at) {
-            (1, _) => write!(f, "a lent output or work table is too short"),
-            (2, _) => write!(f, "k is not 3 to 31, or p is not 1 to 8 and at most k"),
-            (3, _) => write!(f, "there are more than {MOST_LETTERS} letters or more than {MOST_STRINGS} strings"),
-            (4, _) => write!(f, "string {at} is shorter than k, or is one past the last and the ends miss the letters"),
-            (5, _) => write!(f, "letter {at} is not A, C, G or T"),
-            (6, 0) => write!(f, "there is not exactly one weight for each k-mer"),
-            (6, _) => write!(f, "weight {at} is not 1 to 16777215"),
-            (7, _) => write!(f, "the word of handle {at} stands earlier too, as it is or turned"),
-            (8, 0) => write!(f, "there is not exactly one place for each string"),
-            (8, _) => write!(f, "the place of string {at} is zero, too large or used by an earlier string"),
-            (9, _) => write!(f, "the asked word is not k letters of A, C, G, T, or the handle is not 1 to n"),
-            (10, _) => write!(f, "the index doesn't fit"),
-            (11, _) => write!(f, "line {at} of the sheet is wrong"),
-            (12, _) => write!(f, "the run list is bad"),
-            _ => write!(f, "refused at {at}"),
+        let at = self.place();
+        match self {
+            Error::Room => write!(f, "a lent output or work table is too short"),
+            Error::Sizes => write!(f, "k is not 3 to 31, or p is not 1 to 8 and at most k"),
+            Error::TooLarge => {
+                write!(f, "there are more than {MOST_LETTERS} letters or more than {MOST_STRINGS} strings")
+            }
+            Error::String(_) => {
+                write!(f, "string {at} is shorter than k, or is one past the last and the ends miss the letters")
+            }
+            Error::Letter(_) => write!(f, "letter {at} is not A, C, G or T"),
+            Error::WeightCount => write!(f, "there is not exactly one weight for each k-mer"),
+            Error::Weight(_) => write!(f, "weight {at} is not 1 to 16777215"),
+            Error::Repeat(_) => write!(f, "the word of handle {at} stands earlier too, as it is or turned"),
+            Error::PlaceCount => write!(f, "there is not exactly one place for each string"),
+            Error::Place(_) => write!(f, "the place of string {at} is zero, too large or used by an earlier string"),
+            Error::Asked => write!(f, "the asked word is not k letters of A, C, G, T, or the handle is not 1 to n"),
+            Error::Index => write!(f, "the index doesn't fit"),
+            Error::Line(_) => write!(f, "line {at} of the sheet is wrong"),
+            Error::RunList => write!(f, "the run list is bad"),
+            Error::Other(..) => write!(f, "refused at {at}"),
         }?;
-        write!(f, " (refusal {})", self.number)
+        write!(f, " (refusal {})", self.number())
     }
 }
 
@@ -91,7 +168,7 @@ fn call(one: impl FnOnce(&mut [u64]) -> u32) -> Result<[usize; raw::ANSWER], Err
     let number = one(&mut answer);
     // Every answer counts entries of tables or k-mers compared in them: on 64 bits nothing is cut off.
     let answer = answer.map(|a| a as usize);
-    if number == 0 { Ok(answer) } else { Err(Error { number, place: answer[0] }) }
+    if number == 0 { Ok(answer) } else { Err(Error::new(number, answer[0])) }
 }
 
 /// How a word stands in the collection.
@@ -151,7 +228,7 @@ impl Collection {
         // WRITE judges everything but repeats before it looks at its output, and no sheet is empty: lent no room, it
         // refuses a good collection with 1 and any other with its own number.
         match call(|a| raw::write(k, &made.letters, &made.ends, &made.weights, &mut [], a)) {
-            Err(refused) if refused.number != 1 => Err(refused),
+            Err(refused) if refused != Error::Room => Err(refused),
             _ => Ok(made),
         }
     }
