@@ -1,23 +1,20 @@
--- Laws of the stretches of a judged collection: each begins at a k-mer within the letters, its minimizer is the code of p letters, and there are no more stretches
--- than k-mers. Assumes nothing.
+-- Laws of the stretches of a judged collection: each begins at a k-mer within the letters, and its minimizer is the code of p letters. Assumes nothing.
 use mathlib.Core.Path.{_≡_}
 use mathlib.Core.List.{List, [], _∷_}
 use Prim.Native.Nat.{ℕ, suc, _+_, _^_, _≤_, _<_}
 use native.Mathlib.Omega.{arith}
-use lib.ListN.{length, length-append}
-use Rattle.lists.specs.Count.{countFrom}
+use lib.ListN.{length}
 use Rattle.lists.specs.Every.{All}
-use Rattle.lists.proofs.Count.{length-count}
 use Rattle.lists.proofs.Every.{all-append, all-map, every-all}
 use Rattle.words.specs.Letter.{isLetter}
 use Rattle.collection.specs.Judge.{firstShort, lastEnd}
-use Rattle.collection.specs.Kmers.{within, kmersFrom, kmers}
+use Rattle.collection.specs.Kmers.{within}
 use Rattle.collection.proofs.Judged.{long-cons, ends-room}
 use Rattle.lookups.specs.Located.{Ready}
 use Rattle.minimizers.specs.Minimizer.{minimizerAt}
 use Rattle.stretches.specs.Stretches.{ofString, stretchesFrom, stretches}
 use Rattle.cutting.proofs.Carried.{minimizer-below}
-use Rattle.cutting.proofs.Opened.{string-few, string-at}
+use Rattle.cutting.proofs.Opened.{string-at}
 
 stretches-fit : (q : ℕ → ℕ) (k i h before : ℕ) (ends : List ℕ) → firstShort k i before ends ≡ 0 → All (λ s. s .at + k ≤ lastEnd before ends) (stretchesFrom q k h before ends)
 unfolding stretchesFrom lastEnd
