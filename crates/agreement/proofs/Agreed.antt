@@ -4,7 +4,7 @@ use mathlib.Core.Path.{_≡_, refl, sym, ap, _∙_, subst}
 use mathlib.Core.Bool.{Bool, true, _&&_}
 use mathlib.Core.Logic.{_⊎_, ⊎-elim}
 use mathlib.Core.List.{List, [], _∷_}
-use Prim.Native.Nat.{ℕ, _-_, _^_, _<_, _≤_}
+use Prim.Native.Nat.{ℕ, _^_, _<_, _≤_}
 use native.Mathlib.Omega.{arith}
 use borrow.Author.Tests.{le-leb, eq-eqb}
 use lib.Dec.{eqb}
@@ -13,9 +13,9 @@ use Rattle.lists.specs.Choose.{choose}
 use Rattle.lists.specs.Every.{every}
 use Rattle.lists.specs.Pick.{pick}
 use Rattle.lists.proofs.Every.{and-both, every-all, all-every, all-take, all-drop}
-use Rattle.words.specs.Letter.{letter, isLetter}
+use Rattle.alphabet.specs.Letter.{letter, isLetter}
 use Rattle.words.specs.Word.{Letters, spell, turn}
-use Rattle.words.proofs.Letters.{spell-letters}
+use Rattle.words.proofs.Spelled.{spell-letters}
 use Rattle.words.proofs.Rolling.{length-at}
 use Rattle.words.proofs.Turning.{length-turn, letters-turn}
 use Rattle.collection.specs.declared.Side.{Side}
@@ -26,13 +26,13 @@ use Rattle.collection.specs.Kmers.{positionOf, wordOf, Distinct}
 use Rattle.collection.proofs.Judged.{Judged, collection-good, word-good}
 use Rattle.collection.proofs.Kmers.{position-fits}
 use Rattle.collection.proofs.Verdicts.{then-good, settled}
-use Rattle.lookups.specs.declared.PlainAnswer.{PlainAnswer}
-use Rattle.lookups.specs.declared.PlainAnswer.the-variants as plain
-use Rattle.lookups.specs.Access.{accessVerdict, accessPart}
-use Rattle.lookups.specs.Plain.{plainFound, plainOf}
-use Rattle.lookups.proofs.Accessed.{access-good, access-word}
-use Rattle.lookups.specs.Says.{Says, as-asked, as-turned, absent, Stands, Nowhere}
-use Rattle.lookups.proofs.Found.{plain-own}
+use Rattle.plain.specs.declared.PlainAnswer.{PlainAnswer}
+use Rattle.plain.specs.declared.PlainAnswer.the-variants as plain
+use Rattle.access.specs.Access.{accessVerdict, accessPart}
+use Rattle.plain.specs.Plain.{plainFound, plainOf}
+use Rattle.access.proofs.Accessed.{access-good, access-word}
+use Rattle.plain.specs.Says.{Says, as-asked, as-turned, absent, Stands, Nowhere}
+use Rattle.plain.proofs.Found.{plain-own}
 use Rattle.minimizers.specs.Minimizer.{sizesVerdict, minimizer, minimizerAt}
 use Rattle.minimizers.proofs.Sizes.{sizes-good}
 use Rattle.minimizers.proofs.Smallest.{minimizer-lt}

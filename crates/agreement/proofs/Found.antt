@@ -17,11 +17,11 @@ use Rattle.collection.specs.declared.Side.the-variants.{Asked, Turned}
 use Rattle.collection.specs.declared.Verdict.the-variants.{Good, Bad}
 use Rattle.collection.specs.Kmers.{kmers}
 use Rattle.collection.proofs.Judged.{Shape}
-use Rattle.lookups.specs.declared.PlainAnswer.{PlainAnswer}
-use Rattle.lookups.specs.declared.PlainAnswer.the-variants as plain
-use Rattle.lookups.specs.Plain.{lowest, foundOr, plainFound}
-use Rattle.lookups.specs.Says.{Says}
-use Rattle.lookups.proofs.Found.{plain-says}
+use Rattle.plain.specs.declared.PlainAnswer.{PlainAnswer}
+use Rattle.plain.specs.declared.PlainAnswer.the-variants as plain
+use Rattle.plain.specs.Plain.{lowest, foundOr, plainFound}
+use Rattle.plain.specs.Says.{Says}
+use Rattle.plain.proofs.Found.{plain-says}
 use Rattle.stretches.specs.Index.{Index, indexed, rowOf}
 use Rattle.stretches.specs.Stretches.{Kmer, numbered, walk}
 use Rattle.stretches.proofs.Fits.{tables-fit, row-fits}

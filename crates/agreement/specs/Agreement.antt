@@ -4,8 +4,8 @@ use Prim.Native.Nat.{ℕ}
 use Rattle.words.specs.Word.{turn}
 use Rattle.collection.specs.declared.Side.{Side}
 use Rattle.collection.specs.declared.Side.the-variants.{Asked, Turned}
-use Rattle.lookups.specs.declared.PlainAnswer.{PlainAnswer}
-use Rattle.lookups.specs.declared.PlainAnswer.the-variants as plain
+use Rattle.plain.specs.declared.PlainAnswer.{PlainAnswer}
+use Rattle.plain.specs.declared.PlainAnswer.the-variants as plain
 use Rattle.questions.specs.declared.QuickAnswer.{QuickAnswer}
 use Rattle.questions.specs.declared.QuickAnswer.the-variants as quick
 

@@ -5,10 +5,10 @@ mod reordering;
 use collection::Side;
 use collection::Verdict;
 use libc::STDOUT_FILENO;
-use lookups::PlainAnswer;
+use plain::PlainAnswer;
 use repeats::CheckAnswer;
+use run_lists::WeightAnswer;
 use runs::RunsAnswer;
-use runs::WeightAnswer;
 
 // The sheet of 01 after the places +1 +4 -3 -2.
 const LETTERS: [u8; 18] = *b"AAACCTGTAGGCTGAGAT";
@@ -36,8 +36,8 @@ fn show_verdict(asked: &[u8], v: Verdict) {
 
 // The letters that ACCESS hands back, and its number and place.
 fn show_access(asked: &[u8], k: usize, handle: usize) {
-    let told = lookups::access_told(k, &LETTERS, &ENDS, handle);
-    let part = lookups::access(k, &LETTERS, &ENDS, handle);
+    let told = access::access_told(k, &LETTERS, &ENDS, handle);
+    let part = access::access(k, &LETTERS, &ENDS, handle);
     io::write_all(STDOUT_FILENO, part);
     io::write_all(STDOUT_FILENO, b" ");
     show(asked, told.number as u64, told.place as u64);
@@ -45,7 +45,7 @@ fn show_access(asked: &[u8], k: usize, handle: usize) {
 
 // The handle and 1 for side +, 2 for side -; 0 and 0 if absent; 100 + number and the place if refused.
 fn show_plain(asked: &[u8], word: &[u8]) {
-    let answer = lookups::plain(3, &LETTERS, &ENDS, &WEIGHTS, word);
+    let answer = plain::plain(3, &LETTERS, &ENDS, &WEIGHTS, word);
     match answer {
         PlainAnswer::Found { handle, side } => match side {
             Side::Asked => show(asked, handle as u64, 1),
@@ -90,7 +90,7 @@ fn show_runs() {
 fn show_weight(asked: &[u8], n: usize, handle: usize) {
     let weights = [2u32, 5, 3, 7, 2];
     let firsts = [1u32, 3, 5, 7, 10];
-    let answer = runs::weight(&weights, &firsts, n, handle);
+    let answer = run_lists::weight(&weights, &firsts, n, handle);
     match answer {
         WeightAnswer::Found { weight } => show(asked, weight as u64, 0),
         WeightAnswer::Refused { number, place } => show(asked, 100 + number as u64, place as u64),

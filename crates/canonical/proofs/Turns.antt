@@ -1,4 +1,4 @@
--- The codes of a word and of its reverse complement along a string of judged letters: the forward code by the laws of `Rolls`, the turned one beside it by what
+-- The codes of a word and of its reverse complement along a string of judged letters: the forward code by the laws of `Along`, the turned one beside it by what
 -- a letter more before, and one less behind, make of a code. Assumes nothing.
 use mathlib.Core.Path.{_≡_, sym, ap, ap₂, _∙_, subst}
 use mathlib.Core.Bool.{true}
@@ -12,14 +12,15 @@ use lib.Seq.{take-suc, drop-cons, getD-drop}
 use Rattle.lists.specs.Every.{All}
 use Rattle.lists.proofs.Every.{all-take, all-drop, all-at}
 use Rattle.lists.proofs.Mapped.{map-at-below}
-use Rattle.words.specs.Letter.{letter, isLetter, twoBits}
+use Rattle.alphabet.specs.Letter.{letter, isLetter, twoBits, paired}
 use Rattle.words.specs.Turned.{turnedCode, rolled, rolledTurned}
-use Rattle.words.specs.Word.{Letters, code, paired, turn, spell, wordAt}
+use Rattle.words.specs.Word.{Letters, code, turn, spell, wordAt}
 use Rattle.words.proofs.Codes.{code-cons, code-snoc, code-lt}
-use Rattle.words.proofs.Letters.{letter-bits, spell-letters, spell-bits}
+use Rattle.alphabet.proofs.Letters.{letter-bits}
+use Rattle.words.proofs.Spelled.{spell-letters, spell-bits}
 use Rattle.words.proofs.Rolling.{length-at, letters-at, word-part}
 use Rattle.words.proofs.Turning.{turn-cons, turn-snoc, length-turn, letters-turn, turned-code}
-use Rattle.lookups.proofs.Scans.{Rolls, rolls-begin, rolls-here, rolls-on}
+use Rattle.words.proofs.Along.{Rolls, rolls-begin, word-here, word-on}
 
 -- c ends in the k - 1 letters before the next k-mer; t begins with their reverse complement
 pub record Turns (k : ℕ) (letters : List ℕ) (a c t : ℕ) : Type 0 where
@@ -72,7 +73,7 @@ module _ (k : ℕ) (letters : List ℕ) (k-low : 1 ≤ k) (k-high : k ≤ 31) (g
         let z : at + 0 ≡ at = add-zero at in
         let d : t / 4 ≡ turnedCode (k - 1) c = omega arith in
         record {
-          rolls = rolls-begin k letters k-low k-high good at c l e;
+          rolls = rolls-begin k letters k-low k-high at c l e;
           high = d ∙ (first-turned ∙ ap (λ (a : ℕ). code (turn (row (k - 1) a))) (sym z));
           small = subst (λ (n : ℕ). n < 4 ^ k) (sym h) first-small;
         }
@@ -98,7 +99,7 @@ module _ (k : ℕ) (letters : List ℕ) (k-low : 1 ≤ k) (k-high : k ≤ 31) (g
   -- one letter more gives both codes of the next k-mer
   module _ (at i c t x : ℕ) (l : at + i + k ≤ length letters) (s : Turns k letters (at + i) c t) (e : x ≡ twoBits (getD letters (at + (k - 1) + i) 0)) where
     pub code-here : rolled k c x ≡ code (wordAt k letters (at + i))
-    code-here = rolls-here k letters k-low k-high good at i c x l (s .rolls) e
+    code-here = word-here k letters k-low k-high good at i c x l (s .rolls) e
 
     pub turned-here : rolledTurned k t x ≡ code (turn (wordAt k letters (at + i)))
     turned-here =
@@ -118,7 +119,7 @@ module _ (k : ℕ) (letters : List ℕ) (k-low : 1 ≤ k) (k-high : k ≤ 31) (g
       h ∙ (ap (λ (v : List ℕ). code (turn v)) (word-part k letters (at + i) ∙ m) ∙ (ap code (turn-cons y w) ∙ code-snoc (turn w) (paired y))) in
       let d : t / 4 ≡ code (turn w) = omega arith in
       record {
-        rolls = rolls-on k letters k-low k-high good at i c l e;
+        rolls = word-on k letters k-low k-high good at i c l e;
         high = d ∙ ap (λ (a : ℕ). code (turn (row (k - 1) a))) p;
         small = subst (λ (n : ℕ). n < 4 ^ k) (sym (h ∙ ap (λ (v : List ℕ). code (turn v)) (word-part k letters (at + i)))) (turned-lt k (at + i) l);
       }

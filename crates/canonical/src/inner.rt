@@ -5,9 +5,9 @@ ghost use Prim.Native.Nat.{_+_, _/_, _%_, _≤_, min};
 ghost use lib.ListN.{length};
 ghost use Rattle.lists.specs.Count.{countFrom};
 ghost use Rattle.lists.specs.Every.{every};
-ghost use Rattle.words.specs.Letter.{isLetter};
+ghost use Rattle.alphabet.specs.Letter.{isLetter};
 ghost use Rattle.collection.specs.Kmers.{kmers};
-ghost use Rattle.lookups.specs.Located.{Ready};
+ghost use Rattle.collection.specs.Ready.{Ready};
 ghost use Rattle.canonical.specs.Codes.{Coded};
 
 // The smaller of two codes.
@@ -52,7 +52,7 @@ fn code_string(
     let mut t = words::inner::turned_code(k - 1, c) * 4;
     let mut i = 0;
     while i < number {
-        let x = words::letter_code(letters[before + i]);
+        let x = alphabet::letter_code(letters[before + i]);
         c = words::inner::roll(k, c, x);
         t = words::inner::roll_turned(k, t, x);
         let least = smaller(c, t);

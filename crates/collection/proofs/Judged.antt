@@ -1,27 +1,23 @@
 -- What good verdicts tell a caller, and how loops over the ends find the first short string. Assumes nothing.
-use mathlib.Core.Path.{_≡_, refl, sym, ap, _∙_, subst}
+use mathlib.Core.Path.{_≡_, refl}
 use mathlib.Core.Bool.{Bool, true, false, not, _&&_}
 use mathlib.Core.List.{List, [], _∷_}
-use Prim.Native.Nat.{ℕ, zero, suc, _+_, _-_, _*_, _<_, _≤_}
-use native.Mathlib.Nat.{zero-mul, suc-mul, add-zero, le-refl, mul-le-mul-left}
-use native.Mathlib.Numerals.{add-one, sub-one}
+use Prim.Native.Nat.{ℕ, suc, _+_, _*_, _≤_}
+use native.Mathlib.Nat.{zero-mul, suc-mul, add-zero, le-refl}
 use native.Mathlib.Omega.{arith}
-use native.Mathlib.Decide.{decLe}
-use borrow.Author.Tests.{le-leb, lt-leb, ne-eqb, lt-ltb, le-ltb, ltb-true, ltb-false, leb-true, eqb-true, not-false}
+use borrow.Author.Tests.{ltb-false, leb-true, eqb-true, not-false}
 use lib.Dec.{leb, ltb, eqb}
-use lib.ListN.{length, drop, getD, drop-of-length-le}
-use lib.Seq.{drop-cons}
+use lib.ListN.{length}
 use Rattle.lists.specs.Choose.{choose}
 use Rattle.lists.specs.Every.{All, every}
-use Rattle.lists.specs.First.{firstThat}
-use Rattle.lists.proofs.Every.{and-left, and-right, and-assoc, and-true, all-map}
-use Rattle.lists.proofs.First.{first-none, none-first}
-use Rattle.words.specs.Letter.{isLetter}
-use Rattle.collection.specs.declared.Verdict.{Verdict}
-use Rattle.collection.specs.declared.Verdict.the-variants.{Good, Bad}
-use Rattle.collection.specs.Verdict.{andThen, atPlace}
-use Rattle.collection.specs.Judge.{kVerdict, sizeVerdict, firstShort, lastEnd, endsVerdict, shapeVerdict, kmerCount, lettersVerdict, isWeight, weightsVerdict, collectionVerdict, Passes, handleVerdict, wordVerdict}
-use Rattle.collection.specs.Long.{Long}
+use Rattle.lists.proofs.Every.{and-left, and-right, all-map}
+use Rattle.lists.proofs.First.{first-none}
+use Rattle.alphabet.specs.Letter.{isLetter}
+use Rattle.collection.specs.declared.Verdict.the-variants.{Good}
+use Rattle.collection.specs.Verdict.{atPlace}
+use Rattle.collection.specs.Judge.{kVerdict, sizeVerdict, endsVerdict, shapeVerdict, kmerCount, lettersVerdict, weightsVerdict, collectionVerdict, Passes, handleVerdict, wordVerdict}
+use Rattle.faults.specs.Faults.{firstShort, lastEnd, isWeight}
+use Rattle.collection.specs.Ready.{Long}
 use Rattle.collection.proofs.Verdicts.{both-good, test-good, place-good}
 
 -- ─── 2 and 3 ─────────────────────────────────────────────────────────────────
@@ -38,38 +34,7 @@ size-good N m h =
     let t = test-good (leb N 1048576 && leb m 65536) 3 0 Good h .0 in
     (leb-true N 1048576 (and-left (leb N 1048576) (leb m 65536) t), leb-true m 65536 (and-right (leb N 1048576) (leb m 65536) t))
 
--- ─── 4: as a loop goes over the ends ─────────────────────────────────────────
-
-module _ (k before : ℕ) (ends : List ℕ) (i : ℕ) (h : i < length ends) where
-  pub short-here : getD ends i 0 < before + k → firstShort k i before (drop i ends) ≡ i + 1
-  unfolding firstShort
-  short-here e = rw (drop-cons ends i 0, lt-ltb _ _ e, add-one)
-
-  pub short-next : before + k ≤ getD ends i 0 → firstShort k i before (drop i ends) ≡ firstShort k (i + 1) (getD ends i 0) (drop (i + 1) ends)
-  unfolding firstShort
-  short-next e = rw (drop-cons ends i 0, le-ltb _ _ e, add-one)
-
-pub short-end : (k before : ℕ) (ends : List ℕ) (i : ℕ) → length ends ≤ i → firstShort k i before (drop i ends) ≡ 0
-unfolding firstShort
-short-end k before ends i h = rw (drop-of-length-le ends h)
-
--- the same as a test: no string is short from string i on exactly if string i is long and none after it is short
-module _ (k before : ℕ) (ends : List ℕ) (i : ℕ) where
-  abbrev pub noneShort : Bool
-  noneShort = eqb (firstShort k i before (drop i ends)) 0
-
-  none-short-step : i < length ends → noneShort ≡ (leb (before + k) (getD ends i 0) && eqb (firstShort k (i + 1) (getD ends i 0) (drop (i + 1) ends)) 0)
-  none-short-step h = go (decLe (before + k) (getD ends i 0))
-    where
-      go : Dec (before + k ≤ getD ends i 0) → noneShort ≡ (leb (before + k) (getD ends i 0) && eqb (firstShort k (i + 1) (getD ends i 0) (drop (i + 1) ends)) 0)
-      go (yes l) = rw (short-next k before ends i h l, le-leb (before + k) (getD ends i 0) l)
-      go (no l) = let s : getD ends i 0 < before + k = omega arith in rw (short-here k before ends i h s, lt-leb (before + k) (getD ends i 0) s) (ne-eqb (i + 1) 0 (λ q. omega arith))
-
-  pub none-short-next : i < length ends → (all good : Bool) → all ≡ (good && noneShort) → all ≡ ((good && leb (before + k) (getD ends i 0)) && eqb (firstShort k (i + 1) (getD ends i 0) (drop (i + 1) ends)) 0)
-  none-short-next h all good q = q ∙ (ap (λ (t : Bool). good && t) (none-short-step h) ∙ and-assoc good (leb (before + k) (getD ends i 0)) (eqb (firstShort k (i + 1) (getD ends i 0) (drop (i + 1) ends)) 0))
-
-  pub none-short-end : length ends ≤ i → (all good : Bool) → all ≡ (good && noneShort) → good ≡ all
-  none-short-end h all good q = sym (q ∙ (ap (λ (n : ℕ). good && eqb n 0) (short-end k before ends i h) ∙ and-true good))
+-- ─── 4 ───────────────────────────────────────────────────────────────────────
 
 -- a string of at least k letters, and the strings after it
 pub long-cons : (k i before e : ℕ) (ends : List ℕ) → firstShort k i before (e ∷ ends) ≡ 0 → (before + k ≤ e) × (firstShort k (suc i) e ends ≡ 0)
@@ -79,20 +44,6 @@ long-cons k i before e ends h = go (ltb e (before + k)) refl h
     go : (t : Bool) → ltb e (before + k) ≡ t → choose t (suc i) (firstShort k (suc i) e ends) ≡ 0 → (before + k ≤ e) × (firstShort k (suc i) e ends ≡ 0)
     go true q r = absurd (omega arith)
     go false q r = (ltb-false e (before + k) q, r)
-
-last-pred : (before : ℕ) (ends : List ℕ) → (length ends ≡ 0 → ⊥) → getD ends (length ends - 1) 0 ≡ lastEnd before ends
-unfolding lastEnd
-last-pred before [] h = absurd (h refl)
-last-pred before (e ∷ []) h = refl
-last-pred before (e ∷ (f ∷ ends)) h = rw sub-one (rw sub-one at (last-pred e (f ∷ ends) (λ q. omega arith)))
-
-pub last-is : (ends : List ℕ) → (length ends ≡ 0 → ⊥) → getD ends (length ends - 1) 0 ≡ lastEnd 0 ends
-last-is ends h = last-pred 0 ends h
-
-pub last-none : (ends : List ℕ) → length ends ≡ 0 → 0 ≡ lastEnd 0 ends
-unfolding lastEnd
-last-none [] h = refl
-last-none (e ∷ ends) h = absurd (omega arith)
 
 -- strings of at least k letters take k letters each
 pub ends-room : (k i before : ℕ) (ends : List ℕ) → firstShort k i before ends ≡ 0 → before + length ends * k ≤ lastEnd before ends
@@ -183,7 +134,3 @@ unfolding wordVerdict
 word-good k word h =
     let t = test-good (eqb (length word) k && every isLetter word) 9 0 Good h .0 in
     (eqb-true (length word) k (and-left (eqb (length word) k) (every isLetter word) t), and-right (eqb (length word) k) (every isLetter word) t)
-
--- a test of a whole table that all pass finds no first that fails
-pub every-first : (test : ℕ → Bool) (xs : List ℕ) → All (λ x. test x ≡ true) xs → firstThat (λ x. not (test x)) xs ≡ 0
-every-first test xs h = none-first (λ x. not (test x)) xs (all-map (λ x e. ap not e) xs h)

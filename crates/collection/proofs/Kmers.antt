@@ -13,10 +13,11 @@ use Rattle.lists.specs.Every.{All}
 use Rattle.lists.proofs.Count.{length-count, all-count}
 use Rattle.lists.proofs.Every.{all-append, all-at}
 use Rattle.lists.proofs.Storing.{drop-next}
-use Rattle.collection.specs.Judge.{firstShort, lastEnd, kmerCount}
+use Rattle.faults.specs.Faults.{firstShort, lastEnd}
+use Rattle.collection.specs.Judge.{kmerCount}
 use Rattle.collection.specs.Kmers.{within, kmersFrom, kmers, positionOf}
-use Rattle.collection.specs.Long.{Long}
-use Rattle.collection.proofs.Judged.{long-cons, Shape, shape-long, ends-room}
+use Rattle.collection.specs.Ready.{Long}
+use Rattle.collection.proofs.Judged.{long-cons, Shape, ends-room}
 
 -- ─── how many ────────────────────────────────────────────────────────────────
 

@@ -3,3 +3,4 @@ pub mod Verdicts
 pub mod Judged
 pub mod Kmers
 pub mod Strings
+pub mod Ready

@@ -11,12 +11,14 @@ use lib.Seq.{take-at, drop-at, length-take-le}
 use Rattle.lists.specs.Choose.{choose}
 use Rattle.lists.specs.Every.{All}
 use Rattle.lists.proofs.Every.{all-append, all-take, all-drop}
-use Rattle.words.specs.Letter.{isLetter}
+use Rattle.alphabet.specs.Letter.{isLetter}
 use Rattle.collection.specs.declared.Verdict.the-variants.{Good, Bad}
-use Rattle.collection.specs.Judge.{kVerdict, sizeVerdict, firstShort, lastEnd, endsVerdict, shapeVerdict, kmerCount, lettersVerdict, isWeight, weightsVerdict, collectionVerdict, Passes}
+use Rattle.collection.specs.Judge.{kVerdict, sizeVerdict, endsVerdict, shapeVerdict, kmerCount, lettersVerdict, weightsVerdict, collectionVerdict, Passes}
+use Rattle.faults.specs.Faults.{firstShort, lastEnd, isWeight}
 use Rattle.collection.specs.Kmers.{within}
 use Rattle.collection.specs.Strings.{Str, stringsFrom, strings, lettersIn, weightsIn, endsIn}
-use Rattle.collection.proofs.Judged.{k-good, long-cons, ends-room, Shape, every-first}
+use Rattle.collection.proofs.Judged.{k-good, long-cons, ends-room, Shape}
+use Rattle.faults.proofs.Finding.{every-first}
 use Rattle.collection.proofs.Verdicts.{then-good, place-none}
 
 -- a string of at least k letters, with a weight for each of its k-mers

@@ -80,3 +80,19 @@ module _ {Out : Type 0} {verdict : Verdict} (refuse : ℕ → ℕ → Out) where
   pub settled : {done answer : Out} → answer ≡ done → verdict ≡ Good → answer ≡ settle verdict refuse done
   unfolding settle
   settled {done = done} d e = d ∙ sym (ap (λ (v : Verdict). settle v refuse done) e)
+
+-- ─── what an answer tells of the call ────────────────────────────────────────
+
+-- `answer` is the part of an outcome that is told. An answer r that no refusal gives: the call was not refused
+pub done-by : {Out Answer : Type 0} (answer : Out → Answer) (v : Verdict) (refuse : ℕ → ℕ → Out) (done : Out) (r : Answer) → ((number place : ℕ) → answer (refuse number place) ≡ r → ⊥)
+    → answer (settle v refuse done) ≡ r → (v ≡ Good) × (settle v refuse done ≡ done) × (answer done ≡ r)
+unfolding settle
+done-by answer Good refuse done r not e = (refl, refl, e)
+done-by answer (Bad number place) refuse done r not e = absurd (not number place e)
+
+-- an answer r that a call gives only where it is refused
+pub refused-by : {Out Answer : Type 0} (answer : Out → Answer) (v : Verdict) (refuse : ℕ → ℕ → Out) (done : Out) (r : Answer) → (answer done ≡ r → ⊥) → answer (settle v refuse done) ≡ r
+    → (number : ℕ) × (place : ℕ) × (settle v refuse done ≡ refuse number place) × (answer (refuse number place) ≡ r)
+unfolding settle
+refused-by answer Good refuse done r not e = absurd (not e)
+refused-by answer (Bad number place) refuse done r not e = (number, place, refl, e)

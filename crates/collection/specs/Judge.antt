@@ -1,14 +1,15 @@
 -- The refusals 2 to 6 of a collection and 9 of a question, in the words and the order of the table of refusals.
-use mathlib.Core.Bool.{Bool, not, _&&_}
-use mathlib.Core.List.{List, [], _∷_}
+use mathlib.Core.Bool.{not, _&&_}
+use mathlib.Core.List.{List}
 use mathlib.Core.Path.{_≡_}
-use Prim.Native.Nat.{ℕ, suc, _+_, _-_, _*_}
-use lib.Dec.{leb, ltb, eqb}
+use Prim.Native.Nat.{ℕ, _+_, _-_, _*_}
+use lib.Dec.{leb, eqb}
 use lib.ListN.{length}
 use Rattle.lists.specs.Choose.{choose}
 use Rattle.lists.specs.Every.{every}
-use Rattle.lists.specs.First.{firstThat, firstFrom}
-use Rattle.words.specs.Letter.{isLetter}
+use Rattle.lists.specs.First.{firstThat}
+use Rattle.alphabet.specs.Letter.{isLetter}
+use Rattle.faults.specs.Faults.{firstShort, lastEnd, isWeight}
 use Rattle.collection.specs.declared.Verdict.{Verdict}
 use Rattle.collection.specs.declared.Verdict.the-variants.{Good, Bad}
 use Rattle.collection.specs.Verdict.{andThen, atPlace}
@@ -24,17 +25,6 @@ unfoldable pub sizeVerdict : ℕ → ℕ → Verdict
 sizeVerdict N m = choose (leb N 1048576 && leb m 65536) Good (Bad 3 0)
 
 -- ─── 4 ───────────────────────────────────────────────────────────────────────
-
--- the number of the first string shorter than k, where i strings stand before and the last of them ends at `before`; 0 where none is.
--- A string has its end less the end before letters, so an end that falls makes a short string.
-unfoldable pub firstShort : ℕ → ℕ → ℕ → List ℕ → ℕ
-firstShort k i before [] = 0
-firstShort k i before (e ∷ ends) = choose (ltb e (before + k)) (suc i) (firstShort k (suc i) e ends)
-
--- the last end, or `before` where there is none
-unfoldable pub lastEnd : ℕ → List ℕ → ℕ
-lastEnd before [] = before
-lastEnd before (e ∷ ends) = lastEnd e ends
 
 -- 4: a string shorter than k, at its number; else a last end that is not N, at m + 1
 unfoldable pub endsVerdict : ℕ → ℕ → List ℕ → Verdict
@@ -53,10 +43,6 @@ kmerCount k N m = N - m * (k - 1)
 -- 5: the first byte that is no letter, from 1
 unfoldable pub lettersVerdict : List ℕ → Verdict
 lettersVerdict letters = atPlace 5 (firstThat (λ b. not (isLetter b)) letters)
-
--- a weight is 1 to 16,777,215
-abbrev pub isWeight : ℕ → Bool
-isWeight w = leb 1 w && leb w 16777215
 
 -- 6: the number of weights is not n, at 0; else the first weight out of range, from 1
 unfoldable pub weightsVerdict : ℕ → List ℕ → Verdict

@@ -3,4 +3,4 @@ pub mod Verdict
 pub mod Judge
 pub mod Kmers
 pub mod Strings
-pub mod Long
+pub mod Ready

@@ -1,15 +1,9 @@
-// Judging one table after the other. A whole table is tested without leaving early, which the compiler turns into vector
-// code; only where something is wrong is its place looked for.
+// Judging one table after the other: 4, 5 and 6, each at the place of the first fault.
 use crate::Verdict;
-ghost use mathlib.Core.Bool.{not};
 ghost use mathlib.Core.Path.{_≡_};
 ghost use Prim.Native.Nat.{_≤_};
-ghost use lib.Dec.{eqb};
-ghost use Rattle.lists.specs.Every.{every};
-ghost use Rattle.lists.specs.First.{firstThat};
-ghost use Rattle.words.specs.Letter.{isLetter};
 ghost use Rattle.collection.specs.Verdict.{atPlace};
-ghost use Rattle.collection.specs.Judge.{firstShort, lastEnd, endsVerdict, lettersVerdict, isWeight, weightsVerdict};
+ghost use Rattle.collection.specs.Judge.{endsVerdict, lettersVerdict, weightsVerdict};
 
 // A refusal at a place, unless the place is 0.
 fn at_place(number: u32, place: usize) -> Verdict
@@ -21,68 +15,19 @@ fn at_place(number: u32, place: usize) -> Verdict
     Verdict::Bad { number, place }
 }
 
-// Whether no string is shorter than k.
-fn none_short(k: usize, ends: &[u32]) -> bool
-    requires { ⌜ k ≤ 31 ⌝ }
-    ensures { λ r. ⌜ r ≡ eqb (firstShort k 0 0 (now (ends .entry))) 0 ⌝ }
-{
-    let mut good = true;
-    let mut before: usize = 0;
-    let mut i = 0;
-    while i < ends.len() {
-        let e = ends[i] as usize;
-        good = good & (before + k <= e);
-        before = e;
-        i += 1;
-    }
-    good
-}
-
-// The number of the first string shorter than k, or 0.
-fn first_short(k: usize, ends: &[u32]) -> usize
-    requires { ⌜ k ≤ 31 ⌝ }
-    ensures { λ r. ⌜ r ≡ firstShort k 0 0 (now (ends .entry)) ⌝ }
-{
-    if none_short(k, ends) {
-        return 0;
-    }
-    let mut before: usize = 0;
-    let mut i = 0;
-    while i < ends.len() {
-        let e = ends[i] as usize;
-        if e < before + k {
-            return i + 1;
-        }
-        before = e;
-        i += 1;
-    }
-    0
-}
-
-// The last end, or 0 where there is no string.
-fn last_end(ends: &[u32]) -> usize
-    ensures { λ r. ⌜ r ≡ lastEnd 0 (now (ends .entry)) ⌝ }
-{
-    let m = ends.len();
-    if m == 0 {
-        return 0;
-    }
-    ends[m - 1] as usize
-}
-
 // 4: a string shorter than k, or a last end that is not the number of letters.
 pub(crate) fn judge_ends(k: usize, letters: usize, ends: &[u32]) -> Verdict
     requires { ⌜ k ≤ 31 ⌝ }
     ensures { λ r. ⌜ r ≡ endsVerdict k letters (now (ends .entry)) ⌝ }
 {
-    let short = first_short(k, ends);
+    let short = faults::inner::first_short(k, ends);
     if short != 0 {
         return Verdict::Bad {
             number: 4,
             place: short,
         };
     }
-    let e = last_end(ends);
+    let e = faults::inner::last_end(ends);
     if e != letters {
         return Verdict::Bad {
             number: 4,
@@ -92,58 +37,11 @@ pub(crate) fn judge_ends(k: usize, letters: usize, ends: &[u32]) -> Verdict
     Verdict::Good
 }
 
-// The place of the first byte that is no letter, or 0.
-fn first_other(letters: &[u8]) -> usize
-    ensures { λ r. ⌜ r ≡ firstThat (λ b. not (isLetter b)) (now (letters .entry)) ⌝ }
-{
-    if words::all_letters(letters) {
-        return 0;
-    }
-    let mut i = 0;
-    while i < letters.len() {
-        if !words::is_letter(letters[i]) {
-            return i + 1;
-        }
-        i += 1;
-    }
-    0
-}
-
 // 5: a byte that is no letter.
 pub(crate) fn judge_letters(letters: &[u8]) -> Verdict
     ensures { λ r. ⌜ r ≡ lettersVerdict (now (letters .entry)) ⌝ }
 {
-    at_place(5, first_other(letters))
-}
-
-// Whether all weights are in range.
-fn all_weights(weights: &[u32]) -> bool
-    ensures { λ r. ⌜ r ≡ every isWeight (now (weights .entry)) ⌝ }
-{
-    let mut good = true;
-    let mut i = 0;
-    while i < weights.len() {
-        good = good & crate::is_weight(weights[i]);
-        i += 1;
-    }
-    good
-}
-
-// The place of the first weight out of range, or 0.
-fn first_weight(weights: &[u32]) -> usize
-    ensures { λ r. ⌜ r ≡ firstThat (λ w. not (isWeight w)) (now (weights .entry)) ⌝ }
-{
-    if all_weights(weights) {
-        return 0;
-    }
-    let mut i = 0;
-    while i < weights.len() {
-        if !crate::is_weight(weights[i]) {
-            return i + 1;
-        }
-        i += 1;
-    }
-    0
+    at_place(5, faults::inner::first_other(letters))
 }
 
 // 6: not as many weights as k-mers, or one out of range.
@@ -156,5 +54,5 @@ pub(crate) fn judge_weights(n: usize, weights: &[u32]) -> Verdict
             place: 0,
         };
     }
-    at_place(6, first_weight(weights))
+    at_place(6, faults::inner::first_weight(weights))
 }

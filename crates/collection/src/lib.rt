@@ -5,7 +5,7 @@ mod judging;
 
 ghost use mathlib.Core.Path.{_≡_};
 ghost use Rattle.collection.specs.Verdict.{roomVerdict};
-ghost use Rattle.collection.specs.Judge.{kVerdict, sizeVerdict, isWeight, shapeVerdict, collectionVerdict, handleVerdict, wordVerdict};
+ghost use Rattle.collection.specs.Judge.{kVerdict, sizeVerdict, shapeVerdict, collectionVerdict, handleVerdict, wordVerdict};
 
 // What judging finds: nothing to refuse, or the first refusal in document 01's order.
 pub enum Verdict {
@@ -49,13 +49,6 @@ pub fn judge_size(letters: usize, strings: usize) -> Verdict
         number: 3,
         place: 0,
     }
-}
-
-// Whether a weight is in range.
-pub fn is_weight(w: u32) -> bool
-    ensures { λ r. ⌜ r ≡ isWeight w ⌝ }
-{
-    (1 <= w) & (w <= 16777215)
 }
 
 // 2, 3, 4: the strings have their places.
@@ -119,7 +112,7 @@ pub fn judge_handle(n: usize, handle: usize) -> Verdict
 pub fn judge_word(k: usize, word: &[u8]) -> Verdict
     ensures { λ r. ⌜ r ≡ wordVerdict k (now (word .entry)) ⌝ }
 {
-    if (word.len() == k) & words::all_letters(word) {
+    if (word.len() == k) & alphabet::all_letters(word) {
         return Verdict::Good;
     }
     Verdict::Bad {

@@ -17,24 +17,16 @@ use Rattle.lists.specs.Pairs.{Pairs}
 use Rattle.lists.specs.Pick.{insert, sortBy}
 use Rattle.lists.proofs.Compare.{lt-or-le}
 use Rattle.lists.proofs.Count.{length-count}
+use Rattle.lists.proofs.Agree.{agree-same, agree-other}
 use Rattle.lists.proofs.Every.{all-map}
 use Rattle.lists.proofs.Mapped.{values-at}
 use Rattle.lists.proofs.Sorts.{insert-nil, insert-le, insert-gt, sortBy-nil, sortBy-cons, sortBy-ordered}
 use Rattle.sorting.specs.Keys.{keyAt}
-use Rattle.runs.specs.Joins.{goesOn}
 use Rattle.runs.specs.Runs.{runCount}
 use Rattle.runs.proofs.Joined.{count-none, count-one, count-cons}
 use Rattle.counts.specs.Counts.{isIn, fresh, distinct}
 
 -- ─── fresh, or not ───────────────────────────────────────────────────────────
-
-goes-equal : (w v : ℕ) → w ≡ v → goesOn w v ≡ 1
-unfolding goesOn
-goes-equal w v e = rw (eq-eqb w v e)
-
-goes-other : (w v : ℕ) → (w ≡ v → ⊥) → goesOn w v ≡ 0
-unfolding goesOn
-goes-other w v e = rw (ne-eqb w v e)
 
 fresh-none : (w : ℕ) → fresh w [] ≡ 1
 unfolding fresh isIn
@@ -66,16 +58,16 @@ before-runs : (w v : ℕ) (vs : List ℕ) → Ordered (v ∷ vs) → w ≤ v →
 before-runs w v vs o l = go (ℕ-discrete w v)
   where
     go : Dec (w ≡ v) → runCount (w ∷ (v ∷ vs)) ≡ fresh w (v ∷ vs) + runCount (v ∷ vs)
-    go (yes e) = omega (arith, count-cons w v vs, goes-equal w v e, fresh-equal w v vs e)
+    go (yes e) = omega (arith, count-cons w v vs, agree-same w v e, fresh-equal w v vs e)
     go (no e) =
         let h : w < v = omega arith in
-        omega (arith, count-cons w v vs, goes-other w v e, fresh-other w v vs e, fresh-below w vs (all-map (λ x m. let z : w < x = omega arith in z) vs (o .0)))
+        omega (arith, count-cons w v vs, agree-other w v e, fresh-other w v vs e, fresh-below w vs (all-map (λ x m. let z : w < x = omega arith in z) vs (o .0)))
 
 -- the same behind a lower one
 behind-runs : (y w : ℕ) (vs : List ℕ) → Ordered (y ∷ vs) → y < w → runCount (y ∷ insert itself w vs) ≡ fresh w vs + runCount (y ∷ vs)
 behind-runs y w [] o l =
     let ne : y ≡ w → ⊥ = λ e. omega arith in
-    omega (arith, ap (λ (x : List ℕ). runCount (y ∷ x)) (insert-nil itself w), count-cons y w [], goes-other y w ne, count-one w, count-one y, fresh-none w)
+    omega (arith, ap (λ (x : List ℕ). runCount (y ∷ x)) (insert-nil itself w), count-cons y w [], agree-other y w ne, count-one w, count-one y, fresh-none w)
 behind-runs y w (v ∷ vs) o l = go (lt-or-le v w) (behind-runs v w vs (o .1))
   where
     go : (v < w) ⊎ (w ≤ v) → (v < w → runCount (v ∷ insert itself w vs) ≡ fresh w vs + runCount (v ∷ vs))
@@ -86,7 +78,7 @@ behind-runs y w (v ∷ vs) o l = go (lt-or-le v w) (behind-runs v w vs (o .1))
     go (inr m) r =
         let y-w : y ≡ w → ⊥ = λ e. omega arith in
         let y-v : y ≡ v → ⊥ = λ e. omega arith in
-        omega (arith, ap (λ (x : List ℕ). runCount (y ∷ x)) (insert-le itself w v vs m), count-cons y w (v ∷ vs), goes-other y w y-w, count-cons y v vs, goes-other y v y-v, before-runs w v vs (o .1) m)
+        omega (arith, ap (λ (x : List ℕ). runCount (y ∷ x)) (insert-le itself w v vs m), count-cons y w (v ∷ vs), agree-other y w y-w, count-cons y v vs, agree-other y v y-v, before-runs w v vs (o .1) m)
 
 insert-runs : (w : ℕ) (vs : List ℕ) → Ordered vs → runCount (insert itself w vs) ≡ fresh w vs + runCount vs
 insert-runs w [] o = omega (arith, ap runCount (insert-nil itself w), count-one w, count-none, fresh-none w)

@@ -1,20 +1,17 @@
 -- The runs inside strings, one string after the other as a loop meets them. Assumes nothing.
 use mathlib.Core.Path.{_≡_, refl, sym, ap, ap₂, _∙_}
-use mathlib.Core.Bool.{Bool, true, false}
 use mathlib.Core.List.{List, [], _∷_, map}
 use Prim.Native.Nat.{ℕ, _+_, _-_, _<_, _≤_}
 use native.Mathlib.Omega.{arith}
-use lib.Dec.{eqb}
 use lib.ListN.{length, take, drop, getD, drop-of-length-le, length-drop}
 use lib.Seq.{drop-drop, length-take-le}
-use Rattle.lists.specs.Choose.{choose}
 use Rattle.lists.specs.Count.{sum}
 use Rattle.lists.proofs.Storing.{drop-next}
-use Rattle.collection.specs.Judge.{lastEnd}
+use Rattle.faults.specs.Faults.{lastEnd}
 use Rattle.collection.specs.Kmers.{within, kmersFrom}
 use Rattle.collection.specs.Strings.{stringsFrom}
 use Rattle.collection.proofs.Kmers.{Strings-left, strings-begin, Next, next-string, strings-on}
-use Rattle.runs.specs.Joins.{goesOn}
+use Rattle.lists.proofs.Agree.{agree-le}
 use Rattle.runs.specs.Runs.{runCount, innerRuns}
 use Rattle.runs.proofs.Joined.{count-none, count-one, count-cons}
 use Rattle.vertices.specs.Promises.{Strung}
@@ -34,14 +31,6 @@ pub inner-runs : (k : ℕ) (letters ends weights : List ℕ) → innerRuns k let
 unfolding innerRuns
 inner-runs k letters ends weights = inner-from k 0 letters ends weights
 
-goes-le : (w v : ℕ) → goesOn w v ≤ 1
-unfolding goesOn
-goes-le w v = go (eqb w v)
-  where
-    go : (b : Bool) → choose b 1 0 ≤ 1
-    go true = omega arith
-    go false = omega arith
-
 -- there are no more runs than weights, and one where there are weights
 runs-few : (ws : List ℕ) → runCount ws ≤ length ws
 runs-few [] = omega (arith, count-none)
@@ -51,7 +40,7 @@ runs-few (w ∷ (v ∷ ws)) = omega (arith, count-cons w v ws, runs-few (v ∷ w
 runs-some : (ws : List ℕ) → 1 ≤ length ws → 1 ≤ runCount ws
 runs-some [] h = absurd (omega arith)
 runs-some (w ∷ []) h = omega (arith, count-one w)
-runs-some (w ∷ (v ∷ ws)) h = omega (arith, count-cons w v ws, goes-le w v, runs-some (v ∷ ws) (omega arith))
+runs-some (w ∷ (v ∷ ws)) h = omega (arith, count-cons w v ws, agree-le w v, runs-some (v ∷ ws) (omega arith))
 
 -- ─── the loop ────────────────────────────────────────────────────────────────
 

@@ -11,7 +11,7 @@ use Rattle.lists.specs.Count.{sum}
 use Rattle.lists.specs.Every.{All}
 use Rattle.lists.proofs.Every.{and-right, all-map, all-at}
 use Rattle.lists.proofs.Storing.{drop-next}
-use Rattle.collection.specs.Judge.{isWeight}
+use Rattle.faults.specs.Faults.{isWeight}
 use Rattle.counts.specs.Counts.{largest}
 
 -- weights in range fit 24 bits

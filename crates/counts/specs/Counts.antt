@@ -7,7 +7,7 @@ use lib.Dec.{eqb, leb}
 use lib.ListN.{length, take, drop}
 use Rattle.lists.specs.Choose.{choose}
 use Rattle.lists.specs.Every.{All}
-use Rattle.collection.specs.Judge.{isWeight}
+use Rattle.faults.specs.Faults.{isWeight}
 use Rattle.collection.specs.Kmers.{within}
 use Rattle.runs.specs.Runs.{runCount}
 

@@ -44,7 +44,7 @@ pub fn inner_runs(k: usize, ends: &[u32], weights: &[u32]) -> usize
     while i < ends.len() {
         let e = wide(ends[i]);
         let to = passed + (e + 1 - (before + k));
-        r += runs::listing::count_runs(&weights[passed..to]);
+        r += runs::inner::count_runs(&weights[passed..to]);
         before = e;
         passed = to;
         i += 1;
@@ -113,7 +113,7 @@ fn runs_by(weights: &[u32], ids: &mut [u32]) -> usize
     ensures { λ r. ⌜ r ≡ runCount (map (keyAt (now (weights .entry))) (now (ids .entry))) ⌝ }
 {
     weigh_ids(weights, ids);
-    runs::listing::count_runs(ids)
+    runs::inner::count_runs(ids)
 }
 
 // How many weights are different: in their order each is one run.

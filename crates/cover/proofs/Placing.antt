@@ -13,11 +13,12 @@ use lib.ListN.{length, getD, set, drop, length-set, drop-of-length-le}
 use Rattle.lists.proofs.Storing.{drop-next}
 use lib.Seq.{getD-set-same, getD-set-other}
 use Rattle.lists.specs.Choose.{choose}
-use Rattle.trails.specs.Counting.{agree, occurs}
+use Rattle.lists.specs.Count.{agree}
+use Rattle.trails.specs.Counting.{occurs}
 use Rattle.trails.specs.Places.{signed}
 use Rattle.trails.specs.Strings.{Ends, front, back, turned}
 use Rattle.trails.proofs.Arranged.{marked}
-use Rattle.trails.proofs.Counting.{agree-same, agree-other, Agreeing, agree-cases}
+use Rattle.lists.proofs.Agree.{agree-same, agree-other, Agreeing, agree-cases}
 use Rattle.trails.proofs.Hub.{unspoked}
 use Rattle.tours.specs.Halves.{near, other, gone, numbered}
 use Rattle.tours.specs.States.{numbers}

@@ -1,4 +1,4 @@
--- The code and the minimizer that a loop carries along a string of judged letters: the code by the laws of `Rolls`, the minimizer as the code's least piece.
+-- The code and the minimizer that a loop carries along a string of judged letters: the code by the laws of `Along`, the minimizer as the code's least piece.
 -- Assumes nothing.
 use mathlib.Core.Path.{_≡_, sym, ap, _∙_}
 use mathlib.Core.Bool.{true}
@@ -11,11 +11,12 @@ use lib.ListN.{length, getD, take, drop, length-map, length-drop}
 use lib.Seq.{length-take-le}
 use Rattle.lists.specs.Every.{All}
 use Rattle.lists.proofs.Every.{all-take, all-drop}
-use Rattle.words.specs.Letter.{letter, isLetter, twoBits}
+use Rattle.alphabet.specs.Letter.{letter, isLetter, twoBits}
 use Rattle.words.specs.Turned.{rolled}
 use Rattle.words.specs.Word.{Letters, code, wordAt}
-use Rattle.words.proofs.Letters.{bits-lt, spell-letters, spell-bits}
-use Rattle.lookups.proofs.Scans.{Rolls, rolls-here, rolls-on}
+use Rattle.alphabet.proofs.Letters.{bits-lt}
+use Rattle.words.proofs.Spelled.{spell-letters, spell-bits}
+use Rattle.words.proofs.Along.{Rolls, word-here, word-on}
 use Rattle.minimizers.specs.Minimizer.{least, minimizerAt}
 use Rattle.minimizers.proofs.Sliding.{four-pos, least-low}
 use Rattle.minimizers.proofs.Smallest.{least-minimizer, minimizer-lt}
@@ -59,7 +60,7 @@ module _ (k p : ℕ) (letters : List ℕ) (fits : p ≤ k) (good : All (λ b. is
         let w = wordAt k letters (a + i) in
         let n = word-length (a + i) l in (
           f ∙ (ap (least p (k - p)) e ∙ (ap (λ (m : ℕ). least p (m - p) (code w)) (sym n) ∙ least-minimizer p w (word-letters (a + i)) (omega (arith, n)))),
-          record { rolls = rolls-on k letters k-low k-high good a i c l e; is-least = f },
+          record { rolls = word-on k letters k-low k-high good a i c l e; is-least = f },
         )
 
     -- the first k-mer of a string
@@ -78,4 +79,4 @@ module _ (k p : ℕ) (letters : List ℕ) (fits : p ≤ k) (good : All (λ b. is
         → d ≡ rolled k c x → w ≡ least p (k - p) d → (w ≡ minimizerAt k p letters (a + i)) × Carried k p letters (a + (i + 1)) d w
     carried-on a i c v d x w l s e f g =
         let q : a + i + (k - 1) ≡ a + (k - 1) + i = omega arith in
-        carried-from a i d w l (f ∙ rolls-here k letters k-low k-high good a i c x l (s .rolls) (e ∙ ap (λ (m : ℕ). twoBits (getD letters m 0)) q)) g
+        carried-from a i d w l (f ∙ word-here k letters k-low k-high good a i c x l (s .rolls) (e ∙ ap (λ (m : ℕ). twoBits (getD letters m 0)) q)) g

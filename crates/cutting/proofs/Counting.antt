@@ -5,8 +5,8 @@ use Prim.Native.Nat.{ℕ, _+_, _-_, _≤_, _<_}
 use native.Mathlib.Omega.{arith}
 use lib.ListN.{length, getD, drop, length-append}
 use Rattle.collection.specs.Kmers.{within}
-use Rattle.collection.specs.Long.{Long}
-use Rattle.collection.specs.Judge.{lastEnd}
+use Rattle.collection.specs.Ready.{Long}
+use Rattle.faults.specs.Faults.{lastEnd}
 use Rattle.collection.proofs.Kmers.{Strings-left, strings-begin, strings-on}
 use Rattle.stretches.specs.Stretches.{Stretch, ofString, stretchesFrom, stretches}
 use Rattle.cutting.proofs.Opened.{Open, open-start, open-on, open-cut, open-last, string-few, stretches-next, stretches-end}

@@ -4,9 +4,9 @@ use mathlib.Core.List.{List, [], _∷_, _++_}
 use Prim.Native.Nat.{ℕ, _+_, _-_, _≤_, _<_}
 use native.Mathlib.Omega.{arith}
 use lib.ListN.{length, set, getD, drop}
-use Rattle.collection.specs.Judge.{lastEnd}
+use Rattle.faults.specs.Faults.{lastEnd}
 use Rattle.collection.specs.Kmers.{within}
-use Rattle.collection.specs.Long.{Long}
+use Rattle.collection.specs.Ready.{Long}
 use Rattle.collection.proofs.Kmers.{Strings-left, strings-begin, strings-on}
 use Rattle.stretches.specs.Stretches.{Stretch, stretch, ofString, stretchesFrom, stretches}
 use Rattle.cutting.specs.Cut.{Room4, Cut}

@@ -3,14 +3,13 @@ use mathlib.Core.Path.{_≡_}
 use mathlib.Core.List.{List, [], _∷_}
 use Prim.Native.Nat.{ℕ, suc, _+_, _^_, _≤_, _<_}
 use native.Mathlib.Omega.{arith}
-use lib.ListN.{length}
 use Rattle.lists.specs.Every.{All}
 use Rattle.lists.proofs.Every.{all-append, all-map, every-all}
-use Rattle.words.specs.Letter.{isLetter}
-use Rattle.collection.specs.Judge.{firstShort, lastEnd}
+use Rattle.alphabet.specs.Letter.{isLetter}
+use Rattle.faults.specs.Faults.{firstShort, lastEnd}
 use Rattle.collection.specs.Kmers.{within}
 use Rattle.collection.proofs.Judged.{long-cons, ends-room}
-use Rattle.lookups.specs.Located.{Ready}
+use Rattle.collection.specs.Ready.{Ready}
 use Rattle.minimizers.specs.Minimizer.{minimizerAt}
 use Rattle.stretches.specs.Stretches.{ofString, stretchesFrom, stretches}
 use Rattle.cutting.proofs.Carried.{minimizer-below}

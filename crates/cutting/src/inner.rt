@@ -4,8 +4,8 @@ ghost use mathlib.Core.Path.{_≡_};
 ghost use Prim.Native.Nat.{ℕ, _+_, _^_, _≤_, _<_};
 ghost use lib.ListN.{length, set};
 ghost use Rattle.lists.specs.Every.{every};
-ghost use Rattle.words.specs.Letter.{isLetter};
-ghost use Rattle.lookups.specs.Located.{Ready};
+ghost use Rattle.alphabet.specs.Letter.{isLetter};
+ghost use Rattle.collection.specs.Ready.{Ready};
 ghost use Rattle.minimizers.specs.Minimizer.{minimizerAt};
 ghost use Rattle.stretches.specs.Stretches.{ofString, stretches};
 ghost use Rattle.cutting.specs.Cut.{Room4, Cut};
@@ -21,7 +21,7 @@ fn count_string(k: usize, p: usize, letters: &[u8], a: usize, n: usize) -> usize
     let mut count = 1;
     let mut i = 1;
     while i < n {
-        let x = words::letter_code(letters[a + i + (k - 1)]);
+        let x = alphabet::letter_code(letters[a + i + (k - 1)]);
         let d = words::inner::roll(k, c, x);
         let q = minimizers::inner::slide(p, k - p, v, c, d, x);
         c = d;
@@ -100,7 +100,7 @@ fn cut_string(
     let mut to = o;
     let mut i: usize = 1;
     while i < n {
-        let x = words::letter_code(letters[a + i + (k - 1)]);
+        let x = alphabet::letter_code(letters[a + i + (k - 1)]);
         let d = words::inner::roll(k, c, x);
         let q = minimizers::inner::slide(p, k - p, v, c, d, x);
         let j = i;

@@ -1,12 +1,11 @@
 -- The three demands hold. Assumes nothing.
-use mathlib.Core.Path.{_≡_, refl, sym, ap, _∙_, subst}
+use mathlib.Core.Path.{_≡_, sym, ap, _∙_, subst}
 use mathlib.Core.List.{List}
-use Prim.Native.Nat.{ℕ, _+_, _-_, _/_, _<_}
+use Prim.Native.Nat.{ℕ, _+_, _-_, _/_}
 use native.Mathlib.Omega.{arith}
 use lib.IntN.{ℤ, pos, natAbs}
 use lib.ListN.{length, getD, take}
 use Rattle.lists.proofs.Storing.{take-fill}
-use Rattle.collection.specs.declared.Verdict.the-variants.{Good}
 use Rattle.collection.specs.Judge.{Passes, collectionVerdict}
 use Rattle.collection.specs.Strings.{Str}
 use Rattle.collection.proofs.Verdicts.{both-good}
@@ -17,11 +16,11 @@ use Rattle.vertices.specs.EndWeights.{endWeights}
 use Rattle.cover.specs.declared.CoverAnswer.{CoverAnswer}
 use Rattle.cover.specs.declared.CoverAnswer.the-variants as cover
 use Rattle.cover.specs.Cover.{Promise, coverVerdict}
-use Rattle.cover.proofs.Laws.{cover-answers, cover-fills, cover-number}
-use Rattle.placing.specs.Weighs.{none}
-use Rattle.placing.proofs.Handles.{weight-kept, weight-from}
-use Rattle.placing.proofs.Permutation.{one-string}
-use Rattle.placing.proofs.Reordered.{reordered-passes, reordered-strings, string-stands, string-from}
+use Rattle.cover.proofs.Laws.{cover-fills}
+use Rattle.reordering.specs.Weighs.{none}
+use Rattle.reordering.proofs.Handles.{weight-kept, weight-from}
+use Rattle.places.proofs.Permutation.{one-string}
+use Rattle.reordering.proofs.Reordered.{reordered-passes, reordered-strings, string-stands, string-from}
 use Rattle.fewest.specs.Fewest.{runsAt, leastRuns}
 use Rattle.fewest.proofs.Fewest.{fewest-runs, cover-fewest, none-zero}
 use Rattle.dictionary.specs.Demands.{DemandOne, Reordered, DemandTwo, DemandThree}

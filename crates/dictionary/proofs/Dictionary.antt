@@ -1,6 +1,6 @@
 -- Demand 2 holds over every collection that passes the checks: QUICK finds exactly the words that stand there, each with its own handle and weight. Assumes nothing.
-use mathlib.Core.Path.{_≡_, refl, sym, ap, ap₂, _∙_, subst}
-use mathlib.Core.Bool.{Bool, _&&_}
+use mathlib.Core.Path.{_≡_, sym, ap, ap₂, _∙_, subst}
+use mathlib.Core.Bool.{Bool}
 use mathlib.Core.Logic.{_⊎_, inl, inr}
 use mathlib.Core.List.{List}
 use Prim.Native.Nat.{ℕ, _+_, _-_, _≤_}
@@ -9,37 +9,33 @@ use borrow.Author.Tests.{le-leb}
 use lib.ListN.{length}
 use Rattle.lists.specs.Choose.{choose}
 use Rattle.lists.proofs.Every.{and-both, every-all}
-use Rattle.words.specs.Letter.{isLetter}
+use Rattle.alphabet.specs.Letter.{isLetter}
 use Rattle.words.specs.Word.{Letters, spell, turn}
-use Rattle.words.proofs.Letters.{spell-letters}
+use Rattle.words.proofs.Spelled.{spell-letters}
 use Rattle.words.proofs.Turning.{turn-turn}
 use Rattle.collection.specs.declared.Side.{Side}
 use Rattle.collection.specs.declared.Side.the-variants.{Asked, Turned}
 use Rattle.collection.specs.declared.Verdict.the-variants.{Good, Bad}
-use Rattle.collection.specs.Judge.{Passes, wordVerdict, shapeVerdict, handleVerdict, collectionVerdict, kmerCount}
+use Rattle.collection.specs.Judge.{Passes, wordVerdict, shapeVerdict, handleVerdict, collectionVerdict}
 use Rattle.collection.specs.Kmers.{kmers, wordOf, weightOf, Distinct}
 use Rattle.collection.proofs.Judged.{Judged, collection-good, word-good}
 use Rattle.collection.proofs.Kmers.{kmers-counted}
 use Rattle.collection.proofs.Verdicts.{both-good, then-good}
-use Rattle.lookups.specs.declared.PlainAnswer.{PlainAnswer}
-use Rattle.lookups.specs.declared.PlainAnswer.the-variants as plain
-use Rattle.lookups.specs.Access.{accessVerdict, accessPart}
-use Rattle.lookups.proofs.Accessed.{access-word}
-use Rattle.lookups.specs.Says.{Says, as-asked, as-turned, absent, Stands, Nowhere}
-use Rattle.runs.specs.declared.WeightAnswer.{WeightAnswer}
+use Rattle.plain.specs.declared.PlainAnswer.{PlainAnswer}
+use Rattle.plain.specs.declared.PlainAnswer.the-variants as plain
+use Rattle.access.specs.Access.{accessVerdict}
+use Rattle.access.proofs.Accessed.{access-word}
+use Rattle.plain.specs.Says.{Says, as-asked, as-turned, absent, Stands}
 use Rattle.runs.specs.Runs.{runWeights, runFirsts}
-use Rattle.runs.proofs.GivenBack.{runs-then-weight}
+use Rattle.run_lists.proofs.GivenBack.{runs-then-weight}
 use Rattle.minimizers.specs.Minimizer.{sizesVerdict}
-use Rattle.index.specs.Indexing.{indexWith}
 use Rattle.questions.specs.declared.QuickAnswer.{QuickAnswer}
 use Rattle.questions.specs.declared.QuickAnswer.the-variants.{Found, Absent, Refused}
-use Rattle.questions.specs.declared.WordAnswer.{WordAnswer}
 use Rattle.questions.specs.declared.WordAnswer.the-variants.{Weighs}
-use Rattle.questions.specs.Quick.{quickOf}
 use Rattle.questions.specs.Weighed.{weighs, weighedOf}
 use Rattle.agreement.specs.Agreement.{unnumbered, sided}
 use Rattle.agreement.proofs.Agreed.{quick-finds, absent-nowhere, stands-found, quick-own}
-use Rattle.dictionary.specs.Dictionary.{Sound, Answers, asked, weighed}
+use Rattle.dictionary.specs.Dictionary.{Sound, Answers, asked}
 
 -- a word found weighs what its handle weighs
 pub found-weighs : (k : ℕ) (letters ends weights : List ℕ) → Passes k letters ends weights → (answer : QuickAnswer) (handle : ℕ) (side : Side) (compared : ℕ) → 1 ≤ handle → handle ≤ length weights

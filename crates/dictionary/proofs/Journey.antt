@@ -2,16 +2,15 @@
 use mathlib.Core.Path.{_≡_, refl, sym, ap, ap₂, _∙_, subst}
 use mathlib.Core.Logic.{_⊎_, inl, inr}
 use mathlib.Core.List.{List}
-use Prim.Native.Nat.{ℕ, _+_, _*_, _^_, _≤_}
+use Prim.Native.Nat.{ℕ, _+_, _^_}
 use native.Mathlib.Omega.{arith}
 use lib.IntN.{ℤ}
 use lib.ListN.{length, take, length-map}
-use Rattle.lists.specs.Fill.{fill}
 use Rattle.lists.proofs.Every.{all-map, every-all}
 use Rattle.lists.proofs.Storing.{take-fill}
-use Rattle.words.specs.Letter.{isLetter}
+use Rattle.alphabet.specs.Letter.{isLetter}
 use Rattle.words.specs.Word.{Letters, spell, turn}
-use Rattle.words.proofs.Letters.{spell-letters}
+use Rattle.words.proofs.Spelled.{spell-letters}
 use Rattle.words.proofs.Turning.{turn-turn}
 use Rattle.collection.specs.declared.Side.{Side}
 use Rattle.collection.specs.declared.Side.the-variants.{Asked, Turned}
@@ -27,26 +26,26 @@ use Rattle.collection.proofs.Verdicts.{both-good}
 use Rattle.sheet_text.specs.Sheet.{sheetK, sheetStrings}
 use Rattle.sheet_text.proofs.Accepted.{accepted-holds}
 use Rattle.sheet_text.proofs.Calls.{ReadDone, read-done, read-passes}
-use Rattle.lookups.proofs.Asked.{judged-ready, word-letters}
-use Rattle.lookups.specs.Says.{Stands}
+use Rattle.collection.proofs.Ready.{judged-ready, word-letters}
+use Rattle.plain.specs.Says.{Stands}
 use Rattle.repeats.proofs.Checked.{check-distinct}
 use Rattle.trails.specs.Groups.{least}
 use Rattle.trails.specs.Places.{SignedPermutation}
 use Rattle.vertices.specs.EndWeights.{endWeights}
 use Rattle.cover.specs.declared.CoverAnswer.{CoverAnswer}
 use Rattle.cover.specs.declared.CoverAnswer.the-variants as cover
-use Rattle.cover.specs.Cover.{Fewest, Promise, coverVerdict}
-use Rattle.cover.proofs.Laws.{cover-answers, cover-fills}
+use Rattle.cover.specs.Cover.{Fewest, coverVerdict}
+use Rattle.cover.proofs.Laws.{cover-fills}
 use Rattle.placing.specs.declared.ApplyAnswer.the-variants as apply
 use Rattle.placing.specs.Apply as applying
-use Rattle.placing.specs.Apply.{reordered, applyOf, placedOf, zeroed}
-use Rattle.placing.specs.Weighs.{Weighs, WeighsAt}
-use Rattle.placing.specs.Apply.{tablesVerdict}
-use Rattle.placing.specs.Places.{placesVerdict}
+use Rattle.reordering.specs.Reordered.{reordered}
+use Rattle.placing.specs.Apply.{applyOf, placedOf, tablesVerdict}
+use Rattle.reordering.specs.Weighs.{Weighs, WeighsAt}
+use Rattle.places.specs.Places.{placesVerdict}
 use Rattle.placing.proofs.Applying.{applied}
-use Rattle.placing.proofs.Permutation.{places-good}
-use Rattle.placing.proofs.Handles.{weighs-handle, handle-weighs, weight-kept, weight-from}
-use Rattle.placing.proofs.Reordered.{reordered-sizes, reordered-passes}
+use Rattle.places.proofs.Permutation.{places-good}
+use Rattle.reordering.proofs.Handles.{weighs-handle, handle-weighs, weight-kept, weight-from}
+use Rattle.reordering.proofs.Reordered.{reordered-sizes, reordered-passes}
 use Rattle.fewest.specs.Fewest.{FewestRuns}
 use Rattle.fewest.proofs.Fewest.{fewest-runs, cover-fewest}
 use Rattle.runs.specs.declared.RunsAnswer.the-variants as listing
@@ -55,10 +54,9 @@ use Rattle.runs.specs.Calls.{runsOf}
 use Rattle.runs.specs.Runs.{runs, runWeights, runFirsts, runCount}
 use Rattle.index.specs.declared.IndexAnswer.{IndexAnswer}
 use Rattle.index.specs.declared.IndexAnswer.the-variants as index
-use Rattle.index.specs.Indexing.{Lent, stretchCount, firstEntries, indexWith, indexVerdict, indexOf}
+use Rattle.index.specs.Indexing.{stretchCount, firstEntries, indexWith, indexVerdict, indexOf}
 use Rattle.index.proofs.Success.{index-told, index-success}
 use Rattle.minimizers.specs.Minimizer.{sizesVerdict}
-use Rattle.stretches.specs.Index.{Index}
 use Rattle.questions.specs.declared.QuickAnswer.{QuickAnswer}
 use Rattle.questions.specs.declared.QuickAnswer.the-variants.{Found, Absent, Refused}
 use Rattle.questions.specs.declared.WordAnswer.{WordAnswer}
@@ -66,9 +64,9 @@ use Rattle.questions.specs.declared.WordAnswer.the-variants as word
 use Rattle.questions.specs.Quick.{quickOf}
 use Rattle.questions.specs.Weighed.{weighedOf}
 use Rattle.agreement.specs.Agreement.{sided}
-use Rattle.dictionary.specs.Dictionary.{Sound, Answers}
+use Rattle.dictionary.specs.Dictionary.{Answers}
 use Rattle.dictionary.specs.Journey.{Reading, lettersRead, endsRead, weightsRead, Reordering, lettersApplied, endsApplied, weightsApplied, Indexing, runWeightsListed, runFirstsListed, indexMade, weighed, Says, weighs, absent, EndToEnd}
-use Rattle.dictionary.proofs.Dictionary.{answers, many, found-stands, found-weighs}
+use Rattle.dictionary.proofs.Dictionary.{answers, many, found-weighs}
 use Rattle.dictionary.proofs.OnceEach.{reordered-distinct}
 
 -- a call that answers as one that is done was not refused

@@ -1,11 +1,10 @@
 -- No word repeats exactly if every word stands at most once, read either way. So reordering keeps words apart. Assumes nothing.
-use mathlib.Core.Path.{_≡_, refl, sym, ap, ap₂, _∙_, subst}
-use mathlib.Core.Bool.{Bool, true, false, _||_, true≢false}
+use mathlib.Core.Path.{_≡_, refl, sym, ap, _∙_, subst}
+use mathlib.Core.Bool.{Bool, true, false, _||_}
 use mathlib.Core.Logic.{_⊎_, inl, inr}
 use mathlib.Core.List.{List, [], _∷_, map}
 use Prim.Native.Nat.{ℕ, zero, suc, _+_, _-_, _<_, _≤_}
 use native.Mathlib.Omega.{arith}
-use native.Mathlib.Decide.{ℕ-discrete}
 use lib.IntN.{ℤ}
 use lib.ListN.{length, getD, length-map}
 use Rattle.lists.specs.Choose.{choose}
@@ -20,12 +19,12 @@ use Rattle.collection.specs.Judge.{Passes}
 use Rattle.collection.specs.Kmers.{kmers, wordOf, Distinct}
 use Rattle.collection.specs.Strings.{lettersIn, endsIn}
 use Rattle.collection.proofs.Judged.{collection-good}
-use Rattle.lookups.proofs.Asked.{judged-ready, word-letters}
+use Rattle.collection.proofs.Ready.{judged-ready, word-letters}
 use Rattle.trails.specs.Places.{SignedPermutation}
-use Rattle.placing.specs.Apply.{reordered}
-use Rattle.placing.specs.Stands.{once, timesAt}
-use Rattle.placing.proofs.Reordered.{reordered-passes}
-use Rattle.placing.proofs.Stands.{times-kept}
+use Rattle.reordering.specs.Reordered.{reordered}
+use Rattle.reordering.specs.Stands.{once, timesAt}
+use Rattle.reordering.proofs.Reordered.{reordered-passes}
+use Rattle.reordering.proofs.Stands.{times-kept}
 
 -- ─── sums of tests ───────────────────────────────────────────────────────────
 

@@ -1,40 +1,36 @@
 -- The starred examples hold, by computing. Assumes nothing.
 use mathlib.Core.Path.{_≡_, refl, ap}
-use mathlib.Core.List.{List, [], _∷_}
-use Prim.Native.Nat.{ℕ}
-use Rattle.lists.specs.Count.{countFrom, sum}
+use mathlib.Core.List.{[], _∷_}
+use Rattle.lists.specs.Count.{countFrom, sum, agree}
 use Rattle.lists.specs.Every.{every, same}
 use Rattle.lists.specs.First.{firstFrom}
 use Rattle.lists.specs.Pick.{pick, upTo}
-use Rattle.words.specs.Letter.{letter, isLetter, capital}
+use Rattle.alphabet.specs.Letter.{letter, isLetter, capital}
 use Rattle.words.specs.Word.{codeFrom, turn}
-use Rattle.collection.specs.Judge.{kVerdict, sizeVerdict, firstShort, lastEnd, endsVerdict, shapeVerdict, lettersVerdict, weightsVerdict, collectionVerdict, wordVerdict, handleVerdict}
-use Rattle.collection.specs.Kmers.{kmersFrom}
+use Rattle.collection.specs.Judge.{kVerdict, sizeVerdict, endsVerdict, shapeVerdict, lettersVerdict, weightsVerdict, collectionVerdict, wordVerdict, handleVerdict}
+use Rattle.faults.specs.Faults.{firstShort, lastEnd}
 use Rattle.collection.specs.Strings.{stringsFrom, lettersIn, endsIn, weightsIn}
 use Rattle.collection.specs.Verdict.{andThen, atPlace, settle}
 use Rattle.sheet_text.specs.Numbers.{valueFrom}
 use Rattle.sheet_text.specs.Parts.{upTo as partUpTo, later}
 use Rattle.sheet_text.specs.Sheet.{sheetK, sheetStrings, stringsOf}
-use Rattle.trails.specs.Counting.{agree}
 use Rattle.trails.specs.Groups.{least}
 use Rattle.trails.specs.Places.{standing, arrangedTo}
 use Rattle.vertices.specs.EndWeights.{endWeights}
-use Rattle.placing.specs.Places.{badPlace, firstBad, placesVerdict}
-use Rattle.placing.specs.Turned.{turnLetters}
-use Rattle.runs.specs.Runs.{laterRuns, runs, innerRuns}
-use Rattle.runs.specs.RunList.{allFollow, isRunList, runListVerdict, lastAt}
-use Rattle.runs.specs.Calls.{weightAnswer}
+use Rattle.places.specs.Places.{badPlace, firstBad, placesVerdict}
+use Rattle.reordering.specs.Turned.{turnLetters}
+use Rattle.runs.specs.Runs.{laterRuns, runs, innerRuns, runWeights, runFirsts}
+use Rattle.run_lists.specs.RunList.{allFollow, isRunList, runListVerdict, lastAt}
+use Rattle.run_lists.specs.Weight.{weightAnswer}
 use Rattle.minimizers.specs.Minimizer.{sizesVerdict, smallest, minimizer}
 use Rattle.stretches.specs.Stretches.{numbered, walk, openFrom, ofString, stretchesFrom}
-use Rattle.index.specs.Indexing.{indexWith}
-use Rattle.placing.specs.Apply.{reordered}
+use Rattle.reordering.specs.Reordered.{reordered}
 use Rattle.collection.specs.declared.Side.the-variants.{Turned}
 use Rattle.collection.specs.declared.Verdict.the-variants.{Good, Bad}
 use Rattle.questions.specs.declared.QuickAnswer.{QuickAnswer}
 use Rattle.questions.specs.declared.QuickAnswer.the-variants.{Found, Absent}
 use Rattle.questions.specs.declared.WordAnswer.the-variants.{Weighs}
-use Rattle.runs.specs.Runs.{runWeights, runFirsts}
-use Rattle.stretches.specs.Index.{Index, built, entries, rowOf, stretchFits, rowFits, tablesFit}
+use Rattle.stretches.specs.Index.{built, entries, rowOf, stretchFits, rowFits, tablesFit}
 use Rattle.walks.specs.Walk.{isWord, seek}
 use Rattle.questions.specs.Quick.{metOr, quickFound, rowsVerdict, askVerdict, quickVerdict, quickOf}
 use Rattle.questions.specs.Weighed.{weighs, weighedOf}

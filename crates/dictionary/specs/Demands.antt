@@ -7,7 +7,7 @@ use lib.ListN.{length, getD, take}
 use Rattle.lists.specs.Fill.{fill}
 use Rattle.collection.specs.declared.Verdict.the-variants.{Good}
 use Rattle.collection.specs.Judge.{Passes}
-use Rattle.collection.specs.Strings.{Str, strings, lettersIn, endsIn, weightsIn}
+use Rattle.collection.specs.Strings.{strings, lettersIn, endsIn, weightsIn}
 use Rattle.sheet_text.specs.declared.ReadAnswer.the-variants as read
 use Rattle.sheet_text.specs.declared.WriteAnswer.the-variants as write
 use Rattle.sheet_text.specs.Read.{readOf}
@@ -17,9 +17,9 @@ use Rattle.trails.specs.Places.{SignedPermutation, turnedBy}
 use Rattle.vertices.specs.EndWeights.{endWeights}
 use Rattle.cover.specs.declared.CoverAnswer.the-variants as cover
 use Rattle.cover.specs.Cover.{Promise}
-use Rattle.placing.specs.Apply.{reordered}
-use Rattle.placing.specs.Turned.{turnStr}
-use Rattle.placing.specs.Weighs.{none, WeighsAt}
+use Rattle.reordering.specs.Reordered.{reordered}
+use Rattle.reordering.specs.Turned.{turnStr}
+use Rattle.reordering.specs.Weighs.{none, WeighsAt}
 use Rattle.fewest.specs.Fewest.{runsAt, leastRuns, FewestRuns}
 use Rattle.minimizers.specs.Minimizer.{sizesVerdict}
 use Rattle.dictionary.specs.Determined.{OneOutcome, Kept}

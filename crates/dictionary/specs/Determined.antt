@@ -24,15 +24,16 @@ use Rattle.placing.specs.declared.ApplyAnswer.the-variants as apply
 use Rattle.placing.specs.Apply as applying
 use Rattle.placing.specs.Apply.{applyOf}
 use Rattle.runs.specs.declared.RunsAnswer.the-variants as runs
-use Rattle.runs.specs.declared.WeightAnswer.{WeightAnswer}
+use Rattle.run_lists.specs.declared.WeightAnswer.{WeightAnswer}
 use Rattle.runs.specs.Calls as listing
-use Rattle.runs.specs.Calls.{runsOf, weightAnswer}
+use Rattle.runs.specs.Calls.{runsOf}
+use Rattle.run_lists.specs.Weight.{weightAnswer}
 use Rattle.run_records.specs.declared.Run.{Run}
 use Rattle.run_records.specs.Records.{weightIn, firstIn}
-use Rattle.lookups.specs.declared.AccessAnswer.{AccessAnswer}
-use Rattle.lookups.specs.declared.PlainAnswer.{PlainAnswer}
-use Rattle.lookups.specs.Access.{accessVerdict, accessPart, accessStart, accessAt}
-use Rattle.lookups.specs.Plain.{plainOf}
+use Rattle.access.specs.declared.AccessAnswer.{AccessAnswer}
+use Rattle.plain.specs.declared.PlainAnswer.{PlainAnswer}
+use Rattle.access.specs.Access.{accessVerdict, accessPart, accessStart, accessAt}
+use Rattle.plain.specs.Plain.{plainOf}
 use Rattle.index.specs.declared.IndexAnswer.the-variants as index
 use Rattle.index.specs.Indexing as indexing
 use Rattle.index.specs.Indexing.{Lent, indexOf}

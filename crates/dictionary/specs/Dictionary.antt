@@ -9,8 +9,8 @@ use Rattle.collection.specs.declared.Side.the-variants.{Asked}
 use Rattle.collection.specs.declared.Verdict.the-variants.{Good}
 use Rattle.collection.specs.Judge.{Passes, wordVerdict}
 use Rattle.collection.specs.Kmers.{wordOf, weightOf, Distinct}
-use Rattle.lookups.specs.Access.{accessVerdict, accessPart}
-use Rattle.lookups.specs.Says.{Stands, Nowhere}
+use Rattle.access.specs.Access.{accessVerdict, accessPart}
+use Rattle.plain.specs.Says.{Stands, Nowhere}
 use Rattle.runs.specs.Runs.{runWeights, runFirsts}
 use Rattle.index.specs.Indexing.{indexWith}
 use Rattle.questions.specs.declared.QuickAnswer.{QuickAnswer}

@@ -16,7 +16,7 @@ use Rattle.cover.specs.declared.CoverAnswer.the-variants as cover
 use Rattle.cover.specs.Cover.{Promise}
 use Rattle.placing.specs.declared.ApplyAnswer.the-variants as apply
 use Rattle.placing.specs.Apply.{applyOf}
-use Rattle.placing.specs.Weighs.{Weighs}
+use Rattle.reordering.specs.Weighs.{Weighs}
 use Rattle.runs.specs.declared.RunsAnswer.the-variants as listing
 use Rattle.runs.specs.Calls.{runsOf}
 use Rattle.fewest.specs.Fewest.{FewestRuns}

@@ -7,16 +7,16 @@ use Rattle.words.specs.Word.{code, wordAt}
 use Rattle.collection.specs.declared.Side.the-variants.{Turned}
 use Rattle.collection.specs.declared.Verdict.the-variants.{Good, Bad}
 use Rattle.collection.specs.Judge.{kVerdict, collectionVerdict}
-use Rattle.collection.specs.Strings.{Str, lettersIn, endsIn, weightsIn}
+use Rattle.collection.specs.Strings.{lettersIn, endsIn, weightsIn}
 use Rattle.sheet_text.specs.Sheet.{sheetK, sheetStrings}
 use Rattle.trails.specs.Groups.{least}
 use Rattle.vertices.specs.EndWeights.{endWeights}
-use Rattle.placing.specs.Apply.{reordered}
-use Rattle.placing.specs.Places.{placesVerdict}
-use Rattle.runs.specs.Runs.{Run, runs, runWeights, runFirsts}
+use Rattle.reordering.specs.Reordered.{reordered}
+use Rattle.places.specs.Places.{placesVerdict}
+use Rattle.runs.specs.Runs.{runs, runWeights, runFirsts}
 use Rattle.fewest.specs.Fewest.{leastRuns}
 use Rattle.minimizers.specs.Minimizer.{minimizerAt}
-use Rattle.stretches.specs.Stretches.{Stretch, stretch, ofString}
+use Rattle.stretches.specs.Stretches.{stretch, ofString}
 use Rattle.index.specs.Indexing.{indexWith}
 use Rattle.questions.specs.declared.QuickAnswer.{QuickAnswer}
 use Rattle.questions.specs.declared.QuickAnswer.the-variants.{Found, Absent}

@@ -2,13 +2,14 @@
 // returns the number of the refusal, 0 when done, and tells the rest through `answer`: the place of a refusal, or what the call answers.
 ghost use mathlib.Core.Path.{_≡_};
 ghost use Rattle.index.specs.Indexing.{lent, indexOf};
-ghost use Rattle.lookups.specs.Access.{accessAt};
-ghost use Rattle.lookups.specs.Plain.{plainOf};
+ghost use Rattle.access.specs.Access.{accessAt};
+ghost use Rattle.plain.specs.Plain.{plainOf};
 ghost use Rattle.placing.specs.Apply.{applyOf};
 ghost use Rattle.questions.specs.Quick.{quickOf};
 ghost use Rattle.questions.specs.Weighed.{weighedOf};
 ghost use Rattle.repeats.specs.Check.{checkOf};
-ghost use Rattle.runs.specs.Calls.{runsOf, weightAnswer};
+ghost use Rattle.runs.specs.Calls.{runsOf};
+ghost use Rattle.run_lists.specs.Weight.{weightAnswer};
 ghost use Rattle.sheet_text.specs.Read.{readOf};
 ghost use Rattle.sheet_text.specs.Write.{writeOf};
 ghost use Rattle.stretches.specs.Index.{tables};
@@ -168,7 +169,7 @@ pub extern "C" fn corrivume_weight(
     if answer.len() < ANSWER {
         return 1;
     }
-    let a = runs::weight(run_weights, run_firsts, n, handle);
+    let a = run_lists::weight(run_weights, run_firsts, n, handle);
     let reply = replies::weight_reply(a);
     replies::inner::tell(answer, reply)
 }
@@ -187,7 +188,7 @@ pub extern "C" fn corrivume_access(
     if answer.len() < ANSWER {
         return 1;
     }
-    let a = lookups::access_at(k, letters, ends, handle);
+    let a = access::access_at(k, letters, ends, handle);
     let reply = replies::access_reply(k, a);
     replies::inner::tell(answer, reply)
 }
@@ -207,7 +208,7 @@ pub extern "C" fn corrivume_plain(
     if answer.len() < ANSWER {
         return 1;
     }
-    let a = lookups::plain(k, letters, ends, weights, word);
+    let a = plain::plain(k, letters, ends, weights, word);
     let reply = replies::plain_reply(a);
     replies::inner::tell(answer, reply)
 }

@@ -1,7 +1,7 @@
 -- Reordering keeps the runs inside the strings, so the runs of the reordered weights are R - m + paths, and their fewest are R - m + E + O/2.
 -- Assumes nothing.
 use mathlib.Core.Path.{_≡_, refl, sym, ap, ap₂, _∙_, subst}
-use mathlib.Core.List.{List, [], _∷_, _++_, map, reverse, reverse-cons, reverse-reverse}
+use mathlib.Core.List.{List, [], _∷_, _++_, reverse, reverse-cons, reverse-reverse}
 use Prim.Native.Nat.{ℕ, _+_, _-_, _≤_}
 use native.Mathlib.Omega.{arith}
 use lib.IntN.{ℤ}
@@ -24,7 +24,7 @@ use Rattle.trails.proofs.Bounds.{none-fewer, one-reaches, no-strings}
 use Rattle.trails.proofs.Kept.{all-arranged, total-arranged}
 use Rattle.vertices.specs.EndWeights.{endsOf, endWeights}
 use Rattle.cover.specs.Cover.{Fewest}
-use Rattle.placing.specs.Turned.{turnStr}
+use Rattle.reordering.specs.Turned.{turnStr}
 use Rattle.fewest.specs.Fewest.{runsAt, leastRuns, FewestRuns}
 use Rattle.fewest.proofs.RunsPaths.{inside, HasWeight, runs-paths}
 

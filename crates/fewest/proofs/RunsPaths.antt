@@ -1,29 +1,21 @@
 -- Strings of weights one after the other: a string more is its own runs more, less one where it joins the next. So all runs and the number of
 -- strings are the runs inside the strings and the paths of their end weights. Assumes nothing.
-use mathlib.Core.Path.{_≡_, refl, sym, ap, ap₂, _∙_, subst}
-use mathlib.Core.Bool.{Bool}
-use mathlib.Core.List.{List, [], _∷_, _++_, map, reverse, append-nil}
-use Prim.Native.Nat.{ℕ, zero, suc, _+_, _-_, _≤_, _<_}
+use mathlib.Core.Path.{_≡_, refl, sym, ap, ap₂, _∙_}
+use mathlib.Core.List.{List, [], _∷_, _++_, map, append-nil}
+use Prim.Native.Nat.{ℕ, suc, _+_, _-_, _≤_}
 use native.Mathlib.Omega.{arith}
-use lib.Dec.{eqb}
 use lib.ListN.{length, getD}
-use Rattle.lists.specs.Choose.{choose}
-use Rattle.lists.specs.Count.{sum}
+use Rattle.lists.specs.Count.{sum, agree}
 use Rattle.lists.specs.Every.{All}
 use Rattle.collection.specs.Strings.{Str, weightsIn}
-use Rattle.runs.specs.Joins.{lastWeight, goesOn}
+use Rattle.runs.specs.Joins.{lastWeight}
 use Rattle.runs.specs.Runs.{runCount}
 use Rattle.runs.proofs.Joined.{count-none, count-append}
-use Rattle.trails.specs.Counting.{agree}
 use Rattle.trails.specs.Paths.{pathCount}
 use Rattle.trails.specs.Strings.{Ends, front, back}
-use Rattle.trails.proofs.Counting.{agree-le}
-use Rattle.trails.proofs.Paths.{paths-next, paths-none, paths-breaks}
+use Rattle.lists.proofs.Agree.{agree-le}
+use Rattle.trails.proofs.Paths.{paths-next, paths-none}
 use Rattle.vertices.specs.EndWeights.{endsOf}
-
-goes-agree : (a b : ℕ) → goesOn a b ≡ agree a b
-unfolding goesOn agree
-goes-agree a b = refl
 
 -- the last weight, by its place
 last-at : (w : ℕ) (ws : List ℕ) → lastWeight w ws ≡ getD (w ∷ ws) (length (w ∷ ws) - 1) 0
@@ -63,7 +55,7 @@ runs-paths (s ∷ (t ∷ ss)) h = go (s .weights) refl (t .weights) refl (h .0) 
         let p = paths-next (endsOf s) (endsOf t) (map endsOf ss) in
         let x : back (endsOf s) ≡ lastWeight w ws = ap (λ (l : List ℕ). getD l (length l - 1) 0) e ∙ sym (last-at w ws) in
         let y : front (endsOf t) ≡ v = ap (λ (l : List ℕ). getD l 0 0) f in
-        let g : goesOn (lastWeight w ws) v ≡ agree (back (endsOf s)) (front (endsOf t)) = goes-agree (lastWeight w ws) v ∙ ap₂ agree (sym x) (sym y) in
+        let g : agree (lastWeight w ws) v ≡ agree (back (endsOf s)) (front (endsOf t)) = ap₂ agree (sym x) (sym y) in
         omega (
           arith,
           c,

@@ -8,7 +8,7 @@ use Rattle.collection.specs.Strings.{weightsIn}
 use Rattle.trails.specs.Groups.{least}
 use Rattle.trails.specs.Places.{SignedPermutation}
 use Rattle.vertices.specs.EndWeights.{endWeights}
-use Rattle.placing.specs.Apply.{reordered}
+use Rattle.reordering.specs.Reordered.{reordered}
 use Rattle.runs.specs.Runs.{runCount, innerRuns}
 
 -- the runs of the weights after the strings are put to these places

@@ -20,7 +20,7 @@ use Rattle.collection.specs.Verdict.{atPlace, settle}
 use Rattle.collection.proofs.Judged.{collection-good}
 use Rattle.collection.proofs.Kmers.{kmers-counted}
 use Rattle.collection.proofs.Verdicts.{both-good, test-good, then-bad, then-good, place-none, place-some, refused, settled}
-use Rattle.lookups.proofs.Asked.{judged-ready}
+use Rattle.collection.proofs.Ready.{judged-ready}
 use Rattle.repeats.specs.Check.{firstRepeat}
 use Rattle.minimizers.specs.Minimizer.{sizesVerdict}
 use Rattle.minimizers.proofs.Sizes.{sizes-good}

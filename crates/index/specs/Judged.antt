@@ -7,7 +7,7 @@ use Rattle.lists.specs.Fill.{fill}
 use Rattle.lists.specs.Regions.{Only}
 use Rattle.collection.specs.Kmers.{kmers}
 use Rattle.collection.specs.Verdict.{atPlace, settle}
-use Rattle.lookups.specs.Located.{Ready}
+use Rattle.collection.specs.Ready.{Ready}
 use Rattle.repeats.specs.Check.{firstRepeat}
 use Rattle.stretches.specs.Index.{Index}
 use Rattle.index.specs.declared.IndexAnswer.{IndexAnswer}

@@ -1,6 +1,6 @@
 -- Laws of `firstThat`: how a loop finds it, and what it tells. Assumes nothing.
-use mathlib.Core.Path.{_≡_, refl, sym, ap, _∙_}
-use mathlib.Core.Bool.{Bool, true, false, false≢true}
+use mathlib.Core.Path.{_≡_, refl, sym, ap, ap₂, _∙_}
+use mathlib.Core.Bool.{Bool, true, false}
 use mathlib.Core.List.{List, [], _∷_, _++_}
 use Prim.Native.Nat.{ℕ, zero, suc, _+_, _-_, _<_, _≤_}
 use native.Mathlib.Numerals.{add-one}
@@ -113,3 +113,9 @@ module _ {A : Type 0} (test : A → Bool) where
           before : (d : A) (j : ℕ) → ((j : ℕ) → suc i + j + 1 < suc p → test (getD xs j d) ≡ false) → i + j + 1 < suc p → test (getD (x ∷ xs) j d) ≡ false
           before d zero g l = q
           before d (suc j) g l = g j (omega arith)
+
+-- two tests that agree on each element find the same first
+pub first-agrees : {A : Type 0} (s t : A → Bool) (i : ℕ) (xs : List A) → All (λ x. s x ≡ t x) xs → firstFrom s i xs ≡ firstFrom t i xs
+unfolding firstFrom
+first-agrees s t i [] h = refl
+first-agrees s t i (x ∷ xs) h = ap₂ (λ (b : Bool) (n : ℕ). choose b (suc i) n) (h .0) (first-agrees s t (suc i) xs (h .1))

@@ -4,6 +4,7 @@ pub mod FirstAt
 pub mod Every
 pub mod Storing
 pub mod Count
+pub mod Agree
 pub mod Table
 pub mod Mapped
 pub mod Pairs

@@ -15,12 +15,14 @@ use Rattle.collection.specs.Verdict.{roomVerdict}
 use Rattle.collection.proofs.Judged.{collection-good}
 use Rattle.collection.proofs.Verdicts.{both-good, room-good, refused, settled}
 use Rattle.placing.specs.declared.ApplyAnswer.the-variants.{Filled, Refused}
-use Rattle.placing.specs.Apply.{Outcome, outcome, zeroed, Ready, placedOf, applyOf, tablesVerdict, roomsVerdict, reordered}
-use Rattle.placing.specs.Judged.{PlacesJudged}
-use Rattle.placing.specs.Marks.{Placeable}
-use Rattle.placing.specs.Places.{placesVerdict}
-use Rattle.placing.proofs.Permutation.{places-good}
-use Rattle.placing.proofs.Reordered.{reordered-sizes}
+use Rattle.placing.specs.Apply.{Outcome, outcome, zeroed, placedOf, applyOf, tablesVerdict, roomsVerdict}
+use Rattle.placing.specs.Ready.{Ready}
+use Rattle.reordering.specs.Reordered.{reordered}
+use Rattle.places.specs.Judged.{PlacesJudged}
+use Rattle.reordering.specs.Placeable.{Placeable}
+use Rattle.places.specs.Places.{placesVerdict}
+use Rattle.places.proofs.Permutation.{places-good}
+use Rattle.reordering.proofs.Reordered.{reordered-sizes}
 
 module _ (k : ℕ) (letters ends weights : List ℕ) (places : List ℤ) (newLetters newEnds newWeights work : List ℕ) where
   -- ─── the tables, then the places ───────────────────────────────────────────

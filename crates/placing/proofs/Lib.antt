@@ -1,12 +1,2 @@
--- Laws of signed places and of reordered strings.
-pub mod Signs
-pub mod Marking
-pub mod Turning
-pub mod Parts
-pub mod Placements
-pub mod Permutation
+-- Laws of APPLY.
 pub mod Applying
-pub mod TurnedStrings
-pub mod Reordered
-pub mod Handles
-pub mod Stands

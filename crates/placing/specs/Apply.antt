@@ -1,22 +1,17 @@
 -- APPLY: a collection and signed places to a new collection.
 use mathlib.Core.List.{List}
-use Prim.Native.Nat.{ℕ, _≤_}
+use Prim.Native.Nat.{ℕ}
 use lib.IntN.{ℤ}
 use lib.ListN.{length, replicate}
 use Rattle.lists.specs.Fill.{fill}
-use Rattle.trails.specs.Places.{arranged}
 use Rattle.collection.specs.declared.Verdict.{Verdict}
-use Rattle.collection.specs.Judge.{Passes, collectionVerdict}
-use Rattle.collection.specs.Strings.{Str, strings, lettersIn, endsIn, weightsIn}
+use Rattle.collection.specs.Judge.{collectionVerdict}
+use Rattle.collection.specs.Strings.{lettersIn, endsIn, weightsIn}
 use Rattle.collection.specs.Verdict.{andThen, settle, roomVerdict}
+use Rattle.reordering.specs.Reordered.{reordered}
 use Rattle.placing.specs.declared.ApplyAnswer.{ApplyAnswer}
 use Rattle.placing.specs.declared.ApplyAnswer.the-variants.{Filled, Refused}
-use Rattle.placing.specs.Places.{placesVerdict}
-use Rattle.placing.specs.Turned.{turnStr}
-
--- the strings in their new order, turned where the place is negative, weights turned with them
-abbrev pub reordered : ℕ → List ℕ → List ℕ → List ℕ → List ℤ → List Str
-reordered k letters ends weights places = arranged turnStr places (strings k letters ends weights)
+use Rattle.places.specs.Places.{placesVerdict}
 
 -- the answer, and what the four lent tables hold afterwards
 pub record Outcome : Type 0 where
@@ -43,15 +38,6 @@ tablesVerdict k letters ends weights newLetters newEnds newWeights work =
 -- the first m entries of work zero, the rest as it was
 abbrev pub zeroed : ℕ → List ℕ → List ℕ
 zeroed m work = fill (replicate m 0) work
-
--- what a collection and the lent tables keep to that pass
-pub record Ready (k : ℕ) (letters ends weights : List ℕ) (newLetters newEnds newWeights work : ℕ) : Type 0 where
-  pub passes : Passes k letters ends weights
-  pub few : length ends ≤ 65536
-  pub letters-room : length letters ≤ newLetters
-  pub ends-room : length ends ≤ newEnds
-  pub weights-room : length weights ≤ newWeights
-  pub work-room : length ends ≤ work
 
 -- refused by 8: the new tables as they were. Else they hold the reordered strings. Work is zeroed in both cases.
 unfoldable pub placedOf : ℕ → List ℕ → List ℕ → List ℕ → List ℤ → List ℕ → List ℕ → List ℕ → List ℕ → Outcome

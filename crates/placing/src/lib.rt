@@ -1,12 +1,11 @@
 // APPLY writes a collection's strings in a new order, some of them turned, into new tables.
-mod placed;
-mod places;
-mod writing;
+mod judging;
 
 use collection::Verdict;
 ghost use mathlib.Core.Path.{_≡_};
 ghost use lib.ListN.{length};
-ghost use Rattle.placing.specs.Apply.{Ready, outcome, placedOf, applyOf};
+ghost use Rattle.placing.specs.Apply.{outcome, placedOf, applyOf};
+ghost use Rattle.placing.specs.Ready.{Ready};
 
 // What APPLY answers: how many letters, ends and weights it filled.
 pub enum ApplyAnswer {
@@ -37,12 +36,12 @@ fn apply_places(
     ensures { λ r. ⌜ outcome r (now («new_letters» .exit)) (now («new_ends» .exit)) (now («new_weights» .exit)) (now (work .exit)) ≡ placedOf k (now (letters .entry)) (now (ends .entry)) (now (weights .entry)) (now (signed .entry)) (now («new_letters» .entry)) (now («new_ends» .entry)) (now («new_weights» .entry)) (now (work .entry)) ⌝ }
 {
     let m = ends.len();
-    let v = places::judge_places(signed, work, m);
+    let v = places::inner::judge_places(signed, work, m);
     if let Verdict::Bad { number, place } = v {
         collection::inner::zero_first(work, m);
         return ApplyAnswer::Refused { number, place };
     }
-    placed::place_strings(
+    reordering::inner::place_strings(
         k,
         letters,
         ends,
@@ -75,7 +74,7 @@ pub fn apply(
 ) -> ApplyAnswer
     ensures { λ r. ⌜ outcome r (now («new_letters» .exit)) (now («new_ends» .exit)) (now («new_weights» .exit)) (now (work .exit)) ≡ applyOf k (now (letters .entry)) (now (ends .entry)) (now (weights .entry)) (now (signed .entry)) (now («new_letters» .entry)) (now («new_ends» .entry)) (now («new_weights» .entry)) (now (work .entry)) ⌝ }
 {
-    let v = placed::judge_tables(
+    let v = judging::judge_tables(
         k,
         letters,
         ends,

@@ -1,28 +1,26 @@
 -- What judging a question gives, and that asking by codes is asking by words.
-use mathlib.Core.Path.{_≡_, refl, sym, ap, ap₂, _∙_, subst}
+use mathlib.Core.Path.{_≡_, sym, ap, ap₂, _∙_, subst}
 use mathlib.Core.Bool.{Bool, true, false, _&&_}
 use mathlib.Core.List.{List, map}
-use Prim.Native.Nat.{ℕ, suc, _+_, _-_, _*_, _%_, _^_, _<_, _≤_}
+use Prim.Native.Nat.{ℕ, _+_, _-_, _*_, _%_, _^_, _<_, _≤_}
 use native.Mathlib.Omega.{arith}
 use native.Mathlib.Nat.{pow-le-pow-right}
 use borrow.Author.Tests.{leb-true, eqb-true}
-use lib.Dec.{leb, eqb, lit<}
+use lib.Dec.{eqb, lit<}
 use lib.ListN.{length, length-map}
 use Rattle.lists.specs.Choose.{choose}
 use Rattle.lists.specs.Every.{every}
 use Rattle.lists.proofs.Every.{and-left, and-right, every-all}
-use Rattle.words.specs.Letter.{letter, isLetter, twoBits}
+use Rattle.alphabet.specs.Letter.{letter, isLetter, twoBits}
 use Rattle.words.specs.Word.{Letters, code, spell, turn}
 use Rattle.words.specs.Turned.{spelled, turnedCode}
 use Rattle.words.proofs.Codes.{code-lt, spelled-code}
-use Rattle.words.proofs.Letters.{spell-letters, spell-bits}
+use Rattle.words.proofs.Spelled.{spell-letters, spell-bits}
 use Rattle.words.proofs.Rolling.{one-shifted, four-two}
 use Rattle.words.proofs.Turning.{length-turn, letters-turn, turned-code}
-use Rattle.collection.specs.declared.Verdict.{Verdict}
 use Rattle.collection.specs.declared.Verdict.the-variants.{Good, Bad}
 use Rattle.collection.specs.declared.Side.the-variants.{Asked, Turned}
 use Rattle.collection.specs.Judge.{sizeVerdict, wordVerdict}
-use Rattle.collection.specs.Verdict.{andThen}
 use Rattle.collection.proofs.Judged.{size-good, word-good}
 use Rattle.collection.proofs.Verdicts.{both-good, test-good}
 use Rattle.minimizers.specs.Minimizer.{least, minimizer, sizesVerdict}
@@ -30,7 +28,6 @@ use Rattle.minimizers.proofs.Sizes.{Sizes, sizes-good}
 use Rattle.minimizers.proofs.Smallest.{least-minimizer, minimizer-lt}
 use Rattle.stretches.specs.Stretches.{walk}
 use Rattle.stretches.specs.Index.{Index, rowOf, tablesFit, rowFits}
-use Rattle.questions.specs.declared.QuickAnswer.{QuickAnswer}
 use Rattle.questions.specs.declared.QuickAnswer.the-variants.{Absent}
 use Rattle.walks.specs.Walk.{isWord, seek}
 use Rattle.walks.specs.Judged.{Alike, Row}

@@ -1,9 +1,9 @@
 -- The weight of an asked word: QUICK, and then WEIGHT of the handle that it found.
 use mathlib.Core.List.{List}
 use Prim.Native.Nat.{ℕ}
-use Rattle.runs.specs.declared.WeightAnswer.{WeightAnswer}
-use Rattle.runs.specs.declared.WeightAnswer.the-variants as weight
-use Rattle.runs.specs.Calls.{weightAnswer}
+use Rattle.run_lists.specs.declared.WeightAnswer.{WeightAnswer}
+use Rattle.run_lists.specs.declared.WeightAnswer.the-variants as weight
+use Rattle.run_lists.specs.Weight.{weightAnswer}
 use Rattle.questions.specs.declared.QuickAnswer.{QuickAnswer}
 use Rattle.questions.specs.declared.QuickAnswer.the-variants.{Found, Absent, Refused}
 use Rattle.questions.specs.declared.WordAnswer.{WordAnswer}

@@ -3,9 +3,8 @@ pub mod inner;
 
 use collection::Side;
 use collection::Verdict;
-use runs::WeightAnswer;
+use run_lists::WeightAnswer;
 ghost use mathlib.Core.Path.{_≡_};
-ghost use Prim.Native.Nat.{ℕ, _≤_};
 ghost use Rattle.stretches.specs.Index.{tables};
 ghost use Rattle.questions.specs.Quick.{askVerdict, quickOf};
 ghost use Rattle.questions.specs.Weighed.{unweighed, weighedOf};
@@ -121,7 +120,7 @@ pub fn weigh(
     else {
         return not_found(answer);
     };
-    match runs::weight(run_weights, run_firsts, n, handle) {
+    match run_lists::weight(run_weights, run_firsts, n, handle) {
         WeightAnswer::Found { weight } => WordAnswer::Weighs { weight },
         WeightAnswer::Refused { number, place } => WordAnswer::Refused { number, place },
     }

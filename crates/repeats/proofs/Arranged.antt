@@ -18,7 +18,7 @@ use Rattle.lists.proofs.Regions.{part-at, among-trans, among-wider}
 use Rattle.words.specs.Word.{wordAt}
 use Rattle.collection.specs.Kmers.{kmers}
 use Rattle.collection.proofs.Kmers.{kmers-length}
-use Rattle.lookups.specs.Located.{Ready}
+use Rattle.collection.specs.Ready.{Ready}
 use Rattle.sorting.specs.Keys.{codeAt}
 use Rattle.sorting.specs.Layout.{Laid}
 use Rattle.sorting.specs.Promises.{Sorted}

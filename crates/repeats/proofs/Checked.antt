@@ -14,8 +14,8 @@ use Rattle.collection.specs.Verdict.{atPlace, settle, roomVerdict}
 use Rattle.collection.proofs.Judged.{collection-good}
 use Rattle.collection.proofs.Kmers.{kmers-counted}
 use Rattle.collection.proofs.Verdicts.{both-good, room-good, then-good, settled, place-none}
-use Rattle.lookups.specs.Located.{Ready}
-use Rattle.lookups.proofs.Asked.{judged-ready}
+use Rattle.collection.specs.Ready.{Ready}
+use Rattle.collection.proofs.Ready.{judged-ready}
 use Rattle.repeats.specs.declared.CheckAnswer.the-variants.{Checked, Refused}
 use Rattle.repeats.specs.Check.{checkVerdict, checkOf, outcome, Outcome, firstRepeat, Accepted}
 use Rattle.repeats.proofs.Repeats.{none-distinct, distinct-none}

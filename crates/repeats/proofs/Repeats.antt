@@ -16,11 +16,11 @@ use Rattle.lists.proofs.Every.{all-at, at-all, is-same, not-same}
 use Rattle.lists.proofs.First.{first-none, none-first}
 use Rattle.lists.proofs.FirstAt.{first-at}
 use Rattle.words.specs.Word.{Letters, turn, wordAt}
-use Rattle.collection.specs.Judge.{lastEnd}
+use Rattle.faults.specs.Faults.{lastEnd}
 use Rattle.collection.specs.Kmers.{kmers, wordOf, Distinct}
 use Rattle.collection.proofs.Kmers.{kmers-fit}
-use Rattle.lookups.specs.Located.{Ready}
-use Rattle.lookups.proofs.Asked.{word-length, word-letters}
+use Rattle.collection.specs.Ready.{Ready}
+use Rattle.collection.proofs.Ready.{word-length, word-letters}
 use Rattle.repeats.specs.Check.{anyThat, alike, repeated, firstRepeat}
 use Rattle.canonical.specs.Codes.{canonical, heldAt}
 use Rattle.repeats.specs.Order.{idAt, Ordered, Least}

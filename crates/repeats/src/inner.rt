@@ -5,7 +5,7 @@ ghost use lib.Dec.{eqb};
 ghost use lib.ListN.{length};
 ghost use Rattle.lists.specs.Regions.{Only};
 ghost use Rattle.collection.specs.Kmers.{kmers};
-ghost use Rattle.lookups.specs.Located.{Ready};
+ghost use Rattle.collection.specs.Ready.{Ready};
 ghost use Rattle.repeats.specs.Check.{firstRepeat};
 ghost use Rattle.canonical.specs.Codes.{heldAt};
 ghost use Rattle.repeats.specs.Order.{idAt, Least, Ordered};

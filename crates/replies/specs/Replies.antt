@@ -14,12 +14,12 @@ use Rattle.placing.specs.declared.ApplyAnswer.{ApplyAnswer}
 use Rattle.placing.specs.declared.ApplyAnswer.the-variants as apply
 use Rattle.runs.specs.declared.RunsAnswer.{RunsAnswer}
 use Rattle.runs.specs.declared.RunsAnswer.the-variants as runs
-use Rattle.runs.specs.declared.WeightAnswer.{WeightAnswer}
-use Rattle.runs.specs.declared.WeightAnswer.the-variants as weight
-use Rattle.lookups.specs.declared.AccessAnswer.{AccessAnswer}
-use Rattle.lookups.specs.declared.AccessAnswer.the-variants as access
-use Rattle.lookups.specs.declared.PlainAnswer.{PlainAnswer}
-use Rattle.lookups.specs.declared.PlainAnswer.the-variants as plain
+use Rattle.run_lists.specs.declared.WeightAnswer.{WeightAnswer}
+use Rattle.run_lists.specs.declared.WeightAnswer.the-variants as weight
+use Rattle.access.specs.declared.AccessAnswer.{AccessAnswer}
+use Rattle.access.specs.declared.AccessAnswer.the-variants as access
+use Rattle.plain.specs.declared.PlainAnswer.{PlainAnswer}
+use Rattle.plain.specs.declared.PlainAnswer.the-variants as plain
 use Rattle.index.specs.declared.IndexAnswer.{IndexAnswer}
 use Rattle.index.specs.declared.IndexAnswer.the-variants as index
 use Rattle.questions.specs.declared.QuickAnswer.{QuickAnswer}

@@ -1,17 +1,17 @@
 // What a call's answer tells a host that has no enums: a number to return and values for a table.
 pub mod inner;
 
+use access::AccessAnswer;
 use collection::Side;
 use cover::CoverAnswer;
 use index::IndexAnswer;
-use lookups::AccessAnswer;
-use lookups::PlainAnswer;
 use placing::ApplyAnswer;
+use plain::PlainAnswer;
 use questions::QuickAnswer;
 use questions::WordAnswer;
 use repeats::CheckAnswer;
+use run_lists::WeightAnswer;
 use runs::RunsAnswer;
-use runs::WeightAnswer;
 use sheet_text::ReadAnswer;
 use sheet_text::WriteAnswer;
 ghost use mathlib.Core.Path.{_≡_};

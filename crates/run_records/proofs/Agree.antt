@@ -7,12 +7,12 @@ use native.Mathlib.Omega.{arith}
 use lib.ListN.{length, length-map}
 use Rattle.collection.specs.Judge.{Passes}
 use Rattle.collection.specs.Kmers.{weightOf}
-use Rattle.runs.specs.declared.WeightAnswer.the-variants.{Found}
-use Rattle.runs.specs.Calls.{weightAnswer}
+use Rattle.run_lists.specs.declared.WeightAnswer.the-variants.{Found}
+use Rattle.run_lists.specs.Weight.{weightAnswer}
 use Rattle.runs.specs.Runs.{runs, runWeights, runFirsts}
-use Rattle.runs.specs.RunList.{isRunList}
-use Rattle.runs.proofs.GivenBack.{runs-then-weight}
-use Rattle.runs.proofs.RunLists.{list-good}
+use Rattle.run_lists.specs.RunList.{isRunList}
+use Rattle.run_lists.proofs.GivenBack.{runs-then-weight}
+use Rattle.run_lists.proofs.RunLists.{list-good}
 use Rattle.run_records.specs.declared.Run.{Run}
 use Rattle.run_records.specs.Records.{weightIn, firstIn, recordsOf}
 

@@ -15,13 +15,13 @@ use Rattle.collection.specs.declared.Verdict.{Verdict}
 use Rattle.collection.specs.declared.Verdict.the-variants.{Good, Bad}
 use Rattle.collection.specs.Judge.{handleVerdict}
 use Rattle.collection.specs.Verdict.{andThen, settle}
-use Rattle.runs.specs.declared.WeightAnswer.the-variants.{Found, Refused}
-use Rattle.runs.specs.Calls.{weightAnswer}
-use Rattle.runs.specs.RunList.{follows, allFollow, isRunList, runListVerdict, lastAt}
+use Rattle.run_lists.specs.declared.WeightAnswer.the-variants.{Found, Refused}
+use Rattle.run_lists.specs.Weight.{weightAnswer}
+use Rattle.run_lists.specs.RunList.{follows, allFollow, isRunList, runListVerdict, lastAt, begins}
 use Rattle.run_records.specs.declared.Run.{Run}
 use Rattle.run_records.specs.declared.State.{State}
 use Rattle.run_records.specs.Records.{weightIn, firstIn}
-use Rattle.run_records.specs.Pass.{begins, fits, started, stepped, passed, listVerdict, finished}
+use Rattle.run_records.specs.Pass.{fits, started, stepped, passed, listVerdict, finished}
 
 abbrev weightsIn : List Run → List ℕ
 weightsIn rs = map weightIn rs

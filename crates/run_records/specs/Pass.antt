@@ -6,17 +6,13 @@ use lib.Dec.{leb, eqb}
 use Rattle.lists.specs.Choose.{choose}
 use Rattle.collection.specs.declared.Verdict.{Verdict}
 use Rattle.collection.specs.declared.Verdict.the-variants.{Good, Bad}
-use Rattle.collection.specs.Judge.{isWeight, handleVerdict}
+use Rattle.collection.specs.Judge.{handleVerdict}
 use Rattle.collection.specs.Verdict.{andThen, settle}
-use Rattle.runs.specs.RunList.{follows}
-use Rattle.runs.specs.declared.WeightAnswer.{WeightAnswer}
-use Rattle.runs.specs.declared.WeightAnswer.the-variants.{Found, Refused}
+use Rattle.run_lists.specs.RunList.{begins, follows}
+use Rattle.run_lists.specs.declared.WeightAnswer.{WeightAnswer}
+use Rattle.run_lists.specs.declared.WeightAnswer.the-variants.{Found, Refused}
 use Rattle.run_records.specs.declared.Run.{Run}
 use Rattle.run_records.specs.declared.State.{State}
-
--- a run (w, f) may be the first: its weight is in range, it starts at 1, and 1 is at most n
-abbrev pub begins : ℕ → ℕ → ℕ → Bool
-begins n w f = isWeight w && (eqb f 1 && leb f n)
 
 -- the run may come next: after a run it may follow that one, else it may be the first
 abbrev pub fits : State → Run → Bool

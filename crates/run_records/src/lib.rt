@@ -1,12 +1,11 @@
 // WEIGHT over one list of records, each a weight and its first handle. One pass judges the list and looks the handle up.
 use collection::Verdict;
-use runs::WeightAnswer;
+use run_lists::WeightAnswer;
 ghost use mathlib.Core.Path.{_≡_};
 ghost use mathlib.Core.List.{map};
-ghost use Rattle.runs.specs.Calls.{weightAnswer};
+ghost use Rattle.run_lists.specs.Weight.{weightAnswer};
 ghost use Rattle.run_records.specs.Records.{weightIn, firstIn};
-ghost use Rattle.run_records.specs.Pass.{begins, fits, foundBy, started, stepped, listVerdict, finished};
-ghost use Rattle.runs.specs.RunList.{follows};
+ghost use Rattle.run_records.specs.Pass.{fits, foundBy, started, stepped, listVerdict, finished};
 
 // A run: its weight and its first handle.
 pub struct Run {
@@ -26,28 +25,14 @@ struct State {
     handle: usize,
 }
 
-// Whether a run (w, f) may be the first of a run list.
-fn may_begin(n: usize, w: u32, f: u32) -> bool
-    ensures { λ r. ⌜ r ≡ begins n w f ⌝ }
-{
-    ((1 <= w) & (w <= 16777215)) & ((f == 1) & (f as usize <= n))
-}
-
-// Whether a run (v, g) may follow a run (w, f).
-fn may_follow(n: usize, w: u32, f: u32, v: u32, g: u32) -> bool
-    ensures { λ r. ⌜ r ≡ follows n w f v g ⌝ }
-{
-    (((1 <= v) & (v <= 16777215)) & (v != w)) & ((f < g) & (g as usize <= n))
-}
-
 // Whether the run may come next.
 fn fits_next(s: State, r: Run) -> bool
     ensures { λ q. ⌜ q ≡ fits s r ⌝ }
 {
     if s.begun {
-        return may_follow(s.n, s.weight, s.first, r.weight, r.first);
+        return run_lists::inner::may_follow(s.n, s.weight, s.first, r.weight, r.first);
     }
-    may_begin(s.n, r.weight, r.first)
+    run_lists::inner::may_begin(s.n, r.weight, r.first)
 }
 
 // The weight of the last run that starts at or before the handle, once the run was read.

@@ -1,34 +1,15 @@
 -- How many runs a row of weights has: the sum over its parts, less one where the parts' weights meet equal; and the same turned. Assumes nothing.
 use mathlib.Core.Path.{_≡_, refl, sym, ap, _∙_}
-use mathlib.Core.Bool.{Bool, true, false}
 use mathlib.Core.List.{List, [], _∷_, _++_, reverse, reverse-cons}
-use Prim.Native.Nat.{ℕ, zero, suc, _+_, _≤_}
+use Prim.Native.Nat.{ℕ, suc, _+_}
 use native.Mathlib.Decide.{ℕ-discrete}
 use native.Mathlib.Omega.{arith}
-use borrow.Author.Tests.{eq-eqb, ne-eqb}
-use lib.Dec.{eqb}
 use lib.ListN.{length}
-use Rattle.lists.specs.Choose.{choose}
-use Rattle.runs.specs.Joins.{lastWeight, goesOn}
+use Rattle.lists.specs.Count.{agree}
+use Rattle.lists.proofs.Agree.{agree-same, agree-other, agree-turned}
+use Rattle.runs.specs.Joins.{lastWeight}
 use Rattle.runs.specs.Runs.{laterRuns, runs, runCount}
-use Rattle.runs.proofs.GivenBack.{later-nil, later-equal, later-other}
-
--- ─── goes on, or not ─────────────────────────────────────────────────────────
-
-goes-equal : (w v : ℕ) → w ≡ v → goesOn w v ≡ 1
-unfolding goesOn
-goes-equal w v e = rw (eq-eqb w v e)
-
-goes-other : (w v : ℕ) → (w ≡ v → ⊥) → goesOn w v ≡ 0
-unfolding goesOn
-goes-other w v e = rw (ne-eqb w v e)
-
-pub goes-turned : (w v : ℕ) → goesOn w v ≡ goesOn v w
-goes-turned w v = go (ℕ-discrete w v)
-  where
-    go : Dec (w ≡ v) → goesOn w v ≡ goesOn v w
-    go (yes e) = goes-equal w v e ∙ sym (goes-equal v w (sym e))
-    go (no e) = goes-other w v e ∙ sym (goes-other v w (λ q. e (sym q)))
+use Rattle.runs.proofs.Later.{later-nil, later-equal, later-other}
 
 -- ─── one weight more ─────────────────────────────────────────────────────────
 
@@ -50,25 +31,25 @@ unfolding runs
 count-one w = ap (λ rs. suc (length rs)) (later-nil 1 w)
 
 -- a weight before others is a run more, unless the run goes on
-pub count-cons : (w v : ℕ) (ws : List ℕ) → runCount (w ∷ (v ∷ ws)) + goesOn w v ≡ suc (runCount (v ∷ ws))
+pub count-cons : (w v : ℕ) (ws : List ℕ) → runCount (w ∷ (v ∷ ws)) + agree w v ≡ suc (runCount (v ∷ ws))
 unfolding runs
 count-cons w v ws = go (ℕ-discrete v w)
   where
-    go : Dec (v ≡ w) → suc (length (laterRuns 1 w (v ∷ ws))) + goesOn w v ≡ suc (suc (length (laterRuns 1 v ws)))
-    go (yes e) = omega (arith, goes-equal w v (sym e), ap length (later-equal 1 w v ws e), later-count 2 1 w ws, ap (λ (x : ℕ). length (laterRuns 1 x ws)) e)
-    go (no e) = omega (arith, goes-other w v (λ q. e (sym q)), ap length (later-other 1 w v ws e), later-count 2 1 v ws)
+    go : Dec (v ≡ w) → suc (length (laterRuns 1 w (v ∷ ws))) + agree w v ≡ suc (suc (length (laterRuns 1 v ws)))
+    go (yes e) = omega (arith, agree-same w v (sym e), ap length (later-equal 1 w v ws e), later-count 2 1 w ws, ap (λ (x : ℕ). length (laterRuns 1 x ws)) e)
+    go (no e) = omega (arith, agree-other w v (λ q. e (sym q)), ap length (later-other 1 w v ws e), later-count 2 1 v ws)
 
 -- ─── two rows ────────────────────────────────────────────────────────────────
 
 -- the runs of a concatenation: the sum, less one where the neighbours' end weights are equal
-pub count-append : (w : ℕ) (ws : List ℕ) (v : ℕ) (vs : List ℕ) → runCount ((w ∷ ws) ++ (v ∷ vs)) + goesOn (lastWeight w ws) v ≡ runCount (w ∷ ws) + runCount (v ∷ vs)
+pub count-append : (w : ℕ) (ws : List ℕ) (v : ℕ) (vs : List ℕ) → runCount ((w ∷ ws) ++ (v ∷ vs)) + agree (lastWeight w ws) v ≡ runCount (w ∷ ws) + runCount (v ∷ vs)
 unfolding lastWeight
 count-append w [] v vs = omega (arith, count-cons w v vs, count-one w)
 count-append w (x ∷ ws) v vs = omega (arith, count-append x ws v vs, count-cons w x (ws ++ (v ∷ vs)), count-cons w x ws)
 
 -- ─── turned ──────────────────────────────────────────────────────────────────
 
-count-snoc : (w : ℕ) (ws : List ℕ) (v : ℕ) → runCount ((w ∷ ws) ++ (v ∷ [])) + goesOn (lastWeight w ws) v ≡ suc (runCount (w ∷ ws))
+count-snoc : (w : ℕ) (ws : List ℕ) (v : ℕ) → runCount ((w ∷ ws) ++ (v ∷ [])) + agree (lastWeight w ws) v ≡ suc (runCount (w ∷ ws))
 count-snoc w ws v = omega (arith, count-append w ws v [], count-one v)
 
 last-snoc : (w : ℕ) (ws : List ℕ) (v : ℕ) → lastWeight w (ws ++ (v ∷ [])) ≡ v
@@ -86,8 +67,8 @@ count-reverse (w ∷ (v ∷ ws)) = go (reverse ws) refl (count-reverse (v ∷ ws
     go [] e ih =
         let a : reverse (v ∷ ws) ≡ v ∷ [] = reverse-cons v ws ∙ ap (λ (l : List ℕ). l ++ (v ∷ [])) e in
         let b : reverse (w ∷ (v ∷ ws)) ≡ (v ∷ []) ++ (w ∷ []) = reverse-cons w (v ∷ ws) ∙ ap (λ (l : List ℕ). l ++ (w ∷ [])) a in
-        omega (arith, ap runCount b, ap runCount a, ih, count-cons v w [], count-one w, count-one v, count-cons w v ws, goes-turned w v)
+        omega (arith, ap runCount b, ap runCount a, ih, count-cons v w [], count-one w, count-one v, count-cons w v ws, agree-turned w v)
     go (u ∷ us) e ih =
         let a : reverse (v ∷ ws) ≡ u ∷ (us ++ (v ∷ [])) = reverse-cons v ws ∙ ap (λ (l : List ℕ). l ++ (v ∷ [])) e in
         let b : reverse (w ∷ (v ∷ ws)) ≡ (u ∷ (us ++ (v ∷ []))) ++ (w ∷ []) = reverse-cons w (v ∷ ws) ∙ ap (λ (l : List ℕ). l ++ (w ∷ [])) a in
-        omega (arith, ap runCount b, ap runCount a, ih, count-snoc u (us ++ (v ∷ [])) w, ap (λ (x : ℕ). goesOn x w) (last-snoc u us v), count-cons w v ws, goes-turned w v)
+        omega (arith, ap runCount b, ap runCount a, ih, count-snoc u (us ++ (v ∷ [])) w, ap (λ (x : ℕ). agree x w) (last-snoc u us v), count-cons w v ws, agree-turned w v)

@@ -1,6 +1,4 @@
--- Laws of runs and run lists.
+-- Laws of runs.
+pub mod Later
 pub mod Loops
-pub mod RunLists
-pub mod GivenBack
-pub mod Only
 pub mod Joined

@@ -1,19 +1,14 @@
--- What RUNS answers and leaves in its two tables, and what WEIGHT answers.
+-- What RUNS answers and leaves in its two tables.
 use mathlib.Core.List.{List}
 use Prim.Native.Nat.{ℕ}
 use lib.ListN.{length}
 use Rattle.lists.specs.Fill.{fill}
 use Rattle.collection.specs.declared.Verdict.{Verdict}
-use Rattle.collection.specs.Judge.{collectionVerdict, handleVerdict}
+use Rattle.collection.specs.Judge.{collectionVerdict}
 use Rattle.collection.specs.Verdict.{andThen, settle, roomVerdict}
 use Rattle.runs.specs.declared.RunsAnswer.{RunsAnswer}
 use Rattle.runs.specs.declared.RunsAnswer.the-variants.{Filled, Refused}
-use Rattle.runs.specs.declared.WeightAnswer.{WeightAnswer}
-use Rattle.runs.specs.declared.WeightAnswer.the-variants as weight
 use Rattle.runs.specs.Runs.{runWeights, runFirsts, runCount}
-use Rattle.runs.specs.RunList.{runListVerdict, weightAt}
-
--- ─── RUNS ────────────────────────────────────────────────────────────────────
 
 -- the answer, and what the two tables hold afterwards
 pub record Outcome : Type 0 where
@@ -35,10 +30,3 @@ runsOf k letters ends weights table₁ table₂ =
     settle (runsVerdict k letters ends weights (length table₁) (length table₂))
     (λ number place. outcome (Refused number place) table₁ table₂)
     (outcome (Filled (runCount weights)) (fill (runWeights weights) table₁) (fill (runFirsts weights) table₂))
-
--- ─── WEIGHT ──────────────────────────────────────────────────────────────────
-
--- 12, then 9; then the weight of the last run that starts at or before the handle
-unfoldable pub weightAnswer : List ℕ → List ℕ → ℕ → ℕ → WeightAnswer
-weightAnswer weights firsts n handle =
-    settle (andThen (runListVerdict n weights firsts) (handleVerdict n handle)) weight.Refused (weight.Found (weightAt handle weights firsts))

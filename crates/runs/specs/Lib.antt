@@ -1,5 +1,4 @@
--- Runs of weights, run lists, and what RUNS and WEIGHT answer.
+-- Runs of weights, and what RUNS answers.
 pub mod Runs
-pub mod RunList
 pub mod Joins
 pub mod Calls

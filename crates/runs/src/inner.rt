@@ -1,21 +1,53 @@
-// The lookup over a judged run list, for callers that ask many times and judge once.
+// Counting and listing the runs of weights, for callers that have judged them.
 ghost use mathlib.Core.Path.{_≡_};
-ghost use Rattle.runs.specs.RunList.{Listed, weightAt};
+ghost use Prim.Native.Nat.{_≤_};
+ghost use lib.ListN.{length};
+ghost use Rattle.lists.specs.Fill.{fill};
+ghost use Rattle.runs.specs.Runs.{runCount, runWeights, runFirsts};
 
-// The weight of a handle. First handles rise, so the last run that starts at or before it is found by halving.
-pub fn weight_at(run_weights: &[u32], run_firsts: &[u32], n: usize, handle: usize) -> u32
-    requires { ⌜ Listed n (now «run_weights») (now «run_firsts») handle ⌝ }
-    ensures { λ r. ⌜ r ≡ weightAt handle (now («run_weights» .entry)) (now («run_firsts» .entry)) ⌝ }
+// How many runs.
+pub fn count_runs(weights: &[u32]) -> usize
+    ensures { λ r. ⌜ r ≡ runCount (now (weights .entry)) ⌝ }
 {
-    let mut low = 0;
-    let mut high = run_firsts.len();
-    while 1 < high - low {
-        let mid = low + (high - low) / 2;
-        if run_firsts[mid] as usize <= handle {
-            low = mid;
-        } else {
-            high = mid;
+    if weights.len() == 0 {
+        return 0;
+    }
+    let mut w = weights[0];
+    let mut n = 1;
+    let mut i = 1;
+    while i < weights.len() {
+        let v = weights[i];
+        i += 1;
+        if v != w {
+            n += 1;
+            w = v;
         }
     }
-    run_weights[low]
+    n
+}
+
+// The run list in the first entries of two tables.
+pub fn fill_runs(weights: &[u32], run_weights: &mut [u32], run_firsts: &mut [u32])
+    requires { ⌜ length (now weights) ≤ 1048576 ⌝ }
+    requires { ⌜ (runCount (now weights) ≤ length (now «run_weights»)) × (runCount (now weights) ≤ length (now «run_firsts»)) ⌝ }
+    ensures { λ _. ⌜ (now («run_weights» .exit) ≡ fill (runWeights (now (weights .entry))) (now («run_weights» .entry))) × (now («run_firsts» .exit) ≡ fill (runFirsts (now (weights .entry))) (now («run_firsts» .entry))) ⌝ }
+{
+    if weights.len() == 0 {
+        return;
+    }
+    let mut w = weights[0];
+    run_weights[0] = w;
+    run_firsts[0] = 1;
+    let mut at = 1;
+    let mut i = 1;
+    while i < weights.len() {
+        let v = weights[i];
+        i += 1;
+        if v != w {
+            run_weights[at] = v;
+            run_firsts[at] = i as u32;
+            at += 1;
+            w = v;
+        }
+    }
 }

@@ -1,21 +1,13 @@
-// RUNS lists the runs of a collection's weights; WEIGHT finds the weight of a handle in a run list.
+// RUNS: the runs of a collection's weights, across strings.
 pub mod inner;
-pub mod listing;
 
 use collection::Verdict;
 ghost use mathlib.Core.Path.{_≡_};
-ghost use Rattle.runs.specs.Calls.{outcome, runsOf, weightAnswer};
-ghost use Rattle.runs.specs.RunList.{runListVerdict};
+ghost use Rattle.runs.specs.Calls.{outcome, runsOf};
 
 // What RUNS answers: how many runs it filled in each table.
 pub enum RunsAnswer {
     Filled { runs: usize },
-    Refused { number: u32, place: usize },
-}
-
-// What WEIGHT answers.
-pub enum WeightAnswer {
-    Found { weight: u32 },
     Refused { number: u32, place: usize },
 }
 
@@ -34,7 +26,7 @@ pub fn runs(
     if let Verdict::Bad { number, place } = a {
         return RunsAnswer::Refused { number, place };
     }
-    let n = listing::count_runs(weights);
+    let n = inner::count_runs(weights);
     let b = collection::judge_room(run_weights.len(), n);
     if let Verdict::Bad { number, place } = b {
         return RunsAnswer::Refused { number, place };
@@ -43,37 +35,6 @@ pub fn runs(
     if let Verdict::Bad { number, place } = c {
         return RunsAnswer::Refused { number, place };
     }
-    listing::fill_runs(weights, run_weights, run_firsts);
+    inner::fill_runs(weights, run_weights, run_firsts);
     RunsAnswer::Filled { runs: n }
-}
-
-// 12: a bad run list of n k-mers.
-pub fn judge_run_list(run_weights: &[u32], run_firsts: &[u32], n: usize) -> Verdict
-    ensures { λ r. ⌜ r ≡ runListVerdict n (now («run_weights» .entry)) (now («run_firsts» .entry)) ⌝ }
-{
-    if n <= 1048576 {
-        if listing::is_run_list(run_weights, run_firsts, n) {
-            return Verdict::Good;
-        }
-    }
-    Verdict::Bad {
-        number: 12,
-        place: 0,
-    }
-}
-
-// WEIGHT: the weight of the last run that starts at or before the handle. The whole list is judged first.
-pub fn weight(run_weights: &[u32], run_firsts: &[u32], n: usize, handle: usize) -> WeightAnswer
-    ensures { λ r. ⌜ r ≡ weightAnswer (now («run_weights» .entry)) (now («run_firsts» .entry)) n handle ⌝ }
-{
-    let a = judge_run_list(run_weights, run_firsts, n);
-    if let Verdict::Bad { number, place } = a {
-        return WeightAnswer::Refused { number, place };
-    }
-    let b = collection::judge_handle(n, handle);
-    if let Verdict::Bad { number, place } = b {
-        return WeightAnswer::Refused { number, place };
-    }
-    let w = inner::weight_at(run_weights, run_firsts, n, handle);
-    WeightAnswer::Found { weight: w }
 }

@@ -9,7 +9,7 @@ use lib.Dec.{eqb}
 use lib.ListN.{length, drop, take, getD, length-append, take-append-drop}
 use lib.Seq.{drop-cons, drop-drop, getD-at}
 use Rattle.lists.specs.Choose.{choose}
-use Rattle.collection.specs.Judge.{isWeight}
+use Rattle.faults.specs.Faults.{isWeight}
 use Rattle.lists.specs.Every.{every}
 use Rattle.lists.proofs.Every.{and-both}
 use Rattle.sheet_text.specs.Numbers.{isDigit, isNumber, valueFrom, value}
@@ -24,9 +24,7 @@ use Rattle.sheet_text.proofs.Numbers.{number-all}
 use Rattle.sheet_text.proofs.Accepted.{mark-is}
 use Rattle.sheet_text.proofs.Written.{clear-digit, mark-free, free-next}
 use Rattle.sheet_lines.proofs.OneWeight.{fair}
-use Rattle.sheet_lines.proofs.OneLine.{byte-here, byte-other, weight-good, up-short}
-use Rattle.sheet_lines.proofs.OneLine.{weight-value}
-use Rattle.sheet_lines.proofs.OneLine.{up-take, take-up}
+use Rattle.sheet_lines.proofs.OneLine.{byte-here, byte-other, weight-good, up-short, weight-value, up-take, take-up}
 
 number-free : (c : ℕ) (f : List ℕ) → c < 48 → isNumber f ≡ true → Free c f
 number-free c f p h = every-more _ _ (λ b q. clear-digit c b p q) f (number-all f h)

@@ -11,7 +11,7 @@ use lib.Dec.{leb, ltb, eqb, eqb·suc-suc, eqb·zero-suc, eqb·suc-zero}
 use lib.ListN.{length, take, drop, getD, drop-of-length-le, length-drop, length-map}
 use lib.Seq.{drop-cons, drop-length, drop-drop}
 use Rattle.lists.specs.Choose.{choose}
-use Rattle.words.specs.Letter.{isLetter}
+use Rattle.alphabet.specs.Letter.{isLetter}
 use Rattle.lists.specs.Every.{every}
 use Rattle.sheet_text.specs.Numbers.{value}
 use Rattle.sheet_text.specs.Parts.{upTo, later, tab, feed}

@@ -10,7 +10,7 @@ use borrow.Author.Tests.{le-leb, lt-leb, leb-true, eq-eqb, ne-eqb, eqb-true, eqb
 use lib.Dec.{leb, eqb}
 use lib.ListN.{length, drop, getD, drop-of-length-le}
 use Rattle.lists.specs.Choose.{choose}
-use Rattle.collection.specs.Judge.{isWeight}
+use Rattle.faults.specs.Faults.{isWeight}
 use Rattle.lists.specs.Every.{every}
 use Rattle.lists.proofs.Every.{and-both}
 use Rattle.sheet_text.specs.Numbers.{isDigit, isNumber, valueFrom}

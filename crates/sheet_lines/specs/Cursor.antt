@@ -7,8 +7,8 @@ use lib.ListN.{length, drop, getD}
 use lib.Dec.{ltb, eqb}
 use Rattle.lists.specs.Choose.{choose}
 use Rattle.lists.specs.Every.{every}
-use Rattle.words.specs.Letter.{isLetter}
-use Rattle.collection.specs.Judge.{isWeight}
+use Rattle.alphabet.specs.Letter.{isLetter}
+use Rattle.faults.specs.Faults.{isWeight}
 use Rattle.collection.specs.Strings.{Str, lettersIn, weightsIn}
 use Rattle.sheet_text.specs.Numbers.{isDigit, value}
 use Rattle.sheet_text.specs.Parts.{upTo, later, parts, tab, feed}

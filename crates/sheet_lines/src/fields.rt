@@ -35,7 +35,7 @@ fn is_end(b: u8) -> bool
 fn ended(v: u32, i: usize) -> Weight
     ensures { λ r. ⌜ r ≡ endedAt v i ⌝ }
 {
-    if collection::is_weight(v) {
+    if faults::is_weight(v) {
         return Weight::Good { value: v, next: i };
     }
     Weight::Wrong
@@ -73,7 +73,7 @@ pub fn weight_at(s: &[u8], at: usize) -> Weight
         }
         v = with_digit(v, b);
         i += 1;
-        if !collection::is_weight(v) {
+        if !faults::is_weight(v) {
             return Weight::Wrong;
         }
     }

@@ -15,7 +15,7 @@ pub fn letters_end(s: &[u8], at: usize) -> usize
 {
     let mut i = at;
     while i < s.len() {
-        if !words::is_letter(s[i]) {
+        if !alphabet::is_letter(s[i]) {
             return i;
         }
         i += 1;

@@ -9,8 +9,9 @@ use lib.Dec.{leb, eqb}
 use lib.ListN.{length, length-map}
 use Rattle.lists.specs.Choose.{choose}
 use Rattle.collection.specs.declared.Verdict.the-variants.{Good}
-use Rattle.words.specs.Letter.{isLetter}
-use Rattle.collection.specs.Judge.{kVerdict, isWeight}
+use Rattle.alphabet.specs.Letter.{isLetter}
+use Rattle.collection.specs.Judge.{kVerdict}
+use Rattle.faults.specs.Faults.{isWeight}
 use Rattle.collection.proofs.Strings.{Whole}
 use Rattle.collection.proofs.Verdicts.{both-good, place-good, test-good}
 use Rattle.lists.specs.Every.{All, every}

@@ -4,23 +4,23 @@ use mathlib.Core.Bool.{true}
 use mathlib.Core.List.{List, [], _∷_}
 use Prim.Native.Nat.{ℕ, _≤_}
 use native.Mathlib.Omega.{arith}
-use borrow.Author.Tests.{le-leb, leb-true, le-ltb}
-use lib.Dec.{leb}
+use borrow.Author.Tests.{le-leb, le-ltb}
 use lib.ListN.{length, take}
 use lib.Seq.{take-at}
 use Rattle.lists.specs.Choose.{choose}
 use Rattle.lists.specs.Every.{All}
 use Rattle.lists.specs.Fill.{fill}
 use Rattle.lists.proofs.Every.{and-both, every-all, all-every, all-map}
-use Rattle.words.specs.Letter.{isLetter}
+use Rattle.alphabet.specs.Letter.{isLetter}
 use Rattle.collection.specs.declared.Verdict.{Verdict}
 use Rattle.collection.specs.declared.Verdict.the-variants.{Good, Bad}
-use Rattle.collection.specs.Judge.{kVerdict, sizeVerdict, shapeVerdict, isWeight, collectionVerdict, Passes}
+use Rattle.collection.specs.Judge.{kVerdict, sizeVerdict, shapeVerdict, collectionVerdict, Passes}
+use Rattle.faults.specs.Faults.{isWeight}
 use Rattle.collection.specs.Strings.{Str, strings, lettersIn, weightsIn, endsIn}
 use Rattle.collection.specs.Verdict.{settle, roomVerdict}
 use Rattle.collection.proofs.Judged.{collection-good, size-good}
 use Rattle.collection.proofs.Strings.{Whole, strings-back, strings-letters, strings-ends, strings-weights, strings-whole, each-letters, each-weights, ends-length, tables-pass}
-use Rattle.collection.proofs.Verdicts.{both-good, test-good, room-good, then-good, settled}
+use Rattle.collection.proofs.Verdicts.{both-good, room-good, then-good, settled}
 use Rattle.sheet_text.specs.declared.ReadAnswer.the-variants as read
 use Rattle.sheet_text.specs.declared.WriteAnswer.the-variants as write
 use Rattle.sheet_text.specs.Read.{sheetN, sheetM, sheetWeights, tablesVerdict, readVerdict, ReadOutcome, readOutcome, readOf}
@@ -28,7 +28,6 @@ use Rattle.sheet_text.specs.Sheet.{sheetK, sheetStrings, sheetVerdict, A
 use Rattle.sheet_text.specs.Text.{sheetText, writeText}
 use Rattle.sheet_text.specs.Write.{writeVerdict, WriteOutcome, writeOutcome, writeOf}
 use Rattle.sheet_text.proofs.Accepted.{Holds, sheet-good, accepted-text, accepted-holds}
-use Rattle.sheet_text.proofs.Tests.{both}
 use Rattle.sheet_text.proofs.Written.{text-k, text-strings, text-accepted}
 
 -- ─── READ takes exactly the accepted sheets within the limits ────────────────

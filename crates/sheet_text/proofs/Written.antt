@@ -8,8 +8,9 @@ use borrow.Author.Tests.{eq-eqb, le-leb}
 use lib.Dec.{eqb}
 use lib.ListN.{length-map}
 use Rattle.collection.specs.declared.Verdict.the-variants.{Good}
-use Rattle.words.specs.Letter.{isLetter}
-use Rattle.collection.specs.Judge.{kVerdict, isWeight}
+use Rattle.alphabet.specs.Letter.{isLetter}
+use Rattle.collection.specs.Judge.{kVerdict}
+use Rattle.faults.specs.Faults.{isWeight}
 use Rattle.collection.specs.Verdict.{andThen, atPlace}
 use Rattle.collection.proofs.Judged.{k-good}
 use Rattle.lists.specs.Every.{All, every}

@@ -7,10 +7,11 @@ use lib.Dec.{leb, eqb}
 use lib.ListN.{length}
 use Rattle.lists.specs.Choose.{choose}
 use Rattle.lists.specs.Every.{every}
-use Rattle.words.specs.Letter.{isLetter}
+use Rattle.alphabet.specs.Letter.{isLetter}
 use Rattle.collection.specs.declared.Verdict.{Verdict}
 use Rattle.collection.specs.declared.Verdict.the-variants.{Good, Bad}
-use Rattle.collection.specs.Judge.{kVerdict, isWeight}
+use Rattle.collection.specs.Judge.{kVerdict}
+use Rattle.faults.specs.Faults.{isWeight}
 use Rattle.collection.specs.Strings.{Str}
 use Rattle.collection.specs.Verdict.{andThen, atPlace}
 use Rattle.sheet_text.specs.Numbers.{isNumber, value}

@@ -14,7 +14,7 @@ use Rattle.lists.specs.Pick.{pick}
 use Rattle.lists.proofs.Count.{length-count}
 use Rattle.lists.proofs.Every.{and-both, all-append, all-map, all-every}
 use Rattle.lists.proofs.Picks.{all-pick, length-upTo-suc, length-upTo-le, length-upTo-mono}
-use Rattle.collection.specs.Judge.{firstShort, lastEnd}
+use Rattle.faults.specs.Faults.{firstShort, lastEnd}
 use Rattle.collection.specs.Kmers.{within}
 use Rattle.collection.proofs.Judged.{Shape, long-cons, ends-room}
 use Rattle.collection.proofs.Kmers.{kmers-counted}

@@ -2,10 +2,10 @@
 use mathlib.Core.Path.{_≡_, refl, ap}
 use mathlib.Core.List.{List, [], _∷_, _++_}
 use Prim.Native.Nat.{ℕ}
-use Rattle.lists.specs.Count.{countFrom, sum}
+use Rattle.lists.specs.Count.{countFrom, sum, agree}
 use Rattle.lists.specs.Every.{every, same}
 use Rattle.lists.specs.First.{firstFrom}
-use Rattle.words.specs.Letter.{letter, isLetter}
+use Rattle.alphabet.specs.Letter.{letter, isLetter}
 use Rattle.words.specs.Word.{turn}
 use Rattle.collection.specs.Judge.{kVerdict, sizeVerdict}
 use Rattle.collection.specs.Kmers.{kmersFrom}
@@ -15,7 +15,6 @@ use Rattle.sheet_text.specs.Numbers.{isNumber, valueFrom, digitsIn, digits}
 use Rattle.sheet_text.specs.Parts.{upTo, later}
 use Rattle.sheet_text.specs.Sheet.{isKLine, isWeightField, isString, isStringLine, stringsOf, firstWrong, sheetVerdict}
 use Rattle.repeats.specs.Check.{anyThat, alike, repeated, firstRepeat}
-use Rattle.trails.specs.Counting.{agree}
 use Rattle.trails.specs.Groups.{least}
 use Rattle.vertices.specs.EndWeights.{endWeights}
 use Rattle.runs.specs.Runs.{laterRuns, runs, innerRuns}

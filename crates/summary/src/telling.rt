@@ -26,7 +26,7 @@ fn count_all(k: usize, ends: &[u32], weights: &[u32], paths: usize, work: &mut [
         kmers: weights.len(),
         total: counts::inner::total(weights),
         inner,
-        given: runs::listing::count_runs(weights),
+        given: runs::inner::count_runs(weights),
         paths,
         least: inner - m + paths,
         distinct,

@@ -8,7 +8,7 @@ use borrow.Author.Tests.{lt-ltb, le-ltb, eq-eqb, ne-eqb}
 use lib.ListN.{length, getD, set}
 use Rattle.trails.specs.Counting.{occurs}
 use Rattle.trails.specs.Strings.{weights}
-use Rattle.trails.proofs.Counting.{agree-same, agree-other}
+use Rattle.lists.proofs.Agree.{agree-same, agree-other}
 use Rattle.trails.proofs.Orders.{Reordered, keep, turn, exchange, both, unmoved, occurs-reordered}
 use Rattle.tours.specs.Halves.{near, other, gone, unused, numbered}
 

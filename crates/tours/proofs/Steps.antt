@@ -10,7 +10,7 @@ use lib.ListN.{length, getD, set, drop, length-set}
 use lib.Seq.{drop-cons, drop-set-lt, getD-set-same, getD-set-other}
 use Rattle.trails.specs.Counting.{occurs}
 use Rattle.trails.specs.Strings.{Ends, weights}
-use Rattle.trails.proofs.Counting.{agree-same, agree-other}
+use Rattle.lists.proofs.Agree.{agree-same, agree-other}
 use Rattle.trails.proofs.Orders.{Reordered, length-reordered}
 use Rattle.trails.proofs.Walk.{Walk, Closed, started, taken as walk-taken, popped, closed as walk-closed}
 use Rattle.tours.specs.Layout.{Tables}

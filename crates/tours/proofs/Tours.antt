@@ -7,7 +7,7 @@ use native.Mathlib.Decide.{ℕ-discrete, decLt}
 use lib.ListN.{length, getD, drop, drop-of-length-le}
 use Rattle.trails.specs.Counting.{occurs}
 use Rattle.trails.specs.Strings.{Ends, weights}
-use Rattle.trails.proofs.Counting.{agree-other}
+use Rattle.lists.proofs.Agree.{agree-other}
 use Rattle.trails.proofs.Upper.{Toured, first-walk, later-walk}
 use Rattle.trails.proofs.Walk.{closed-before}
 use Rattle.tours.specs.Layout.{Tables}

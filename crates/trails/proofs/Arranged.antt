@@ -14,9 +14,11 @@ use Rattle.lists.specs.Choose.{choose}
 use Rattle.lists.specs.Every.{All}
 use Rattle.lists.proofs.Every.{all-at, at-all}
 use Rattle.lists.proofs.Mapped.{map-at, map-at-below, map-all}
-use Rattle.trails.specs.Counting.{agree, occurs}
+use Rattle.lists.specs.Count.{agree}
+use Rattle.trails.specs.Counting.{occurs}
 use Rattle.trails.specs.Places.{isTurned, signed, SignedPermutation, turnedBy, standing, arrangedTo, arranged}
-use Rattle.trails.proofs.Counting.{agree-same, agree-other, agree-le, occurs-at, occurs-where, once-if-used, range-if-used, once-if-apart}
+use Rattle.lists.proofs.Agree.{agree-same, agree-other, agree-le}
+use Rattle.trails.proofs.Counting.{occurs-at, occurs-where, once-if-used, range-if-used, once-if-apart}
 
 -- ─── a place from its number and its sign ────────────────────────────────────
 

@@ -1,47 +1,16 @@
 -- Laws of counts and of sums below a bound. Assumes nothing.
 use mathlib.Core.Path.{_≡_, refl, ap, sym, _∙_}
-use mathlib.Core.Logic.{_⊎_, inl, inr}
-use mathlib.Core.Bool.{Bool, true, false}
+use mathlib.Core.Logic.{inl, inr}
 use mathlib.Core.List.{List, [], _∷_, _++_, map}
 use Prim.Native.Nat.{ℕ, zero, suc, _+_, _-_, _≤_, _<_}
 use native.Mathlib.Omega.{arith}
 use native.Mathlib.Decide.{ℕ-discrete, decLt}
-use lib.Dec.{eqb}
 use lib.ListN.{length, length-append, getD}
-use borrow.Author.Tests.{eq-eqb, ne-eqb}
-use Rattle.lists.specs.Choose.{choose}
 use Rattle.lists.specs.Every.{All}
+use Rattle.lists.proofs.Agree.{Agreeing, agree-same, agree-other, agree-cases, agree-le}
 use Rattle.lists.proofs.Every.{all-map}
-use Rattle.trails.specs.Counting.{agree, occurs, oddly, sumBelow, above}
-
--- ─── equal or not ────────────────────────────────────────────────────────────
-
-pub agree-same : (a b : ℕ) → a ≡ b → agree a b ≡ 1
-unfolding agree
-agree-same a b e = rw (eq-eqb a b e)
-
-pub agree-other : (a b : ℕ) → (a ≡ b → ⊥) → agree a b ≡ 0
-unfolding agree
-agree-other a b h = rw (ne-eqb a b h)
-
--- which of the two it is
-abbrev pub Agreeing : ℕ → ℕ → Type 0
-Agreeing a b = ((a ≡ b) × (agree a b ≡ 1)) ⊎ ((a ≡ b → ⊥) × (agree a b ≡ 0))
-
-pub agree-cases : (a b : ℕ) → Agreeing a b
-agree-cases a b = go (ℕ-discrete a b)
-  where
-    go : Dec (a ≡ b) → Agreeing a b
-    go (yes e) = inl (e, agree-same a b e)
-    go (no h) = inr (h, agree-other a b h)
-
-pub agree-le : (a b : ℕ) → agree a b ≤ 1
-unfolding agree
-agree-le a b = go (eqb a b)
-  where
-    go : (t : Bool) → choose t 1 0 ≤ 1
-    go true = omega arith
-    go false = omega arith
+use Rattle.lists.specs.Count.{agree}
+use Rattle.trails.specs.Counting.{occurs, oddly, sumBelow, above}
 
 -- ─── sums below a bound ──────────────────────────────────────────────────────
 

@@ -5,10 +5,12 @@ use mathlib.Core.List.{List, map}
 use Prim.Native.Nat.{ℕ, zero, suc, _*_, _≤_, _<_}
 use native.Mathlib.Omega.{arith}
 use native.Mathlib.Decide.{decLt}
-use Rattle.trails.specs.Counting.{agree, occurs, oddly, above}
+use Rattle.lists.specs.Count.{agree}
+use Rattle.trails.specs.Counting.{occurs, oddly, above}
 use Rattle.trails.specs.Strings.{Ends, weights}
 use Rattle.trails.specs.Groups.{Joined, nameOf, allEven, oddMembers, evenGroup}
-use Rattle.trails.proofs.Counting.{Agreeing, agree-same, agree-cases, sum-zero, sum-part, occurs-map, occurs-map-some, above-all, occurs-beyond}
+use Rattle.lists.proofs.Agree.{Agreeing, agree-same, agree-cases}
+use Rattle.trails.proofs.Counting.{sum-zero, sum-part, occurs-map, occurs-map-some, above-all, occurs-beyond}
 use Rattle.trails.proofs.Groups.{joined-same-name, same-name-joined}
 
 -- ─── is a group even? ────────────────────────────────────────────────────────

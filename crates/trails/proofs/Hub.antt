@@ -6,13 +6,15 @@ use mathlib.Core.List.{List, [], _∷_, _++_, map, map-append}
 use Prim.Native.Nat.{ℕ, zero, suc, _+_, _*_, _%_, _≤_, _<_}
 use native.Mathlib.Omega.{arith}
 use native.Mathlib.Decide.{ℕ-discrete, decLt}
-use lib.ListN.{length, length-map}
-use Rattle.trails.specs.Counting.{agree, occurs, oddly, sumBelow, above}
+use lib.ListN.{length}
+use Rattle.lists.specs.Count.{agree}
+use Rattle.trails.specs.Counting.{occurs, oddly, sumBelow, above}
 use Rattle.trails.specs.Strings.{Ends, front, back, weights}
 use Rattle.trails.specs.Paths.{pathCount}
 use Rattle.trails.specs.Groups.{countOdd, oddWeights}
-use Rattle.trails.proofs.Counting.{agree-same, agree-other, Agreeing, agree-cases, agree-le, sum-at, oddly-le, oddly-same, oddly-other, AllBelow, above-all, occurs-beyond, occurs-split, occurs-between}
-use Rattle.trails.proofs.Orders.{Reordered, empty, keep, turn, exchange, both, unmoved, move-in, reordered-left, length-reordered, occurs-both, length-weights}
+use Rattle.lists.proofs.Agree.{agree-same, agree-other, Agreeing, agree-cases, agree-le}
+use Rattle.trails.proofs.Counting.{sum-at, oddly-le, oddly-same, oddly-other, AllBelow, above-all, occurs-beyond, occurs-split, occurs-between}
+use Rattle.trails.proofs.Orders.{Reordered, empty, keep, turn, exchange, both, unmoved, move-in, reordered-left, occurs-both, length-weights}
 use Rattle.trails.proofs.Paths.{breaks, paths-breaks, paths-none, Chain}
 use Rattle.trails.proofs.Groups.{Carried}
 use Rattle.trails.proofs.Lower.{no-odd}

@@ -8,11 +8,13 @@ use Prim.Native.Nat.{ℕ, zero, suc, _+_, _-_, _*_, _%_, _≤_, _<_}
 use native.Mathlib.Omega.{arith}
 use native.Mathlib.Decide.{ℕ-discrete, decLt}
 use lib.ListN.{length}
-use Rattle.trails.specs.Counting.{agree, occurs, oddly, sumBelow, above}
+use Rattle.lists.specs.Count.{agree}
+use Rattle.trails.specs.Counting.{occurs, oddly, sumBelow, above}
 use Rattle.trails.specs.Strings.{Ends, front, back, weights}
 use Rattle.trails.specs.Paths.{pathCount}
 use Rattle.trails.specs.Groups.{nameOf, allEven, oddMembers, evenGroup, countEvenGroups, countOdd, evenGroups, oddWeights, least}
-use Rattle.trails.proofs.Counting.{agree-same, agree-other, Agreeing, agree-cases, sum-zero, sum-part, sum-mono, sum-at, sum-off, oddly-le, oddly-same, oddly-other, AllBelow, above-all}
+use Rattle.lists.proofs.Agree.{agree-same, agree-other, Agreeing, agree-cases}
+use Rattle.trails.proofs.Counting.{sum-zero, sum-part, sum-mono, sum-at, sum-off, oddly-le, oddly-same, oddly-other, AllBelow, above-all}
 use Rattle.trails.proofs.Orders.{Reordered, names-reordered, oddly-reordered, EndsBelow, below-reordered}
 use Rattle.trails.proofs.EvenGroups.{even-le, even-not, even-mono}
 use Rattle.trails.proofs.Paths.{breaks, paths-breaks, paths-none}

@@ -7,7 +7,8 @@ use lib.ListN.{length}
 use Rattle.lists.specs.Every.{All}
 use Rattle.trails.specs.Counting.{occurs, oddly}
 use Rattle.trails.specs.Strings.{Ends, front, back, turned, weights}
-use Rattle.trails.proofs.Counting.{AllBelow, agree-same}
+use Rattle.trails.proofs.Counting.{AllBelow}
+use Rattle.lists.proofs.Agree.{agree-same}
 
 -- the second list has the strings of the first in another order, some turned
 pub data Reordered : List Ends → List Ends → Type 0 where

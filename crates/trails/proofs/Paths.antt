@@ -7,10 +7,10 @@ use native.Mathlib.Omega.{arith}
 use lib.ListN.{length}
 use borrow.Author.Tests.{eqb-true, eq-eqb}
 use Rattle.lists.specs.Choose.{choose}
-use Rattle.trails.specs.Counting.{agree}
+use Rattle.lists.specs.Count.{agree}
 use Rattle.trails.specs.Strings.{Ends, front, back}
 use Rattle.trails.specs.Paths.{joins, before, pathsFrom, paths, pathCount}
-use Rattle.trails.proofs.Counting.{agree-same}
+use Rattle.lists.proofs.Agree.{agree-same}
 
 -- ─── the number of paths ─────────────────────────────────────────────────────
 

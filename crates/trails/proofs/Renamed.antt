@@ -6,7 +6,8 @@ use native.Mathlib.Decide.{ℕ-discrete}
 use lib.IntN.{ℤ}
 use lib.ListN.{length, length-map}
 use Rattle.lists.specs.Every.{All}
-use Rattle.trails.specs.Counting.{agree, occurs}
+use Rattle.lists.specs.Count.{agree}
+use Rattle.trails.specs.Counting.{occurs}
 use Rattle.trails.specs.Strings.{Ends, front, back, turned, weights}
 use Rattle.trails.specs.Paths.{paths, pathCount}
 use Rattle.trails.specs.Places.{SignedPermutation, arranged}
@@ -14,7 +15,7 @@ use Rattle.trails.specs.Groups.{least}
 use Rattle.trails.specs.Renamed.{renamed, Renamed}
 use Rattle.trails.proofs.Arranged.{map-arranged}
 use Rattle.trails.proofs.Bounds.{none-fewer, one-reaches, least-only}
-use Rattle.trails.proofs.Counting.{agree-same, agree-other}
+use Rattle.lists.proofs.Agree.{agree-same, agree-other}
 use Rattle.trails.proofs.Orders.{all-reordered, all-weights}
 use Rattle.trails.proofs.Paths.{paths-next}
 use Rattle.trails.proofs.Places.{places-reordered}

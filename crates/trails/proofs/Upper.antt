@@ -13,7 +13,8 @@ use Rattle.trails.specs.Counting.{occurs, oddly, sumBelow}
 use Rattle.trails.specs.Strings.{Ends, front, weights}
 use Rattle.trails.specs.Paths.{pathCount}
 use Rattle.trails.specs.Groups.{nameOf, oddMembers, evenGroup, countEvenGroups, evenGroups, oddWeights, least}
-use Rattle.trails.proofs.Counting.{agree-same, sum-mono, sum-at, occurs-map, occurs-map-not, oddly-le, above-all}
+use Rattle.lists.proofs.Agree.{agree-same}
+use Rattle.trails.proofs.Counting.{sum-mono, sum-at, occurs-map, occurs-map-not, oddly-le, above-all}
 use Rattle.trails.proofs.Orders.{Reordered, both, reordered-left, length-reordered, occurs-reordered, occurs-both, names-both}
 use Rattle.trails.proofs.Paths.{paths-append, chain-one-path}
 use Rattle.trails.proofs.Groups.{name-below, Carries, Carried, carried-group, carried-back, carried-all, carried-none}

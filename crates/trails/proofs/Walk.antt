@@ -10,9 +10,10 @@ use Prim.Native.Nat.{ℕ, zero, suc, _+_, _*_, _%_, _≤_, _<_}
 use native.Mathlib.Omega.{arith}
 use native.Mathlib.Decide.{ℕ-discrete}
 use lib.ListN.{length}
-use Rattle.trails.specs.Counting.{agree, occurs}
+use Rattle.lists.specs.Count.{agree}
+use Rattle.trails.specs.Counting.{occurs}
 use Rattle.trails.specs.Strings.{Ends, front, back, weights}
-use Rattle.trails.proofs.Counting.{agree-same, agree-other, agree-cases}
+use Rattle.lists.proofs.Agree.{agree-same, agree-other, agree-cases}
 use Rattle.trails.proofs.Orders.{Reordered, keep, turn, exchange, both, unmoved, move-in, reordered-left, reordered-right, length-reordered, occurs-reordered}
 use Rattle.trails.proofs.Paths.{Chain}
 

@@ -1,12 +1,7 @@
--- How often a number occurs, and sums over the numbers below a bound. A test counts 1 where it holds and 0 where not, so that it can be added up.
+-- How often a number occurs, and sums over the numbers below a bound.
 use mathlib.Core.List.{List, [], _∷_}
 use Prim.Native.Nat.{ℕ, zero, suc, _+_, _%_, max}
-use lib.Dec.{eqb}
-use Rattle.lists.specs.Choose.{choose}
-
--- 1 where a and b are equal, else 0
-unfoldable pub agree : ℕ → ℕ → ℕ
-agree a b = choose (eqb a b) 1 0
+use Rattle.lists.specs.Count.{agree}
 
 -- how often w occurs in ws
 unfoldable pub occurs : ℕ → List ℕ → ℕ

@@ -3,7 +3,8 @@ use mathlib.Core.List.{List, [], _∷_, map, List·Memᴰ}
 use Prim.Native.Nat.{ℕ, zero, suc, _+_, _*_, _/_}
 use lib.Dec.{eqb}
 use Rattle.lists.specs.Choose.{choose}
-use Rattle.trails.specs.Counting.{agree, occurs, oddly, sumBelow, above}
+use Rattle.lists.specs.Count.{agree}
+use Rattle.trails.specs.Counting.{occurs, oddly, sumBelow, above}
 use Rattle.trails.specs.Strings.{Ends, front, back, weights}
 
 -- Two end weights are in one group if a chain of strings joins them: the chain ends where it started, or goes on over a string (a, b), either way.

@@ -9,7 +9,7 @@ use Rattle.lists.specs.Count.{countFrom}
 use Rattle.lists.proofs.Count.{length-count}
 use Rattle.lists.specs.Fill.{put}
 use Rattle.lists.proofs.Storing.{drop-next, Storing, begin-at, inside, store, restated, stored}
-use Rattle.collection.specs.Judge.{firstShort, lastEnd}
+use Rattle.faults.specs.Faults.{firstShort, lastEnd}
 use Rattle.collection.specs.Kmers.{within, kmersFrom, kmers}
 use Rattle.collection.specs.Strings.{stringsFrom}
 use Rattle.collection.proofs.Judged.{long-cons}

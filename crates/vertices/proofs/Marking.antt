@@ -13,8 +13,10 @@ use Rattle.lists.specs.Regions.{Only}
 use Rattle.lists.proofs.Every.{all-at}
 use Rattle.lists.proofs.Regions.{part-set, part-length, part-at, among-refl, only-set, only-at}
 use Rattle.tours.specs.Layout.{Fits}
-use Rattle.trails.specs.Counting.{agree, occurs}
-use Rattle.trails.proofs.Counting.{agree-same, agree-other, occurs-between}
+use Rattle.lists.specs.Count.{agree}
+use Rattle.trails.specs.Counting.{occurs}
+use Rattle.lists.proofs.Agree.{agree-same, agree-other}
+use Rattle.trails.proofs.Counting.{occurs-between}
 use Rattle.vertices.specs.Ladder.{ladder}
 use Rattle.vertices.specs.Promises.{vertsIn, flagsIn, Marked}
 use Rattle.vertices.proofs.Ladder.{ladder-at}

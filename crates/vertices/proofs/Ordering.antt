@@ -18,7 +18,7 @@ use Rattle.lists.proofs.Count.{length-count, count-at, all-count}
 use Rattle.lists.proofs.Every.{and-right, all-at}
 use Rattle.lists.proofs.Puts.{put-part}
 use Rattle.lists.proofs.Sorts.{sortBy-at, sortBy-place, all-sortBy, length-sortBy}
-use Rattle.collection.specs.Judge.{isWeight}
+use Rattle.faults.specs.Faults.{isWeight}
 use Rattle.collection.specs.Kmers.{within}
 use Rattle.sorting.specs.Keys.{keyAt}
 use Rattle.sorting.specs.Layout.{Laid}

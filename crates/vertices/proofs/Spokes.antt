@@ -9,7 +9,7 @@ use lib.Seq.{ext-getD}
 use Rattle.trails.specs.Counting.{occurs, oddly}
 use Rattle.trails.specs.Strings.{Ends, front, back, weights}
 use Rattle.trails.specs.Renamed.{renamed}
-use Rattle.trails.proofs.Counting.{agree-same, agree-other}
+use Rattle.lists.proofs.Agree.{agree-same, agree-other}
 use Rattle.trails.proofs.Hub.{spokesTo}
 use Rattle.trails.proofs.Orders.{length-weights}
 use Rattle.tours.specs.Halves.{near, unused, numbered}

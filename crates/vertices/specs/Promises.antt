@@ -8,9 +8,9 @@ use Rattle.lists.specs.Count.{countFrom}
 use Rattle.lists.specs.Every.{All}
 use Rattle.lists.specs.Pick.{sortBy}
 use Rattle.lists.specs.Regions.{part, Only}
-use Rattle.collection.specs.Judge.{lastEnd, isWeight}
+use Rattle.faults.specs.Faults.{lastEnd, isWeight}
 use Rattle.collection.specs.Kmers.{kmers}
-use Rattle.collection.specs.Long.{Long}
+use Rattle.collection.specs.Ready.{Long}
 use Rattle.sorting.specs.Keys.{keyAt}
 use Rattle.trails.specs.Counting.{occurs}
 use Rattle.trails.specs.Renamed.{Renamed}

@@ -1,6 +1,5 @@
 -- Laws of walks.
 pub mod Words
-pub mod Rolls
 pub mod Walks
 pub mod Rows
 pub mod RowWalks

@@ -5,16 +5,15 @@ use mathlib.Core.List.{List, [], _∷_, map}
 use Prim.Native.Nat.{ℕ, _+_, _^_, _<_, _≤_, min}
 use native.Mathlib.Omega.{arith}
 use borrow.Author.Tests.{lt-ltb}
-use lib.Dec.{eqb, ltb}
+use lib.Dec.{eqb}
 use lib.ListN.{length, take, drop, length-take, length-drop, length-map}
 use Rattle.lists.specs.Every.{every, same}
 use Rattle.lists.proofs.Every.{and-both, and-true, and-no, every-all, not-same}
-use Rattle.words.specs.Letter.{letter, isLetter, twoBits}
+use Rattle.alphabet.specs.Letter.{letter, isLetter, twoBits}
 use Rattle.words.specs.Word.{code, spell, Letters}
 use Rattle.words.specs.Turned.{spelled}
-use Rattle.words.proofs.Codes.{spelled-letters, length-spelled, code-spelled}
-use Rattle.words.proofs.Letters.{spell-letters, spell-bits}
-use Rattle.lookups.proofs.Scans.{code-test}
+use Rattle.words.proofs.Codes.{spelled-letters, length-spelled, code-spelled, code-test}
+use Rattle.words.proofs.Spelled.{spell-letters, spell-bits}
 use Rattle.walks.specs.Walk.{isWord}
 
 -- only letters have codes below 4

@@ -3,12 +3,12 @@ use crate::Met;
 ghost use mathlib.Core.Bool.{true};
 ghost use mathlib.Core.List.{map};
 ghost use mathlib.Core.Path.{_≡_};
-ghost use Prim.Native.Nat.{ℕ, _+_, _≤_, _<_, _^_};
+ghost use Prim.Native.Nat.{_+_, _≤_, _<_, _^_};
 ghost use lib.ListN.{length, take, drop};
 ghost use Rattle.stretches.specs.Stretches.{stretch, kmersOf, walk};
 ghost use Rattle.stretches.specs.Index.{tables, stretchFits, rowFits, tablesFit, rowOf};
 ghost use Rattle.walks.specs.Judged.{Alike, Row};
-ghost use Rattle.words.specs.Letter.{twoBits};
+ghost use Rattle.alphabet.specs.Letter.{twoBits};
 ghost use Rattle.words.specs.Word.{code};
 ghost use Rattle.words.specs.Turned.{spelled};
 ghost use Rattle.walks.specs.Walk.{isWord, seek};
@@ -81,7 +81,7 @@ fn is_word(k: usize, letters: &[u8], a: usize, c: u64, w: u64) -> bool
     if c != w {
         return false;
     }
-    words::all_letters(&letters[a..a + k])
+    alphabet::all_letters(&letters[a..a + k])
 }
 
 // Compares the k-mers of one stretch with the word of code w, `compared` k-mers having been compared before.
@@ -102,7 +102,7 @@ fn walk_stretch(
     let mut c = words::inner::word_code(&letters[at..before]);
     let mut i = 0;
     while i < number {
-        c = words::inner::roll(k, c, words::letter_code(letters[before + i]));
+        c = words::inner::roll(k, c, alphabet::letter_code(letters[before + i]));
         if is_word(k, letters, at + i, c, w) {
             return Met::Hit {
                 handle: first + i,

@@ -1,13 +1,16 @@
 -- Laws of a word's code: it is below 4 ^ length, no two words of one length share it, and it gives the word back. Assumes nothing.
 use mathlib.Core.Path.{_≡_, refl, sym, ap, ap₂, _∙_, subst}
+use mathlib.Core.Bool.{Bool, true, false, true≢false}
 use mathlib.Core.List.{List, [], _∷_, _++_}
 use Prim.Native.Nat.{ℕ, zero, suc, _+_, _*_, _/_, _%_, _^_, _≤_, _<_}
 use native.Mathlib.Omega.{arith}
 use native.Mathlib.Nat.{zero-add, add-mul, mul-assoc, add-assoc, zero-mul, pow-le-pow-right, lt-of-lt-of-le, mod-lt}
 use lib.Arith.{digits-mod, digits-div, digits-lt}
-use lib.Dec.{lit<}
+use borrow.Author.Tests.{eq-eqb, ne-eqb}
+use lib.Dec.{eqb, lit<}
 use lib.ListN.{length, length-append}
-use Rattle.lists.proofs.Every.{all-append}
+use Rattle.lists.specs.Every.{same}
+use Rattle.lists.proofs.Every.{all-append, same-is, is-same}
 use Rattle.words.specs.Word.{Letters, codeFrom, code}
 use Rattle.words.specs.Turned.{spelled}
 
@@ -96,3 +99,14 @@ pub spelled-code : (w : List ℕ) → Letters w → spelled (length w) (code w) 
 spelled-code w h =
     code-injective (spelled (length w) (code w)) w (length-spelled (length w) (code w)) (spelled-letters (length w) (code w)) h
     (code-spelled (length w) (code w) (code-lt w h))
+
+-- a test by codes is a test by letters
+pub code-test : (u w : List ℕ) (c : ℕ) → length u ≡ length w → Letters u → Letters w → c ≡ code w → eqb (code u) c ≡ same u w
+code-test u w c l g h e = go (same u w) refl
+  where
+    go : (t : Bool) → same u w ≡ t → eqb (code u) c ≡ same u w
+    go true q = eq-eqb (code u) c (ap code (same-is u w q) ∙ sym e) ∙ sym q
+    go false q = ne-eqb (code u) c (λ r. no (code-injective u w l g h (r ∙ e))) ∙ sym q
+      where
+        no : u ≡ w → ⊥
+        no p = let z = sym (is-same p) ∙ q in true≢false z

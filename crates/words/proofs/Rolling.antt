@@ -1,6 +1,6 @@
 -- Laws of rolling codes: over a list xs of letters' codes, the code of the k letters from a on gives that of the k letters from a + 1 on.
 -- Assumes nothing.
-use mathlib.Core.Path.{_≡_, refl, sym, ap, ap₂, _∙_, subst}
+use mathlib.Core.Path.{_≡_, refl, sym, ap, ap₂, _∙_}
 use mathlib.Core.List.{List, [], _∷_, _++_, map}
 use Prim.Native.Nat.{ℕ, zero, suc, _+_, _-_, _*_, _/_, _%_, _^_, _≤_, _<_}
 use native.Mathlib.Omega.{arith}
@@ -13,12 +13,12 @@ use lib.ListN.{length, getD, take, drop, length-drop, length-map}
 use lib.Pow.{shl-exact}
 use lib.Seq.{take-suc, drop-cons, getD-drop, length-take-le}
 use Rattle.lists.proofs.Every.{all-take, all-drop, all-at}
-use Rattle.words.specs.Letter.{letter, twoBits}
-use Rattle.words.specs.Word.{Letters, code, turn, paired, spell, wordAt}
+use Rattle.alphabet.specs.Letter.{letter, twoBits, paired}
+use Rattle.words.specs.Word.{Letters, code, turn, spell, wordAt}
 use Rattle.words.specs.Turned.{rolled, rolledTurned}
 use Rattle.words.proofs.Codes.{code-snoc, code-cons, code-lt, code-room}
-use Rattle.words.proofs.Letters.{bits-lt}
-use Rattle.words.proofs.Turning.{turn-cons, turn-snoc, length-turn, letters-turn}
+use Rattle.alphabet.proofs.Letters.{bits-lt}
+use Rattle.words.proofs.Turning.{turn-cons, turn-snoc, length-turn}
 
 -- ─── a word without its first letter, with one more behind ───────────────────
 
@@ -136,7 +136,7 @@ turned-room k c x h l small =
 
 -- ─── the letters of a word one after the other ───────────────────────────────
 
-bits-letters : (bytes : List ℕ) → Letters (map twoBits bytes)
+pub bits-letters : (bytes : List ℕ) → Letters (map twoBits bytes)
 bits-letters [] = tt
 bits-letters (b ∷ bytes) = (bits-lt b, bits-letters bytes)
 

@@ -1,7 +1,7 @@
 -- Laws of the reverse complement, of words and of codes, for words of every length. Assumes nothing.
 use mathlib.Core.Path.{_≡_, refl, sym, ap, ap₂, _∙_, subst}
-use mathlib.Core.Bool.{Bool, true, _&&_}
-use mathlib.Core.List.{List, [], _∷_, _++_, map, reverse, reverseAux, reverse-cons, reverse-append, reverse-reverse}
+use mathlib.Core.Bool.{true}
+use mathlib.Core.List.{List, [], _∷_, _++_, map, reverse, reverse-cons, reverse-append}
 use Prim.Native.Nat.{ℕ, zero, suc, _+_, _-_, _*_, _/_, _%_, _^_, _≤_, _<_}
 use native.Mathlib.Omega.{arith}
 use native.Mathlib.Nat.{mod-lt, mod-mod, lt-of-lt-of-le, le-trans, pow-le-pow-right, one-le-pow}
@@ -11,13 +11,14 @@ use lib.Dec.{lit<, lit≤, eqb}
 use lib.ListN.{length, getD, length-map, length-reverse}
 use borrow.Author.Tests.{eqb-true}
 use Rattle.lists.specs.Count.{sum}
-use Rattle.lists.specs.Every.{everyAt, everyFrom}
+use Rattle.lists.specs.Every.{everyAt}
 use Rattle.lists.proofs.Count.{sum-append}
 use Rattle.lists.proofs.Every.{all-append, and-left, and-right}
 use Rattle.lists.proofs.Table.{table-rule}
-use Rattle.words.specs.Word.{Letters, codeFrom, code, paired, turn}
+use Rattle.words.specs.Word.{Letters, codeFrom, code, turn}
+use Rattle.alphabet.specs.Letter.{paired}
 use Rattle.words.specs.Turned.{spelled, turnedCode, turnsFour}
-use Rattle.words.proofs.Codes.{spelled-code, code-snoc}
+use Rattle.words.proofs.Codes.{spelled-code}
 
 -- ─── words ───────────────────────────────────────────────────────────────────
 

@@ -1,4 +1,3 @@
--- Letters, words and their codes: what the contracts of `words` and of every room above cite.
-pub mod Letter
+-- Words and their codes: what the contracts of `words` and of every room above cite.
 pub mod Word
 pub mod Turned

@@ -1,9 +1,9 @@
 -- Words: lists of the codes of letters, their own codes, and their reverse complements.
 use mathlib.Core.List.{List, [], _∷_, map, reverse}
-use Prim.Native.Nat.{ℕ, _+_, _-_, _*_, _<_}
+use Prim.Native.Nat.{ℕ, _+_, _*_, _<_}
 use lib.ListN.{take, drop}
 use Rattle.lists.specs.Every.{All}
-use Rattle.words.specs.Letter.{letter}
+use Rattle.alphabet.specs.Letter.{letter, paired}
 
 -- each of w is the code of a letter
 abbrev pub Letters : List ℕ → Type 0
@@ -24,10 +24,6 @@ codeFrom high (x ∷ w) = codeFrom (high * 4 + x) w
 
 abbrev pub code : List ℕ → ℕ
 code w = codeFrom 0 w
-
--- A and T, C and G exchanged
-abbrev pub paired : ℕ → ℕ
-paired x = 3 - x
 
 -- the reverse complement: backwards, with A and T, C and G exchanged
 unfoldable pub turn : List ℕ → List ℕ

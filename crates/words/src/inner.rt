@@ -4,7 +4,7 @@ ghost use mathlib.Core.List.{map};
 ghost use mathlib.Core.Path.{_≡_};
 ghost use Prim.Native.Nat.{_≤_, _<_, _^_};
 ghost use lib.ListN.{length};
-ghost use Rattle.words.specs.Letter.{twoBits};
+ghost use Rattle.alphabet.specs.Letter.{twoBits};
 ghost use Rattle.words.specs.Word.{code};
 ghost use Rattle.words.specs.Turned.{turnedCode, turnsFour, rolled, rolledTurned};
 
@@ -284,7 +284,7 @@ pub fn word_code(word: &[u8]) -> u64
     let mut c: u64 = 0;
     let mut i = 0;
     while i < word.len() {
-        c = c * 4 + crate::letter_code(word[i]);
+        c = c * 4 + alphabet::letter_code(word[i]);
         i += 1;
     }
     c

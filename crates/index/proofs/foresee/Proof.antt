@@ -7,7 +7,7 @@ use native.Mathlib.Omega.{arith}
 use Rattle.collection.specs.declared.Verdict.the-variants.{Good}
 use Rattle.collection.specs.Judge.{Passes}
 use Rattle.collection.proofs.Judged.{collection-good}
-use Rattle.lookups.proofs.Asked.{judged-ready}
+use Rattle.collection.proofs.Ready.{judged-ready}
 use Rattle.minimizers.specs.Minimizer.{sizesVerdict}
 use Rattle.minimizers.proofs.Sizes.{sizes-good}
 use Rattle.index.proofs.Indexed.{sizes-refused, collection-refused, room-enough, room-refused}

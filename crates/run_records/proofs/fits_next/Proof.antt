@@ -2,8 +2,7 @@
 use mathlib.Core.Path.{sym, ap, _∙_}
 use mathlib.Core.Bool.{Bool}
 use Rattle.lists.specs.Choose.{choose}
-use Rattle.runs.specs.RunList.{follows}
-use Rattle.run_records.specs.Pass.{begins}
+use Rattle.run_lists.specs.RunList.{follows, begins}
 use Rattle.run_records.specs.declared.Run.{Run}
 use Rattle.run_records.specs.declared.State.{State}
 use borrow.Author.Needs.{needs}

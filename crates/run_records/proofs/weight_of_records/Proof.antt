@@ -51,19 +51,19 @@ use denote.Triple.Table.{entered, cited}
 use denote.Triple.Walked.{says, Stays, stay-none, stay-none-slice, walkOf, AllGo, goes-none, goes-none-slice, Walks, ends-at, walked, walk-meets}
 use denote.Exit.{yes}
 use denote.Triple.Clauses.{ensured, lasts}
-use Rattle.runs.specs.Calls.{weightAnswer}
+use Rattle.run_lists.specs.Weight.{weightAnswer}
 use Rattle.run_records.specs.Records.{weightIn, firstIn}
 use Rattle.run_records.specs.Pass.{started, stepped, passed, finished}
 use Rattle.run_records.proofs.Passes.{zeros, after, after-none, after-all, after-next, passed-answers}
 use Rattle.run_records.specs.declared.Run.{Run}
 use Rattle.run_records.specs.declared.State.{State}
-use Rattle.runs.specs.declared.WeightAnswer.{WeightAnswer}
+use Rattle.run_lists.specs.declared.WeightAnswer.{WeightAnswer}
 use Rattle.run_records.proofs.Run as R
 use Rattle.run_records.proofs.Run.Laws as R′
 use Rattle.run_records.proofs.State as S
 use Rattle.run_records.proofs.State.Laws as S′
-use Rattle.runs.proofs.WeightAnswer as E
-use Rattle.runs.proofs.WeightAnswer.Laws as E′
+use Rattle.run_lists.proofs.WeightAnswer as E
+use Rattle.run_lists.proofs.WeightAnswer.Laws as E′
 use Rattle.run_records.proofs.start as start
 use Rattle.run_records.proofs.start.Symbol as start-def
 use Rattle.run_records.proofs.start.Symbol.{name as #run-records·start}

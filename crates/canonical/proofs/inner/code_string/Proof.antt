@@ -6,9 +6,9 @@ use native.Mathlib.Omega.{arith}
 use lib.ListN.{length, getD, drop, length-take, length-set}
 use Rattle.lists.specs.Count.{countFrom}
 use Rattle.lists.proofs.Every.{every-all}
-use Rattle.words.specs.Letter.{isLetter}
+use Rattle.alphabet.specs.Letter.{isLetter}
 use Rattle.words.specs.Word.{code, turn, wordAt}
-use Rattle.words.proofs.Letters.{bits-lt}
+use Rattle.alphabet.proofs.Letters.{bits-lt}
 use Rattle.canonical.specs.Codes.{Coded}
 use Rattle.canonical.proofs.Coded.{coded-begin, coded-next}
 use Rattle.canonical.proofs.Turns.{Turns, first-fits, turns-begin, code-here, turned-here, turns-on}

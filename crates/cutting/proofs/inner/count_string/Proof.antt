@@ -4,7 +4,7 @@ use Prim.Native.Nat.{ℕ, _+_, _-_, _≤_}
 use native.Mathlib.Omega.{arith}
 use lib.ListN.{drop, length-take}
 use Rattle.lists.proofs.Every.{every-all}
-use Rattle.words.specs.Letter.{isLetter}
+use Rattle.alphabet.specs.Letter.{isLetter}
 use Rattle.minimizers.specs.Minimizer.{minimizerAt}
 use Rattle.cutting.proofs.Carried.{Carried, roll-fits, slide-fits, carried-begin, carried-on}
 use Rattle.cutting.proofs.Counting.{Counting, counting-begin, counting-on, counting-cut, counting-end}

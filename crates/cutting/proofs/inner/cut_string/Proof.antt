@@ -5,7 +5,7 @@ use Prim.Native.Nat.{ℕ, _+_, _-_, _≤_}
 use native.Mathlib.Omega.{arith}
 use lib.ListN.{drop, length-take}
 use Rattle.lists.proofs.Every.{every-all}
-use Rattle.words.specs.Letter.{isLetter}
+use Rattle.alphabet.specs.Letter.{isLetter}
 use Rattle.minimizers.specs.Minimizer.{minimizerAt}
 use Rattle.cutting.proofs.Carried.{Carried, roll-fits, slide-fits, carried-begin, carried-on, carried-small}
 use Rattle.cutting.proofs.Cutting.{Cutting, cutting-begin, cutting-on, cutting-ended, cutting-cut, cutting-last}

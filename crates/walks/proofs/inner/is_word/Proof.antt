@@ -1,12 +1,12 @@
 -- `is_word` meets its contract. Assumes nothing.
-use mathlib.Core.Path.{_≡_, refl, sym, ap, _∙_}
+use mathlib.Core.Path.{_≡_, sym, ap, _∙_}
 use mathlib.Core.Bool.{Bool, _&&_}
 use Prim.Native.Nat.{ℕ, _+_, _-_}
 use native.Mathlib.Omega.{arith}
 use borrow.Author.Tests.{eq-eqb, ne-eqb}
 use lib.ListN.{take, drop}
 use Rattle.lists.specs.Every.{every}
-use Rattle.words.specs.Letter.{isLetter}
+use Rattle.alphabet.specs.Letter.{isLetter}
 use Rattle.walks.proofs.Words.{word-test}
 use borrow.Author.Needs.{needs}
 use Rattle.walks.proofs.inner.is_word.Statement.{statement}

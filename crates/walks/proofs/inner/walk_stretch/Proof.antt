@@ -1,15 +1,14 @@
 -- `walk_stretch` meets its contract. Invariant: c ends in the k - 1 bytes before the next k-mer, and the walk of the k-mers that are left gives the answer.
 -- Assumes nothing.
-use mathlib.Core.Path.{_≡_, refl, sym, ap, _∙_}
-use mathlib.Core.Bool.{true}
-use Prim.Native.Nat.{ℕ, _+_, _-_, _≤_, _<_}
+use mathlib.Core.Path.{_≡_, sym, _∙_}
+use Prim.Native.Nat.{_+_, _-_, _≤_}
 use native.Mathlib.Omega.{arith}
-use lib.ListN.{length, getD, drop, length-take}
+use lib.ListN.{getD, drop, length-take}
 use Rattle.words.specs.Turned.{spelled}
-use Rattle.words.proofs.Letters.{bits-lt}
+use Rattle.alphabet.proofs.Letters.{bits-lt}
 use Rattle.stretches.specs.Stretches.{stretch, kmersOf}
 use Rattle.walks.specs.Walk.{isWord, seek}
-use Rattle.walks.proofs.Rolls.{Rolls, rolls-begin, rolls-here, rolls-on}
+use Rattle.words.proofs.Along.{Rolls, rolls-begin, rolls-here, rolls-on}
 use Rattle.walks.proofs.Walks.{left, left-start, left-hit, left-on, left-end}
 use borrow.Author.Needs.{needs}
 use Rattle.walks.proofs.inner.walk_stretch.Statement.{statement}

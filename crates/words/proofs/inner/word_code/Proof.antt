@@ -1,14 +1,13 @@
 -- `word_code` meets its contract. Invariant: c is the code of the first i letters. Assumes nothing.
-use mathlib.Core.Path.{_≡_, refl, sym, ap, _∙_, subst}
+use mathlib.Core.Path.{_≡_, sym, ap, _∙_}
 use mathlib.Core.List.{List, map}
-use Prim.Native.Nat.{ℕ, _+_, _-_, _*_, _^_, _≤_, _<_}
-use native.Mathlib.Numerals.{add-one}
+use Prim.Native.Nat.{ℕ, _-_, _≤_}
 use native.Mathlib.Omega.{arith}
 use lib.ListN.{length, take, getD}
 use lib.Seq.{take-all}
-use Rattle.words.specs.Letter.{twoBits}
-use Rattle.words.specs.Word.{code, codeFrom}
-use Rattle.words.proofs.Letters.{bits-lt}
+use Rattle.alphabet.specs.Letter.{twoBits}
+use Rattle.words.specs.Word.{code}
+use Rattle.alphabet.proofs.Letters.{bits-lt}
 use Rattle.words.proofs.Codes.{code-none}
 use Rattle.words.proofs.Rolling.{bits-more, bits-room}
 use borrow.Author.Needs.{needs}

@@ -1,0 +1,3 @@
+-- Laws of ACCESS.
+pub mod Located
+pub mod Accessed

@@ -1,0 +1,3 @@
+-- What ACCESS answers.
+pub mod Access
+pub mod Located

@@ -1,0 +1,2 @@
+-- Laws of letters.
+pub mod Letters

@@ -1,0 +1,2 @@
+-- The one definition of which byte is which letter.
+pub mod Letter

@@ -1,0 +1,2 @@
+-- Laws of faults.
+pub mod Finding

@@ -1,0 +1,2 @@
+-- Faults of one table.
+pub mod Faults

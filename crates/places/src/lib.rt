@@ -1,0 +1,2 @@
+// 8: when signed places are refused, and which string has which place.
+pub mod inner;

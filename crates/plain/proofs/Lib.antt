@@ -1,0 +1,4 @@
+-- Laws of PLAIN.
+pub mod Scans
+pub mod Asked
+pub mod Found

@@ -1,0 +1,3 @@
+-- Run lists as a caller lends them, and what WEIGHT answers.
+pub mod RunList
+pub mod Weight
