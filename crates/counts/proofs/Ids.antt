@@ -23,7 +23,8 @@ use Rattle.sorting.specs.Layout.{Laid}
 use Rattle.sorting.specs.Promises.{Sorted}
 use Rattle.vertices.specs.Ladder.{ladder}
 use Rattle.vertices.proofs.Ladder.{length-ladder, ladder-part, ladder-other}
-use Rattle.counts.specs.Counts.{distinct, Weighed}
+use Rattle.counts.specs.Counts.{distinct}
+use Rattle.counts.specs.Inner.{Weighed}
 use Rattle.counts.proofs.Different.{ids-runs, distinct-few}
 use Rattle.counts.proofs.Sums.{weights-low}
 
@@ -34,14 +35,17 @@ pub record Weighing (ws ids₀ ids : List ℕ) (i : ℕ) : Type 0 where
   pub storing : Storing (length ids₀) ids (fill (map (keyAt ws) ids₀) ids₀) (map (keyAt ws) (drop i ids₀)) i
   pub rest : (j : ℕ) → i ≤ j → getD ids j 0 ≡ getD ids₀ j 0
 
+-- none is
 pub weighing : (ws ids : List ℕ) → Weighing ws ids ids 0
 weighing ws ids = record { storing = begin ids (map (keyAt ws) ids) (omega (arith, length-map ids (keyAt ws))); rest = λ j h. refl }
 
 module _ {ws ids₀ ids : List ℕ} {i : ℕ} (g : Weighing ws ids₀ ids i) where
   module _ (l : i < length ids) where
+    -- the next id has a weight
     pub id-low : All (λ x. x < length ws) ids₀ → getD ids i 0 < length ws
     id-low h = subst (λ (x : ℕ). x < length ws) (sym (g .rest i (omega arith))) (all-at (λ x. x < length ws) ids₀ h i 0 (omega (arith, g .storing .size-kept)))
 
+    -- it is replaced
     pub weighed : {x : ℕ} → x ≡ getD ids i 0 → Weighing ws ids₀ (set ids i (getD ws x 0)) (i + 1)
     weighed {x} e =
         let q : getD ws (getD ids₀ i 0) 0 ≡ getD ws x 0 = ap (keyAt ws) (sym (g .rest i (omega arith)) ∙ sym e) in
@@ -50,6 +54,7 @@ module _ {ws ids₀ ids : List ℕ} {i : ℕ} (g : Weighing ws ids₀ ids i) whe
           rest = λ j h. getD-set-other ids i j (getD ws x 0) 0 (λ (z : j ≡ i). omega arith) ∙ g .rest j (omega arith);
         }
 
+  -- all are
   pub weighed-all : length ids ≤ i → ids ≡ map (keyAt ws) ids₀
   weighed-all h =
       let n : length ids₀ ≤ length (map (keyAt ws) ids₀) = omega (arith, length-map ids₀ (keyAt ws)) in
@@ -59,11 +64,13 @@ module _ {ws ids₀ ids : List ℕ} {i : ℕ} (g : Weighing ws ids₀ ids i) whe
 
 -- ─── weights, ids and the sort ───────────────────────────────────────────────
 
+-- the ids are the numbers from 0 on
 ladder-count : (i n : ℕ) → ladder i 1 n ≡ countFrom i n
 unfolding ladder countFrom
 ladder-count i zero = refl
 ladder-count i (suc n) = let e : i + 1 ≡ suc i = omega arith in ap (λ (l : List ℕ). i ∷ l) (ap (λ (j : ℕ). ladder j 1 n) e ∙ ladder-count (suc i) n)
 
+-- w₁ has the weights, w₂ the ids behind them, w₃ these in the order of their weights
 module _ (ws w₀ : List ℕ) {w₁ : List ℕ} (g : Weighed ws) (room : 3 * length ws ≤ length w₀) (a : w₁ ≡ fill ws w₀) where
   copied-size : length w₁ ≡ length w₀
   copied-size = ap length a ∙ length-fill ws w₀ (omega arith)
@@ -83,6 +90,7 @@ module _ (ws w₀ : List ℕ) {w₁ : List ℕ} (g : Weighed ws) (room : 3 * len
     ids-are : part (length ws) (length ws) w₂ ≡ countFrom 0 (length ws)
     ids-are = ladder-part (length ws) (length ws) 0 1 w₁ b (ladder-fits .0) ∙ ladder-count 0 (length ws)
 
+    -- what the sort asks
     pub ready : Laid (length w₂) 0 (length ws) (length ws) (2 * length ws) (length ws) × (All (λ x. x < length ws) (part (length ws) (length ws) w₂) × All (λ k. k < 16777216) (part 0 (length ws) w₂))
     ready = (
       record {
@@ -104,20 +112,19 @@ module _ (ws w₀ : List ℕ) {w₁ : List ℕ} (g : Weighed ws) (room : 3 * len
       pub sorted-size : length w₃ ≡ length w₀
       sorted-size = s .rest .size ∙ table-size
 
-      abbrev lent : List ℕ
-      lent = take (2 * length ws - length ws) (drop (length ws) w₃)
-
       order-is : take (2 * length ws - length ws) (drop (length ws) w₃) ≡ sortBy (keyAt ws) (countFrom 0 (length ws))
       order-is =
           let n : 2 * length ws - length ws ≡ length ws = omega arith in
           ap (λ (x : ℕ). take x (drop (length ws) w₃)) n
           ∙ (sym (part-is (length ws) (length ws) w₃) ∙ (s .arranged ∙ (ap (λ (x : List ℕ). sortBy (keyAt x) (part (length ws) (length ws) w₂)) keys-are ∙ ap (sortBy (keyAt ws)) ids-are)))
 
+      -- the sorted ids have weights
       pub order-low : All (λ x. x < length ws) (take (2 * length ws - length ws) (drop (length ws) w₃))
       order-low =
           subst (All (λ x. x < length ws)) (sym order-is)
           (all-sortBy (keyAt ws) (λ x. x < length ws) (countFrom 0 (length ws)) (all-count (λ x. x < length ws) 0 (length ws) (λ j u v. omega arith)))
 
+      -- and the runs of these are the different weights
       pub different : {r : ℕ} → r ≡ runCount (map (keyAt ws) (take (2 * length ws - length ws) (drop (length ws) w₃))) → (r ≡ distinct ws) × (r ≤ length ws)
       different q =
           let e = q ∙ (ap (λ (x : List ℕ). runCount (map (keyAt ws) x)) order-is ∙ ids-runs ws) in

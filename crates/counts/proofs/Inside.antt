@@ -16,7 +16,7 @@ use Rattle.runs.specs.Runs.{runCount, innerRuns}
 use Rattle.runs.proofs.Joined.{count-none, count-one, count-cons}
 use Rattle.vertices.specs.Promises.{Strung}
 use Rattle.vertices.proofs.EndWeights.{left-next}
-use Rattle.counts.specs.Counts.{innerFrom}
+use Rattle.counts.specs.Inner.{innerFrom}
 
 -- ─── from ends and weights alone ─────────────────────────────────────────────
 
@@ -26,7 +26,7 @@ inner-from k before letters [] weights = refl
 inner-from k before letters (e ∷ ends) weights =
     ap (λ (x : ℕ). runCount (take (within k before e) weights) + x) (inner-from k e (drop (e - before) letters) ends (drop (within k before e) weights))
 
--- R
+-- it is R
 pub inner-runs : (k : ℕ) (letters ends weights : List ℕ) → innerRuns k letters ends weights ≡ innerFrom k 0 ends weights
 unfolding innerRuns
 inner-runs k letters ends weights = inner-from k 0 letters ends weights
@@ -52,11 +52,13 @@ pub record Adding (k : ℕ) (ends ws : List ℕ) (before passed r i : ℕ) : Typ
   pub some : i ≤ r
   pub sums : r + innerFrom k before (drop i ends) (drop passed ws) ≡ innerFrom k 0 ends ws
 
+-- none is passed
 pub adding : {k : ℕ} {ends ws : List ℕ} → Strung k ends ws → Adding k ends ws 0 0 0 0
 adding s = record { walk = strings-begin (s .ends-long) refl; left = omega (arith, s .counted); few = omega arith; some = omega arith; sums = omega arith }
 
 module _ {k : ℕ} {ends ws : List ℕ} {before passed r i : ℕ} (g : Adding k ends ws before passed r i) where
   module _ (l : i < length ends) {e : ℕ} (is : e ≡ getD ends i 0) where
+    -- the next string is there
     pub string-here : Next k (lastEnd 0 ends) before e
     string-here = rw is (next-string (g .walk) l)
 
@@ -78,6 +80,7 @@ module _ {k : ℕ} {ends ws : List ℕ} {before passed r i : ℕ} (g : Adding k 
     here-few : runCount (take (passed + within k before e - passed) (drop passed ws)) ≤ within k before e
     here-few = omega (arith, runs-few here, here-size)
 
+    -- the runs counted, with its own, are no more than the weights
     pub runs-inside : {x : ℕ} → x ≡ runCount (take (passed + within k before e - passed) (drop passed ws)) → r + x ≤ length ws
     runs-inside q = omega (arith, q, here-few, g .few, weights-inside)
 
@@ -88,6 +91,7 @@ module _ {k : ℕ} {ends ws : List ℕ} {before passed r i : ℕ} (g : Adding k 
         ap (λ (x : List ℕ). innerFrom k before x (drop passed ws)) (drop-next ends i 0 l ∙ ap (λ (x : ℕ). x ∷ drop (i + 1) ends) (sym is))
         ∙ ap₂ (λ (x : ℕ) (y : List ℕ). runCount (take x (drop passed ws)) + innerFrom k e (drop (i + 1) ends) y) (sym n) (drop-drop (within k before e) passed ws)
 
+    -- its runs are added
     pub added : 1 ≤ k → {x : ℕ} → x ≡ runCount (take (passed + within k before e - passed) (drop passed ws)) → Adding k ends ws e (passed + within k before e) (r + x) (i + 1)
     added k1 q =
         record {
@@ -98,6 +102,7 @@ module _ {k : ℕ} {ends ws : List ℕ} {before passed r i : ℕ} (g : Adding k 
           sums = omega (arith, q, inner-next, g .sums);
         }
 
+  -- all are
   pub added-all : length ends ≤ i → (r ≡ innerFrom k 0 ends ws) × (r ≤ length ws) × (length ends ≤ r)
   unfolding innerFrom
   added-all h = (omega (arith, g .sums, ap (λ (x : List ℕ). innerFrom k before x (drop passed ws)) (drop-of-length-le ends h)), omega (arith, g .few, g .left), omega (arith, g .some))

@@ -10,10 +10,11 @@ use Rattle.lists.proofs.Compare.{lt-or-le}
 use Rattle.counts.specs.Counts.{bitsFrom, bitsFor}
 
 -- a power of two is above its exponent
-pub below-power : (b : ℕ) → b < 2 ^ b
+below-power : (b : ℕ) → b < 2 ^ b
 below-power zero = omega arith
 below-power (suc b) = omega (arith, below-power b)
 
+-- b is enough, or the next is tried
 from-here : (steps b w : ℕ) → w ≤ 2 ^ b → bitsFrom steps b w ≡ b
 unfolding bitsFrom
 from-here zero b w h = refl
@@ -25,17 +26,19 @@ from-next steps b w h = rw (lt-leb w (2 ^ b) h)
 
 -- ─── the loop ────────────────────────────────────────────────────────────────
 
--- p is 2^b, and all smaller powers are below w
+-- p is 2^b, and the search from b on finds the logarithm
 pub record Doubling (w b p : ℕ) : Type 0 where
   pub power : p ≡ 2 ^ b
   pub some : b < p
   pub rest : bitsFrom (w - b) b w ≡ bitsFor w
 
+-- 2^0 is 1
 pub doubling : (w : ℕ) → Doubling w 0 1
 unfolding bitsFor
 doubling w = let z : w - 0 ≡ w = omega arith in record { power = refl; some = omega arith; rest = ap (λ (x : ℕ). bitsFrom x 0 w) z }
 
 module _ {w b p : ℕ} (d : Doubling w b p) where
+  -- one more bit
   pub doubled : p < w → Doubling w (b + 1) (p * 2)
   doubled l =
       let s : w - b ≡ suc (w - (b + 1)) = omega (arith, d .some) in
@@ -46,6 +49,7 @@ module _ {w b p : ℕ} (d : Doubling w b p) where
         rest = sym (ap (λ (x : ℕ). bitsFrom (w - (b + 1)) x w) e) ∙ (sym (from-next (w - (b + 1)) b w (omega (arith, d .power))) ∙ (sym (ap (λ (x : ℕ). bitsFrom x b w) s) ∙ d .rest));
       }
 
+  -- enough bits
   pub doubled-enough : w ≤ p → b ≡ bitsFor w
   doubled-enough l = sym (from-here (w - b) b w (omega (arith, d .power))) ∙ d .rest
 

@@ -22,6 +22,7 @@ weights-low ws h =
 pub weight-low : (ws : List ℕ) → All (λ w. isWeight w ≡ true) ws → (i : ℕ) → i < length ws → getD ws i 0 < 16777216
 weight-low ws h i l = all-at (λ w. w < 16777216) ws (weights-low ws h) i 0 l
 
+-- one weight, and those behind it
 module _ (ws : List ℕ) (i : ℕ) (l : i < length ws) where
   pub sum-next : sum (drop i ws) ≡ getD ws i 0 + sum (drop (i + 1) ws)
   unfolding sum
@@ -31,6 +32,7 @@ module _ (ws : List ℕ) (i : ℕ) (l : i < length ws) where
   unfolding largest
   largest-next = ap largest (drop-next ws i 0 l)
 
+-- none is left
 pub sum-end : (ws : List ℕ) (i : ℕ) → length ws ≤ i → sum (drop i ws) ≡ 0
 unfolding sum
 sum-end ws i l = ap sum (drop-of-length-le ws l)

@@ -1,15 +1,9 @@
--- Numbers of a collection's weights: how many are different, the largest, its logarithm, and the runs inside the strings.
-use mathlib.Core.Bool.{Bool, true, false, _||_}
+-- Numbers of a collection's weights: how many are different, and the bits for these.
+use mathlib.Core.Bool.{Bool, false, _||_}
 use mathlib.Core.List.{List, [], _∷_}
-use mathlib.Core.Path.{_≡_}
-use Prim.Native.Nat.{ℕ, zero, suc, _+_, _*_, _^_, _≤_, max}
+use Prim.Native.Nat.{ℕ, zero, suc, _+_, _*_, _^_, max}
 use lib.Dec.{eqb, leb}
-use lib.ListN.{length, take, drop}
 use Rattle.lists.specs.Choose.{choose}
-use Rattle.lists.specs.Every.{All}
-use Rattle.faults.specs.Faults.{isWeight}
-use Rattle.collection.specs.Kmers.{within}
-use Rattle.runs.specs.Runs.{runCount}
 
 -- ─── different weights ───────────────────────────────────────────────────────
 
@@ -43,20 +37,6 @@ bitsFrom (suc steps) b w = choose (leb w (2 ^ b)) b (bitsFrom steps (suc b) w)
 unfoldable pub bitsFor : ℕ → ℕ
 bitsFor w = bitsFrom w 0 w
 
--- distinct weights times the logarithm of the largest
+-- bits: the distinct weights times the logarithm of the largest
 unfoldable pub bitsOf : List ℕ → ℕ
 bitsOf ws = distinct ws * bitsFor (largest ws)
-
--- ─── runs inside strings ─────────────────────────────────────────────────────
-
--- R from ends and weights alone: the next string starts at `before`, and its weights are the first of those that are left
-unfoldable pub innerFrom : ℕ → ℕ → List ℕ → List ℕ → ℕ
-innerFrom k before [] weights = 0
-innerFrom k before (e ∷ ends) weights = runCount (take (within k before e) weights) + innerFrom k e ends (drop (within k before e) weights)
-
--- ─── what the counting functions ask ─────────────────────────────────────────
-
--- weights of a judged collection
-pub record Weighed (weights : List ℕ) : Type 0 where
-  pub few : length weights ≤ 1048576
-  pub in-range : All (λ w. isWeight w ≡ true) weights

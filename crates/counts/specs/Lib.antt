@@ -1,2 +1,3 @@
 -- What there is to count of the weights of a collection.
 pub mod Counts
+pub mod Inner

@@ -9,7 +9,8 @@ ghost use Rattle.lists.specs.Fill.{fill};
 ghost use Rattle.runs.specs.Runs.{runCount};
 ghost use Rattle.sorting.specs.Keys.{keyAt};
 ghost use Rattle.vertices.specs.Promises.{Strung};
-ghost use Rattle.counts.specs.Counts.{distinct as distinctIn, largest as largestOf, bitsFor, bitsOf, innerFrom, Weighed};
+ghost use Rattle.counts.specs.Counts.{distinct as distinctIn, largest as largestOf, bitsFor, bitsOf};
+ghost use Rattle.counts.specs.Inner.{innerFrom, Weighed};
 
 // A number of 32 bits as one of 64.
 fn wide(x: u32) -> usize
@@ -32,7 +33,7 @@ pub fn total(weights: &[u32]) -> usize
     t
 }
 
-// The runs inside each string, together.
+// The runs inside each string, together (R).
 pub fn inner_runs(k: usize, ends: &[u32], weights: &[u32]) -> usize
     requires { ⌜ Strung k (now ends) (now weights) ⌝ }
     ensures { λ r. ⌜ (r ≡ innerFrom k 0 (now (ends .entry)) (now (weights .entry))) × (r ≤ length (now (weights .entry))) × (length (now (ends .entry)) ≤ r) ⌝ }
@@ -116,7 +117,8 @@ fn runs_by(weights: &[u32], ids: &mut [u32]) -> usize
     runs::inner::count_runs(ids)
 }
 
-// How many weights are different: in their order each is one run.
+// How many weights are different: in their order each is one run. The first 3n entries of work hold the weights, the ids that are
+// sorted by them, and a buffer; what is left there is not promised.
 pub fn distinct(weights: &[u32], work: &mut [u32]) -> usize
     requires { ⌜ Weighed (now weights) × (3 * length (now weights) ≤ length (now work)) ⌝ }
     ensures { λ r. ⌜ (r ≡ distinctIn (now (weights .entry))) × (r ≤ length (now (weights .entry))) ⌝ }

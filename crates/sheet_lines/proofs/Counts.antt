@@ -11,47 +11,27 @@ use lib.ListN.{length, drop, drop-of-length-le, length-drop, length-map, length-
 use lib.Seq.{drop-drop}
 use Rattle.lists.specs.Choose.{choose}
 use Rattle.sheet_text.specs.Numbers.{value}
-use Rattle.sheet_text.specs.Parts.{upTo, later, parts, tab, feed}
+use Rattle.sheet_text.specs.Parts.{upTo, later, tab, feed}
 use Rattle.collection.specs.Strings.{Str, lettersIn, weightsIn}
 use Rattle.sheet_text.specs.Sheet.{isStringLine, stringOf, stringsOf, firstWrong}
 use Rattle.sheet_lines.specs.Cursor.{lineOf, lineAt, linesAt, countOf}
 use Rattle.sheet_lines.specs.declared.Line.the-variants as line
 use Rattle.sheet_lines.specs.declared.Counted.the-variants as counted
-use Rattle.sheet_lines.proofs.OneLine.{up-short}
+use Rattle.sheet_text.proofs.Parts.{parts, past-sep, up-short, later-short, some-part}
 
--- ─── past a separator ────────────────────────────────────────────────────────
-
--- the later parts are the parts of what stands behind the first separator
-pub past-sep : (sep : ℕ) (r m : List ℕ) (ms : List (List ℕ)) → later sep r ≡ m ∷ ms → (parts sep (drop (suc (length (upTo sep r))) r) ≡ later sep r) × (suc (length (upTo sep r)) ≤ length r)
-unfolding upTo later
-past-sep sep [] m ms h = absurd (omega (arith, ap length h))
-past-sep sep (b ∷ r) m ms h = go (eqb b sep) h (past-sep sep r m ms) where
-  go : (t : Bool) → choose t (upTo sep r ∷ later sep r) (later sep r) ≡ m ∷ ms
-      → (later sep r ≡ m ∷ ms → (parts sep (drop (suc (length (upTo sep r))) r) ≡ later sep r) × (suc (length (upTo sep r)) ≤ length r))
-      → (parts sep (drop (length (choose t [] (b ∷ upTo sep r))) r) ≡ choose t (upTo sep r ∷ later sep r) (later sep r)) × (suc (length (choose t [] (b ∷ upTo sep r))) ≤ suc (length r))
-  go true g w = (refl, omega arith)
-  go false g w = let v = w g in (v .0, omega (arith, v .1))
-
-later-short : (sep : ℕ) (r : List ℕ) → length (upTo sep r) + length (later sep r) ≤ length r
-unfolding upTo later
-later-short sep [] = omega arith
-later-short sep (b ∷ r) = go (eqb b sep) (later-short sep r) where
-  go : (t : Bool) → length (upTo sep r) + length (later sep r) ≤ length r → length (choose t [] (b ∷ upTo sep r)) + length (choose t (upTo sep r ∷ later sep r) (later sep r)) ≤ suc (length r)
-  go true h = omega (arith, h)
-  go false h = omega (arith, h)
-
--- a field is no longer than the line
-string-short : (fs : List (List ℕ)) (n : ℕ) → length ((stringOf fs) .letters) ≤ n → length fs ≤ n → (length ((stringOf fs) .letters) ≤ n) × (length ((stringOf fs) .weights) ≤ n)
-string-short [] n p q = (p, omega arith)
-string-short (f ∷ fs) n p q = (p, omega (arith, length-map fs value))
+-- ─── a string is no longer than its line ─────────────────────────────────────
 
 first-short : (sep : ℕ) (r : List ℕ) → length ((stringOf (later sep r)) .letters) ≤ length r
 unfolding later
 first-short sep [] = omega arith
 first-short sep (b ∷ r) = go (eqb b sep) (first-short sep r) where
-  go : (t : Bool) → length ((stringOf (later sep r)) .letters) ≤ length r → length ((stringOf (choose t (upTo sep r ∷ later sep r) (later sep r))) .letters) ≤ suc (length r)
+  go : (t : Bool) → length ((stringOf (later sep r)) .letters) ≤ length r → length ((stringOf (choose t (parts sep r) (later sep r))) .letters) ≤ suc (length r)
   go true h = omega (arith, up-short sep r)
   go false h = omega (arith, h)
+
+weights-short : (fs : List (List ℕ)) → length ((stringOf fs) .weights) ≤ length fs
+weights-short [] = omega arith
+weights-short (f ∷ fs) = omega (arith, length-map fs value)
 
 -- ─── one line ────────────────────────────────────────────────────────────────
 
@@ -105,43 +85,49 @@ wrong-line k n m w i l (x ∷ ms) h o = go (isStringLine k l) refl h where
       let y : eqb (m + 2) 0 ≡ false = ne-eqb (m + 2) 0 (λ e. omega arith) in
       rw (e, y)
 
-pub some : (sep : ℕ) (r : List ℕ) → 1 ≤ length r → 1 ≤ length (upTo sep r) + length (later sep r)
-unfolding upTo later
-some sep [] h = absurd (omega arith)
-some sep (b ∷ r) h = go (eqb b sep) where
-  go : (t : Bool) → 1 ≤ length (choose t [] (b ∷ upTo sep r)) + length (choose t (upTo sep r ∷ later sep r) (later sep r))
-  go true = omega arith
-  go false = omega arith
+-- ─── the loop ────────────────────────────────────────────────────────────────
 
--- what the counting loop learns of a good line
-pub record Step (k : ℕ) (s : List ℕ) (i next a b : ℕ) : Type 0 where
-  pub inside : next ≤ length s
-  pub letters : i + a < next
-  pub weights : i + b < next
-  pub counts : (n m w : ℕ) → countOf k n m w (linesAt s i) ≡ countOf k (n + a) (m + 1) (w + b) (linesAt s next)
+-- n letters, m strings and w weights are counted in the lines from `at` up to i. Each line is longer than what it holds, so that none of the numbers
+-- passes i.
+pub record Counting (k : ℕ) (s : List ℕ) (at n m w i : ℕ) : Type 0 where
+  pub inside : i ≤ length s
+  pub letters : n ≤ i
+  pub strings : m + 2 ≤ i
+  pub weights : w ≤ i
+  pub counts : countOf k 0 0 0 (linesAt s at) ≡ countOf k n m w (linesAt s i)
 
-module _ (k : ℕ) (s : List ℕ) (i : ℕ) where
-  pub count-next : (next a b : ℕ) → i ≤ length s → lineAt k s i ≡ line.Good next a b → Step k s i next a b
-  count-next next a b l h =
+pub counting : (k : ℕ) (s : List ℕ) (at : ℕ) → 2 ≤ at → at ≤ length s → Counting k s at 0 0 0 at
+counting k s at h l = record { inside = l; letters = omega arith; strings = omega arith; weights = omega arith; counts = refl }
+
+module _ {k : ℕ} {s : List ℕ} {at n m w i : ℕ} (g : Counting k s at n m w i) where
+  -- a good line
+  pub count-next : {next a b : ℕ} → lineAt k s i ≡ line.Good next a b → Counting k s at (n + a) (m + 1) (w + b) next × (i < next)
+  count-next {next} {a} {b} h =
       let r : List ℕ = drop i s in
-      let f = found k i (upTo feed r) (later feed r) next a b h in
+      let l : List ℕ = upTo feed r in
+      let f = found k i l (later feed r) next a b h in
       let p = past-sep feed r (f .m) (f .rest) (f .more) in
-      let o : next ≡ i + suc (length (upTo feed r)) = omega (arith, f .next-is) in
-      let d : drop next s ≡ drop (suc (length (upTo feed r))) r = ap (λ (x : ℕ). drop x s) o ∙ sym (drop-drop (suc (length (upTo feed r))) i s) in
-      let q : linesAt s next ≡ f .m ∷ f .rest = ap (parts feed) d ∙ (p .0 ∙ f .more) in
-      let e = string-short (later tab (upTo feed r)) (length (upTo feed r)) (first-short tab (upTo feed r)) (omega (arith, later-short tab (upTo feed r))) in
-      let x = length-drop i s in
-      record {
-        inside = omega (arith, p .1, f .next-is);
-        letters = omega (arith, e .0, f .next-is, f .letters);
-        weights = omega (arith, e .1, f .next-is, f .weights);
-        counts = λ n m w. ap (λ (y : List (List ℕ)). countOf k n m w (upTo feed r ∷ y)) (f .more)
-            ∙ (count-list k n m w (upTo feed r) (f .m) (f .rest) a b (f .good) (f .letters) (f .weights) ∙ ap (countOf k (n + a) (m + 1) (w + b)) (sym q));
-      }
+      let o : next ≡ i + suc (length l) = omega (arith, f .next-is) in
+      let d : drop next s ≡ drop (suc (length l)) r = ap (λ (x : ℕ). drop x s) o ∙ sym (drop-drop (suc (length l)) i s) in
+      let q : linesAt s next ≡ f .m ∷ f .rest = ap (parts feed) d ∙ (p .0 ∙ f .more) in (
+        record {
+          inside = omega (arith, p .1, length-drop i s, g .inside);
+          letters = omega (arith, first-short tab l, f .letters, g .letters);
+          strings = omega (arith, g .strings);
+          weights = omega (arith, weights-short (later tab l), later-short tab l, f .weights, g .weights);
+          counts =
+              g .counts
+              ∙ (ap (λ (y : List (List ℕ)). countOf k n m w (l ∷ y)) (f .more)
+              ∙ (count-list k n m w l (f .m) (f .rest) a b (f .good) (f .letters) (f .weights) ∙ ap (countOf k (n + a) (m + 1) (w + b)) (sym q)));
+        },
+        omega arith,
+      )
 
-  pub count-wrong : (n m w : ℕ) → i < length s → lineAt k s i ≡ line.Wrong → countOf k n m w (linesAt s i) ≡ counted.Wrong (m + 2)
-  count-wrong n m w l h = wrong-line k n m w i (upTo feed (drop i s)) (later feed (drop i s)) h (some feed (drop i s) (omega (arith, length-drop i s)))
+  -- a wrong line
+  pub count-wrong : i < length s → lineAt k s i ≡ line.Wrong → counted.Wrong (m + 2) ≡ countOf k 0 0 0 (linesAt s at)
+  count-wrong l h = sym (g .counts ∙ wrong-line k n m w i (upTo feed (drop i s)) (later feed (drop i s)) h (some-part feed (drop i s) (omega (arith, length-drop i s))))
 
-  pub count-end : (n m w : ℕ) → length s ≤ i → countOf k n m w (linesAt s i) ≡ counted.Good n m w
+  -- no line is left
+  pub count-end : length s ≤ i → counted.Good n m w ≡ countOf k 0 0 0 (linesAt s at)
   unfolding countOf upTo later firstWrong stringsOf lettersIn weightsIn
-  count-end n m w h = rw (drop-of-length-le s h, add-zero, add-zero, add-zero)
+  count-end h = sym (g .counts ∙ rw (drop-of-length-le s h, add-zero n, add-zero m, add-zero w))

@@ -1,6 +1,6 @@
--- What the steps of READ find at a place of a sheet. Each is said by the sheet's parts: the line is what stands up to the next line feed,
--- the field what stands in it up to the next tab.
-use Prim.Native.Nat.{ℕ, suc, _+_, _-_, _*_}
+-- What the steps of READ find at a place of a sheet, for the contracts of these steps alone: READ's promise (`sheet_text`, specs/Read) cites nothing of
+-- this. Each is said by the sheet's parts: the line is what stands up to the next line feed, the field what stands in it up to the next tab.
+use Prim.Native.Nat.{ℕ, suc, _+_}
 use mathlib.Core.Bool.{Bool, true, false, _&&_}
 use mathlib.Core.List.{List, [], _∷_, map}
 use lib.ListN.{length, drop, getD}
@@ -10,8 +10,8 @@ use Rattle.lists.specs.Every.{every}
 use Rattle.alphabet.specs.Letter.{isLetter}
 use Rattle.faults.specs.Faults.{isWeight}
 use Rattle.collection.specs.Strings.{Str, lettersIn, weightsIn}
-use Rattle.sheet_text.specs.Numbers.{isDigit, value}
-use Rattle.sheet_text.specs.Parts.{upTo, later, parts, tab, feed}
+use Rattle.sheet_text.specs.Numbers.{value}
+use Rattle.sheet_text.specs.Parts.{upTo, later, tab, feed}
 use Rattle.sheet_text.specs.Sheet.{isWeightField, isStringLine, stringOf, stringsOf, firstWrong, isHead, kOf}
 use Rattle.sheet_lines.specs.declared.Weight.{Weight}
 use Rattle.sheet_lines.specs.declared.Weight.the-variants as weight
@@ -35,7 +35,7 @@ unfoldable pub span : List ℕ → ℕ
 span [] = 0
 span (b ∷ bs) = choose (isLetter b) (suc (span bs)) 0
 
--- a byte that ends a field
+-- a byte that ends a field: a tab, or the line feed
 abbrev pub isEnd : ℕ → Bool
 isEnd b = choose (eqb b tab) true (eqb b feed)
 
@@ -55,13 +55,9 @@ weightEnd b v i = choose (isEnd b) (endedAt v i) weight.Wrong
 unfoldable pub weightOf : ℕ → List ℕ → Weight
 weightOf i f = choose (isWeightField f) (weight.Good (value f) (i + length f)) weight.Wrong
 
+-- the weight at a place of the sheet s
 abbrev pub weightAt : List ℕ → ℕ → Weight
 weightAt s at = weightOf at (field (drop at s))
-
--- the weight of a field, digit by digit: v is the value of the digits before i
-unfoldable pub weightFrom : ℕ → ℕ → List ℕ → Weight
-weightFrom v i [] = endedAt v i
-weightFrom v i (b ∷ f) = choose (isDigit b) (choose (isWeight (v * 10 + (b - 48))) (weightFrom (v * 10 + (b - 48)) (i + 1) f) weight.Wrong) weight.Wrong
 
 -- ─── lines ───────────────────────────────────────────────────────────────────
 
@@ -74,9 +70,11 @@ unfoldable pub tailOf : ℕ → ℕ → List ℕ → List (List ℕ) → Tail
 tailOf n i l [] = tail.Wrong
 tailOf n i l (m ∷ ls) = choose (isEmpty (upTo tab l) && (eqb (length (later tab l)) n && every isWeightField (later tab l))) (tail.Good (i + length l + 1)) tail.Wrong
 
+-- the same at a place of the sheet s
 abbrev pub tailAt : List ℕ → ℕ → ℕ → Tail
 tailAt s i n = tailOf n i (upTo feed (drop i s)) (later feed (drop i s))
 
+-- exactly the wanted weights stand there, up to the line's end
 abbrev pub fine : Tail → Bool
 fine (tail.Good next) = true
 fine tail.Wrong = false
@@ -89,7 +87,7 @@ endsAt i = tail.Good (i + 1)
 unfoldable pub weightsAt : List ℕ → ℕ → List ℕ
 weightsAt s i = map value (later tab (upTo feed (drop i s)))
 
--- `S` and a tab in front
+-- `S` (83) and a tab in front
 abbrev pub marked : List ℕ → Bool
 marked [] = false
 marked (b ∷ []) = false
@@ -101,6 +99,7 @@ lineOf k i l [] = line.Wrong
 lineOf k i l (m ∷ ls) =
     choose (isStringLine k l) (line.Good (i + length l + 1) (length ((stringOf (later tab l)) .letters)) (length ((stringOf (later tab l)) .weights))) line.Wrong
 
+-- the same at a place of the sheet s
 abbrev pub lineAt : ℕ → List ℕ → ℕ → Line
 lineAt k s at = lineOf k at (upTo feed (drop at s)) (later feed (drop at s))
 
@@ -108,11 +107,11 @@ lineAt k s at = lineOf k at (upTo feed (drop at s)) (later feed (drop at s))
 
 -- the lines from i on
 abbrev pub linesAt : List ℕ → ℕ → List (List ℕ)
-linesAt s i = parts feed (drop i s)
+linesAt s i = upTo feed (drop i s) ∷ later feed (drop i s)
 
 -- their strings
-abbrev pub left : List ℕ → ℕ → List Str
-left s i = stringsOf (linesAt s i)
+abbrev pub stringsAt : List ℕ → ℕ → List Str
+stringsAt s i = stringsOf (linesAt s i)
 
 -- what lines hold, after n letters, m strings and w weights; or their first wrong one. Line 2 is the first string's.
 unfoldable pub countOf : ℕ → ℕ → ℕ → ℕ → List (List ℕ) → Counted
@@ -121,12 +120,14 @@ countOf k n m w ls =
     (counted.Good (n + length (lettersIn (stringsOf ls))) (m + length (stringsOf ls)) (w + length (weightsIn (stringsOf ls))))
     (counted.Wrong (firstWrong k (m + 2) ls))
 
--- line 1: k, and where line 2 starts
+-- line 1, l, and the parts after it, ls: k, and where line 2 starts
 unfoldable pub headOf : List ℕ → List (List ℕ) → Head
 headOf l ls = choose (isHead l ls) (head.Good (kOf (later tab l)) (length l + 1)) head.Wrong
 
+-- line 1 of the sheet s
 abbrev pub headIn : List ℕ → Head
 headIn s = headOf (upTo feed s) (later feed s)
 
+-- line 1 where k has been read and its line feed should stand at i
 abbrev pub headEnd : List ℕ → ℕ → ℕ → Head
 headEnd s k i = choose (byteIs s i feed) (head.Good k (i + 1)) head.Wrong

@@ -1,2 +1,2 @@
--- What stands at a place of a sheet.
+-- What stands at a place of a sheet: for the contracts of READ's steps, not for its promise.
 pub mod Cursor

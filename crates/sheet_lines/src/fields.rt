@@ -15,23 +15,24 @@ pub fn byte_is(s: &[u8], i: usize, b: u8) -> bool
     false
 }
 
+// Whether a byte is a digit.
 fn is_digit(b: u8) -> bool
     ensures { λ r. ⌜ r ≡ isDigit b ⌝ }
 {
-    (48 <= b) & (b <= 57)
+    (b'0' <= b) & (b <= b'9')
 }
 
 // Whether a byte ends a field.
 fn is_end(b: u8) -> bool
     ensures { λ r. ⌜ r ≡ isEnd b ⌝ }
 {
-    if b == 9 {
+    if b == b'\t' {
         return true;
     }
-    b == 10
+    b == b'\n'
 }
 
-// A number that ends at a place.
+// The weight of a number of the value v that ends at a place.
 fn ended(v: u32, i: usize) -> Weight
     ensures { λ r. ⌜ r ≡ endedAt v i ⌝ }
 {
@@ -41,7 +42,7 @@ fn ended(v: u32, i: usize) -> Weight
     Weight::Wrong
 }
 
-// A number behind which a byte that is no digit stands.
+// The same where the byte behind the number, which is no digit, is b.
 fn weight_end(b: u8, v: u32, i: usize) -> Weight
     ensures { λ r. ⌜ r ≡ weightEnd b v i ⌝ }
 {
@@ -56,7 +57,7 @@ fn with_digit(v: u32, b: u8) -> u32
     requires { ⌜ (v ≤ 16777215) × (48 ≤ b) × (b ≤ 57) ⌝ }
     ensures { λ r. ⌜ r ≡ v * 10 + (b - 48) ⌝ }
 {
-    v * 10 + (b - 48) as u32
+    v * 10 + (b - b'0') as u32
 }
 
 // The weight at a place of the sheet. A number that leaves the range is given up at once, so it cannot wrap; a leading zero

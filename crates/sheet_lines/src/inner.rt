@@ -23,7 +23,8 @@ pub fn letters_end(s: &[u8], at: usize) -> usize
     i
 }
 
-// Judges and counts the strings' lines, the first of which starts at a place.
+// Judges and counts the strings' lines, the first of which starts at a place: n letters, m strings, w weights so far. The first
+// string's line is line 2.
 pub fn count_lines(k: usize, s: &[u8], at: usize) -> Counted
     requires { ⌜ (2 ≤ at) × (at ≤ length (now s)) ⌝ }
     ensures { λ r. ⌜ r ≡ countOf k 0 0 0 (linesAt (now (s .entry)) at) ⌝ }

@@ -10,24 +10,24 @@ ghost use Prim.Native.Nat.{_≤_};
 ghost use lib.ListN.{length, drop};
 ghost use Rattle.sheet_lines.specs.Cursor.{tailAt, marked, lineAt, headIn, headEnd};
 
-// A line's end, where no weight is left.
+// A line's end, where no weight is wanted any more.
 fn tail_end(s: &[u8], i: usize) -> Tail
     ensures { λ r. ⌜ r ≡ tailAt (now (s .entry)) i 0 ⌝ }
 {
-    if fields::byte_is(s, i, 10) {
+    if fields::byte_is(s, i, b'\n') {
         return Tail::Good { next: i + 1 };
     }
     Tail::Wrong
 }
 
-// Exactly n weights from a place to the line's end.
+// Exactly n weights, each behind a tab, from a place to the line's end.
 fn tail_at(s: &[u8], at: usize, n: usize) -> Tail
     ensures { λ r. ⌜ r ≡ tailAt (now (s .entry)) at n ⌝ }
 {
     let mut i = at;
     let mut j = n;
     while 0 < j {
-        if !fields::byte_is(s, i, 9) {
+        if !fields::byte_is(s, i, b'\t') {
             return Tail::Wrong;
         }
         let w = fields::weight_at(s, i + 1);
@@ -51,7 +51,7 @@ fn is_marked(s: &[u8], at: usize) -> bool
     if s[at] != b'S' {
         return false;
     }
-    s[at + 1] == 9
+    s[at + 1] == b'\t'
 }
 
 // A string's line at a place of the sheet.
@@ -84,7 +84,7 @@ pub(crate) fn line_at(k: usize, s: &[u8], at: usize) -> Line
 fn head_end(s: &[u8], k: usize, i: usize) -> Head
     ensures { λ r. ⌜ r ≡ headEnd (now (s .entry)) k i ⌝ }
 {
-    if fields::byte_is(s, i, 10) {
+    if fields::byte_is(s, i, b'\n') {
         return Head::Good { k, next: i + 1 };
     }
     Head::Wrong
@@ -97,7 +97,7 @@ pub fn head_at(s: &[u8]) -> Head
     if !fields::byte_is(s, 0, b'K') {
         return Head::Wrong;
     }
-    if !fields::byte_is(s, 1, 9) {
+    if !fields::byte_is(s, 1, b'\t') {
         return Head::Wrong;
     }
     if fields::byte_is(s, 2, b'0') {

@@ -9,9 +9,8 @@ use Rattle.lists.specs.Choose.{choose}
 use Rattle.lists.specs.Fill.{fill}
 use Rattle.collection.specs.declared.Verdict.{Verdict}
 use Rattle.collection.specs.declared.Verdict.the-variants.{Good, Bad}
-use Rattle.collection.specs.Judge.{sizeVerdict}
 use Rattle.collection.specs.Strings.{Str, lettersIn, endsIn, weightsIn}
-use Rattle.collection.specs.Verdict.{andThen, settle, roomVerdict}
+use Rattle.collection.specs.Verdict.{settle}
 use Rattle.collection.proofs.Verdicts.{both-good, test-good, then-bad, then-good, refused, settled}
 use Rattle.sheet_text.specs.declared.ReadAnswer.the-variants as answer
 use Rattle.sheet_text.specs.Parts.{upTo, later, feed}
@@ -19,8 +18,8 @@ use Rattle.sheet_text.specs.Read.{sheetN, sheetM, sheetWeights, tablesVerdict, 
 use Rattle.sheet_text.specs.Sheet.{sheetK, sheetStrings, isHead, stringsOf, firstWrong, sheetVerdict}
 use Rattle.sheet_text.proofs.Accepted.{sheet-good}
 use Rattle.sheet_text.proofs.Calls.{read-takes}
-use Rattle.sheet_lines.specs.Cursor.{headOf, linesAt, left}
-use Rattle.sheet_read.specs.Judged.{judgedOf, judgedIn, held}
+use Rattle.sheet_lines.specs.Cursor.{headOf, linesAt, stringsAt}
+use Rattle.sheet_read.specs.Judged.{judgedOf, judgedIn, held, countsVerdict}
 use Rattle.sheet_read.specs.Fits.{Fits}
 use Rattle.sheet_lines.specs.declared.Head.the-variants as head
 use Rattle.sheet_read.specs.declared.Judged.{Judged}
@@ -60,6 +59,7 @@ holding s h = record { k-is = cc; next-is = cc; n-is = cc; m-is = cc; w-is = cc 
 -- ─── a judged sheet, then its tables ─────────────────────────────────────────
 
 module _ (s : List ℕ) (a b c : ℕ) {j : Judged} (e : j ≡ judgedOf s) where
+  -- refused by a line or by k
   pub lines-refused : {number place : ℕ} → j ≡ judged.Bad number place → j ≡ judgedIn s a b c
   unfolding judgedOf judgedIn readVerdict
   lines-refused q = q ∙ refused judged.Bad _ (then-bad _ (was-bad s (sheetVerdict s) (sym e ∙ q)))
@@ -69,21 +69,19 @@ module _ (s : List ℕ) (a b c : ℕ) {j : Judged} (e : j ≡ judgedOf s) where
     unfolding judgedOf
     good = was-good s (sheetVerdict s) (sym e ∙ q)
 
-    tables : Verdict
-    tables = andThen (sizeVerdict n m) (andThen (roomVerdict a n) (andThen (roomVerdict b m) (roomVerdict c w)))
-
-    read-verdict : {v : Verdict} → tables ≡ v → readVerdict s a b c ≡ v
-    unfolding readVerdict tablesVerdict tables
+    read-verdict : {v : Verdict} → countsVerdict n m w a b c ≡ v → readVerdict s a b c ≡ v
+    unfolding readVerdict tablesVerdict
     read-verdict t =
         let h = holding s (good .1) in
-        then-good _ (good .0) ((λ i. andThen (sizeVerdict (h .n-is i) (h .m-is i)) (andThen (roomVerdict a (h .n-is i)) (andThen (roomVerdict b (h .m-is i)) (roomVerdict c (h .w-is i))))) ∙ t)
+        then-good _ (good .0) ((λ i. countsVerdict (h .n-is i) (h .m-is i) (h .w-is i) a b c) ∙ t)
 
-    pub tables-refused : {v : Verdict} {number place : ℕ} → v ≡ andThen (sizeVerdict n m) (andThen (roomVerdict a n) (andThen (roomVerdict b m) (roomVerdict c w))) → v ≡ Bad number place → judged.Bad number place ≡ judgedIn s a b c
-    unfolding judgedIn tables
+    -- refused by 3 or 1
+    pub tables-refused : {v : Verdict} {number place : ℕ} → v ≡ countsVerdict n m w a b c → v ≡ Bad number place → judged.Bad number place ≡ judgedIn s a b c
+    unfolding judgedIn
     tables-refused t f = refused judged.Bad _ (read-verdict (sym t ∙ f))
 
-    pub tables-good : {v : Verdict} → v ≡ andThen (sizeVerdict n m) (andThen (roomVerdict a n) (andThen (roomVerdict b m) (roomVerdict c w))) → v ≡ Good → judged.Good k next n m w ≡ judgedIn s a b c
-    unfolding judgedIn tables
+    pub tables-good : {v : Verdict} → v ≡ countsVerdict n m w a b c → v ≡ Good → judged.Good k next n m w ≡ judgedIn s a b c
+    unfolding judgedIn
     tables-good t f = settled judged.Bad (sym (good .1)) (read-verdict (sym t ∙ f))
 
 -- ─── the outcome ─────────────────────────────────────────────────────────────
@@ -96,6 +94,7 @@ accepted-head s h =
     headed s _ _ (ap (λ (t : Bool). choose t (head.Good (sheetK s) (length (upTo feed s) + 1)) head.Wrong) g)
 
 module _ (s letters ends weights : List ℕ) {j : Judged} (e : j ≡ judgedIn s (length letters) (length ends) (length weights)) where
+  -- a refusal leaves the tables
   pub read-refused : {number place : ℕ} → j ≡ judged.Bad number place → readOutcome (answer.Refused number place) letters ends weights ≡ readOf s letters ends weights
   unfolding judgedIn readOf
   read-refused q = refused (λ number place. readOutcome (answer.Refused number place) letters ends weights) _ (was-bad s (readVerdict s _ _ _) (sym e ∙ q))
@@ -105,11 +104,11 @@ module _ (s letters ends weights : List ℕ) {j : Judged} (e : j ≡ judgedIn s 
     unfolding judgedIn
     taken = was-good s (readVerdict s _ _ _) (sym e ∙ q)
 
-    strings-left : left s next ≡ sheetStrings s
+    strings-left : stringsAt s next ≡ sheetStrings s
     strings-left =
         let t = read-takes s _ _ _ (taken .0) in
         let h = holding s (taken .1) in
-        ap (λ (x : ℕ). left s x) (sym (h .next-is)) ∙ ap stringsOf (accepted-head s (t .0) .lines)
+        ap (λ (x : ℕ). stringsAt s x) (sym (h .next-is)) ∙ ap stringsOf (accepted-head s (t .0) .lines)
 
     -- the judged lines may fill the tables
     pub read-fits : Fits k s next (length letters) (length ends) (length weights)
@@ -119,9 +118,9 @@ module _ (s letters ends weights : List ℕ) {j : Judged} (e : j ≡ judgedIn s 
         let d = accepted-head s (t .0) in
         let l : linesAt s next ≡ later feed s = ap (λ (x : ℕ). linesAt s x) (sym (h .next-is)) ∙ d .lines in
         let w = t .1 in
-        let p : length (lettersIn (left s next)) ≡ sheetN s = ap (λ (ss : List Str). length (lettersIn ss)) strings-left in
-        let r : length (left s next) ≡ sheetM s = ap length strings-left in
-        let u : length (weightsIn (left s next)) ≡ sheetWeights s = ap (λ (ss : List Str). length (weightsIn ss)) strings-left in
+        let p : length (lettersIn (stringsAt s next)) ≡ sheetN s = ap (λ (ss : List Str). length (lettersIn ss)) strings-left in
+        let r : length (stringsAt s next) ≡ sheetM s = ap length strings-left in
+        let u : length (weightsIn (stringsAt s next)) ≡ sheetWeights s = ap (λ (ss : List Str). length (weightsIn ss)) strings-left in
         record {
           inside = omega (arith, d .inside, h .next-is);
           lines = (λ i. firstWrong (sym (h .k-is) i) 2 (l i)) ∙ sheet-good s (t .0) .lines;
@@ -131,7 +130,8 @@ module _ (s letters ends weights : List ℕ) {j : Judged} (e : j ≡ judgedIn s 
           weights-room = omega (arith, w .weights-room);
         }
 
-    pub read-filled : {letters' ends' weights' : List ℕ} → letters' ≡ fill (lettersIn (left s next)) letters → ends' ≡ fill (endsIn 0 (left s next)) ends → weights' ≡ fill (weightsIn (left s next)) weights
+    -- filled from the judged lines they are what READ leaves
+    pub read-filled : {letters' ends' weights' : List ℕ} → letters' ≡ fill (lettersIn (stringsAt s next)) letters → ends' ≡ fill (endsIn 0 (stringsAt s next)) ends → weights' ≡ fill (weightsIn (stringsAt s next)) weights
         → readOutcome (answer.Filled k n m w) letters' ends' weights' ≡ readOf s letters ends weights
     unfolding readOf
     read-filled x y z =

@@ -12,7 +12,7 @@ use Rattle.collection.specs.declared.Verdict.{Verdict}
 use Rattle.collection.specs.declared.Verdict.the-variants.{Good, Bad}
 use Rattle.collection.specs.Judge.{kVerdict}
 use Rattle.collection.specs.Verdict.{andThen, atPlace, settle}
-use Rattle.sheet_text.specs.Parts.{upTo, later, parts, feed}
+use Rattle.sheet_text.specs.Parts.{upTo, later, feed}
 use Rattle.collection.specs.Strings.{lettersIn, weightsIn}
 use Rattle.sheet_text.specs.Sheet.{isKLine, firstWrong, sheetK, sheetStrings, isHead, sheetVerdict}
 use Rattle.sheet_lines.specs.Cursor.{headOf, headIn, linesAt, countOf}
@@ -21,17 +21,14 @@ use Rattle.sheet_lines.specs.declared.Head.the-variants as head
 use Rattle.sheet_lines.specs.declared.Counted.the-variants as counted
 use Rattle.sheet_read.specs.declared.Judged.the-variants as judged
 use Rattle.sheet_text.proofs.Tests.{never}
-use Rattle.sheet_lines.proofs.Counts.{past-sep}
-
-bad-good : {A : Type 0} {k n : ℕ} → head.Good k n ≡ head.Wrong → A
-bad-good h = let z : _≡_ {A = ℕ} 0 1 = cc in absurd (omega arith)
+use Rattle.sheet_text.proofs.Parts.{parts, past-sep}
 
 -- line 1 is wrong
 pub head-wrong : (s : List ℕ) → headIn s ≡ head.Wrong → judged.Bad 11 1 ≡ judgedOf s
 unfolding judgedOf sheetVerdict settle andThen headOf
 head-wrong s h = go (isHead (upTo feed s) (later feed s)) refl h where
   go : (t : Bool) → isHead (upTo feed s) (later feed s) ≡ t → choose t (head.Good (sheetK s) (length (upTo feed s) + 1)) head.Wrong ≡ head.Wrong → judged.Bad 11 1 ≡ judgedOf s
-  go true e r = bad-good r
+  go true e r = let z : _≡_ {A = ℕ} 0 1 = cc in absurd (omega arith)
   go false e r = rw e
 
 -- line 1 is good: its k, where line 2 starts, and the lines from there
@@ -53,6 +50,7 @@ line-some l [] h = never h
 line-some [] (m ∷ ms) h = never h
 line-some (b ∷ l) (m ∷ ms) h = omega arith
 
+-- what the code finds at a good line 1
 pub headed : (s : List ℕ) (k next : ℕ) → headIn s ≡ head.Good k next → Headed s k next
 unfolding headOf
 headed s k next h = go (isHead (upTo feed s) (later feed s)) refl h where
@@ -83,6 +81,7 @@ module _ (s : List ℕ) (k next : ℕ) (h : Headed s k next) where
   unfolding judgedOf
   judged-is v e = ap (λ (x : Verdict). settle x judged.Bad (held s)) e
 
+  -- k is out of range
   pub k-bad : (n p : ℕ) → kVerdict k ≡ Bad n p → judged.Bad n p ≡ judgedOf s
   unfolding settle andThen
   k-bad n p e = sym (judged-is (Bad n p) (sheet-is ∙ ap (λ (x : Verdict). andThen x (atPlace 11 (firstWrong k 2 (later feed s)))) e))
@@ -92,6 +91,7 @@ module _ (s : List ℕ) (k next : ℕ) (h : Headed s k next) where
     unfolding andThen
     lines-is = sheet-is ∙ ap (λ (x : Verdict). andThen x (atPlace 11 (firstWrong k 2 (later feed s)))) e
 
+    -- a later line is wrong
     pub line-bad : (x : ℕ) → countOf k 0 0 0 (linesAt s next) ≡ counted.Wrong x → judged.Bad 11 x ≡ judgedOf s
     unfolding countOf settle atPlace
     line-bad x c = go (firstWrong k 2 (later feed s)) refl (ap (countOf k 0 0 0) (sym (h .lines)) ∙ c) where
@@ -106,6 +106,7 @@ module _ (s : List ℕ) (k next : ℕ) (h : Headed s k next) where
           let p : suc w ≡ x = cc in
           sym (judged-is (Bad 11 x) (lines-is ∙ (ap (atPlace 11) q ∙ ap (Bad 11) p)))
 
+    -- none is
     pub all-lines : (a b c : ℕ) → countOf k 0 0 0 (linesAt s next) ≡ counted.Good a b c → judged.Good k next a b c ≡ judgedOf s
     unfolding countOf settle atPlace
     all-lines a b c g = go (eqb (firstWrong k 2 (later feed s)) 0) refl (ap (countOf k 0 0 0) (sym (h .lines)) ∙ g) where

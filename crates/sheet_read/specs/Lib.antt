@@ -1,3 +1,3 @@
--- A judged sheet, and what filling the tables asks.
+-- What the contracts of READ's inner functions cite; READ's promise stands in `sheet_text` (specs/Read).
 pub mod Judged
 pub mod Fits

@@ -6,7 +6,7 @@ ghost use Prim.Native.Nat.{_+_, _≤_};
 ghost use lib.ListN.{length};
 ghost use Rattle.lists.specs.Fill.{put, fill};
 ghost use Rattle.collection.specs.Strings.{lettersIn, endsIn, weightsIn};
-ghost use Rattle.sheet_lines.specs.Cursor.{tailAt, fine, weightsAt, endsAt, left};
+ghost use Rattle.sheet_lines.specs.Cursor.{tailAt, fine, weightsAt, endsAt, stringsAt};
 ghost use Rattle.sheet_read.specs.Fits.{Fits};
 
 // Stores the n weights that stand from a place to the line's end; answers where the line's feed stands.
@@ -18,7 +18,7 @@ fn fill_weights(s: &[u8], at: usize, n: usize, out: &mut [u32], o: usize) -> usi
     let mut j = n;
     let mut p = o;
     while 0 < j {
-        if !sheet_lines::fields::byte_is(s, i, 9) {
+        if !sheet_lines::fields::byte_is(s, i, b'\t') {
             return i;
         }
         let w = sheet_lines::fields::weight_at(s, i + 1);
@@ -33,7 +33,8 @@ fn fill_weights(s: &[u8], at: usize, n: usize, out: &mut [u32], o: usize) -> usi
     i
 }
 
-// Fills the three tables from the strings' lines, the first of which starts at a place; the lines are judged.
+// Fills the three tables from the strings' lines, the first of which starts at a place; the lines are judged. n letters, m ends
+// and w weights are stored so far.
 pub(crate) fn fill_lines(
     k: usize,
     s: &[u8],
@@ -43,7 +44,7 @@ pub(crate) fn fill_lines(
     weights: &mut [u32],
 )
     requires { ⌜ Fits k (now s) at (length (now letters)) (length (now ends)) (length (now weights)) ⌝ }
-    ensures { λ _. ⌜ (now (letters .exit) ≡ fill (lettersIn (left (now (s .entry)) at)) (now (letters .entry))) × (now (ends .exit) ≡ fill (endsIn 0 (left (now (s .entry)) at)) (now (ends .entry))) × (now (weights .exit) ≡ fill (weightsIn (left (now (s .entry)) at)) (now (weights .entry))) ⌝ }
+    ensures { λ _. ⌜ (now (letters .exit) ≡ fill (lettersIn (stringsAt (now (s .entry)) at)) (now (letters .entry))) × (now (ends .exit) ≡ fill (endsIn 0 (stringsAt (now (s .entry)) at)) (now (ends .entry))) × (now (weights .exit) ≡ fill (weightsIn (stringsAt (now (s .entry)) at)) (now (weights .entry))) ⌝ }
 {
     let mut i = at;
     let mut n: usize = 0;

@@ -4,9 +4,7 @@ use collection::Verdict;
 use sheet_lines::Counted;
 use sheet_lines::Head;
 ghost use mathlib.Core.Path.{_≡_};
-ghost use Rattle.collection.specs.Judge.{sizeVerdict};
-ghost use Rattle.collection.specs.Verdict.{roomVerdict, andThen};
-ghost use Rattle.sheet_read.specs.Judged.{judgedOf, judgedIn};
+ghost use Rattle.sheet_read.specs.Judged.{judgedOf, judgedIn, countsVerdict};
 
 // A sheet's lines: what they hold, or the first refusal of 11, 2, 11.
 fn judge_sheet(s: &[u8]) -> Judged
@@ -45,7 +43,7 @@ fn judge_sheet(s: &[u8]) -> Judged
 
 // 3, then 1: n letters, m strings and w weights for tables of the lengths a, b and c.
 fn judge_tables(n: usize, m: usize, w: usize, a: usize, b: usize, c: usize) -> Verdict
-    ensures { λ r. ⌜ r ≡ andThen (sizeVerdict n m) (andThen (roomVerdict a n) (andThen (roomVerdict b m) (roomVerdict c w))) ⌝ }
+    ensures { λ r. ⌜ r ≡ countsVerdict n m w a b c ⌝ }
 {
     let v = collection::judge_size(n, m);
     let Verdict::Good = v else {
@@ -62,7 +60,7 @@ fn judge_tables(n: usize, m: usize, w: usize, a: usize, b: usize, c: usize) -> V
     collection::judge_room(c, w)
 }
 
-// A sheet and the lengths of the tables for its letters, ends and weights.
+// All refusals, for tables of the lengths a, b and c for the letters, ends and weights.
 pub(crate) fn judge_read(s: &[u8], a: usize, b: usize, c: usize) -> Judged
     ensures { λ r. ⌜ r ≡ judgedIn (now (s .entry)) a b c ⌝ }
 {

@@ -17,19 +17,23 @@ use Rattle.collection.proofs.Verdicts.{both-good, place-good, test-good}
 use Rattle.lists.specs.Every.{All, every}
 use Rattle.lists.proofs.Every.{and-both}
 use Rattle.sheet_text.specs.Numbers.{isNumber, value, digits}
-use Rattle.sheet_text.specs.Parts.{upTo, later, joined, tab, feed}
+use Rattle.sheet_text.specs.Parts.{upTo, later, tab, feed}
 use Rattle.collection.specs.Strings.{Str}
 use Rattle.sheet_text.specs.Sheet.{isMark, isK, isKLine, isWeightField, isString, isStringLine, stringOf, stringsOf, firstWrong, kOf, sheetK, sheetStrings, isHead, sheetVerdict, Accepted}
 use Rattle.sheet_text.specs.Text.{weightsText, stringText, linesText, sheetText}
-use Rattle.sheet_text.proofs.Tests.{both, never}
-use Rattle.sheet_text.proofs.Parts.{join-parts}
+use Rattle.sheet_text.proofs.Tests.{both, never, empty}
+use Rattle.sheet_text.proofs.Parts.{joined, join-parts}
 use Rattle.sheet_text.proofs.Numbers.{digits-value}
 
+-- ─── its text ────────────────────────────────────────────────────────────────
+
+-- a mark is that one byte
 pub mark-is : (m : ℕ) (f : List ℕ) → isMark m f ≡ true → f ≡ m ∷ []
 mark-is m [] h = never h
 mark-is m (b ∷ []) h = ap (λ (x : ℕ). x ∷ []) (eqb-true b m h)
 mark-is m (b ∷ (c ∷ f)) h = never h
 
+-- good weight fields are what their values are written as
 weights-text : (fs : List (List ℕ)) → every isWeightField fs ≡ true → weightsText (map value fs) ≡ joined tab fs
 unfolding every isWeightField weightsText joined
 weights-text [] h = refl
@@ -38,6 +42,7 @@ weights-text (f ∷ fs) h =
     let u = both (isNumber f) _ (t .0) in
     rw (digits-value f (u .0), weights-text fs (t .1))
 
+-- so are the fields behind `S`
 fields-text : (k : ℕ) (fs : List (List ℕ)) → isString k fs ≡ true → joined tab fs ≡ tab ∷ ((stringOf fs) .letters ++ weightsText ((stringOf fs) .weights))
 unfolding isString joined
 fields-text k [] h = never h
@@ -60,10 +65,6 @@ pub choose-zero : (t : Bool) (v i : ℕ) → choose t v (suc i) ≡ 0 → (t ≡
 choose-zero true v i h = (refl, h)
 choose-zero false v i h = absurd (omega arith)
 
-empty : (l : List ℕ) → length l ≡ 0 → l ≡ []
-empty [] h = refl
-empty (b ∷ l) h = absurd (omega arith)
-
 -- lines none of which is wrong are what their strings are written as
 lines-text : (k i : ℕ) (ls : List (List ℕ)) → firstWrong k (suc i) ls ≡ 0 → joined feed ls ≡ feed ∷ linesText (stringsOf ls)
 unfolding firstWrong joined linesText stringsOf
@@ -83,6 +84,7 @@ k-fields (f ∷ []) h =
     rw (digits-value f (t .0), append-nil)
 k-fields (f ∷ (g ∷ fs)) h = never h
 
+-- a good line 1 is what its k is written as
 k-text : (l : List ℕ) → isKLine l ≡ true → 75 ∷ (tab ∷ digits (kOf (later tab l))) ≡ l
 unfolding isKLine
 k-text l h =
@@ -101,6 +103,7 @@ pub record Sheet (bs : List ℕ) : Type 0 where
   pub range : kVerdict (sheetK bs) ≡ Good
   pub lines : firstWrong (sheetK bs) 2 (later feed bs) ≡ 0
 
+-- none of the three refusals is given
 pub sheet-good : (bs : List ℕ) → Accepted bs → Sheet bs
 unfolding sheetVerdict
 sheet-good bs h =
@@ -119,7 +122,7 @@ accepted-text bs h =
 
 -- ─── its strings ─────────────────────────────────────────────────────────────
 
--- a string that a sheet can hold
+-- a string that a sheet can hold: at least k letters, all A C G T, and a weight in range for each k-mer
 pub record Holds (k : ℕ) (s : Str) : Type 0 where
   pub whole : Whole k s
   pub letters : every isLetter (s .letters) ≡ true
@@ -153,5 +156,6 @@ lines-hold k i (l ∷ (m ∷ ls)) h =
     let t = choose-zero (isStringLine k l) _ i h in
     (fields-hold k (later tab l) (both (isMark 83 (upTo tab l)) _ (t .0) .1), lines-hold k (suc i) (m ∷ ls) (t .1))
 
+-- each string of an accepted sheet is such a string
 pub accepted-holds : (bs : List ℕ) → Accepted bs → All (Holds (sheetK bs)) (sheetStrings bs)
 accepted-holds bs h = lines-hold (sheetK bs) 1 (later feed bs) (sheet-good bs h .lines)

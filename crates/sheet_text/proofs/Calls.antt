@@ -40,14 +40,17 @@ pub record Within (bs : List ℕ) (letters ends weights : ℕ) : Type 0 where
   pub ends-room : sheetM bs ≤ ends
   pub weights-room : sheetWeights bs ≤ weights
 
+-- within the limits nothing is refused by 3
 good-size : {N m : ℕ} → N ≤ 1048576 → m ≤ 65536 → sizeVerdict N m ≡ Good
 unfolding sizeVerdict
 good-size {N} {m} a b = ap (λ t. choose t Good (Bad 3 0)) (and-both (le-leb N 1048576 a) (le-leb m 65536 b))
 
-good-room : {have need : ℕ} → need ≤ have → roomVerdict have need ≡ Good
+-- nor by 1 where there is room
+pub good-room : {have need : ℕ} → need ≤ have → roomVerdict have need ≡ Good
 unfolding roomVerdict
 good-room {have} {need} h = ap (λ t. choose t (Bad 1 0) Good) (le-ltb have need h)
 
+-- what READ takes is an accepted sheet within the limits
 pub read-takes : (bs : List ℕ) (letters ends weights : ℕ) → readVerdict bs letters ends weights ≡ Good → Accepted bs × Within bs letters ends weights
 unfolding readVerdict tablesVerdict
 read-takes bs letters ends weights h =
@@ -66,6 +69,7 @@ read-takes bs letters ends weights h =
       },
     )
 
+-- and each such sheet is taken
 pub takes-read : (bs : List ℕ) (letters ends weights : ℕ) → Accepted bs → Within bs letters ends weights → readVerdict bs letters ends weights ≡ Good
 unfolding readVerdict tablesVerdict
 takes-read bs letters ends weights h w =
@@ -102,6 +106,7 @@ module _ (bs letters ends weights : List ℕ) where
       go Good h q = h
       go (Bad number place) h q = let z : _≡_ {A = ℕ} 0 1 = cc in absurd (omega arith)
 
+  -- where READ answers `Filled`, it took the sheet, and its tables start with what the sheet means
   pub read-done : (k a b c : ℕ) → (readOf bs letters ends weights) .answer ≡ read.Filled k a b c → ReadDone bs letters ends weights k a b c
   unfolding readDone
   read-done k a b c e =
@@ -135,6 +140,7 @@ unfolding writeText
 accepted-written bs h =
     ap (sheetText (sheetK bs)) (strings-back (sheetK bs) (sheetStrings bs) (all-map (λ s x. x .whole) (sheetStrings bs) (accepted-holds bs h))) ∙ accepted-text bs h
 
+-- WRITE of a collection that passes, into a table with room
 write-good : (k : ℕ) (letters ends weights sheet : List ℕ) → Passes k letters ends weights → length (writeText k letters ends weights) ≤ length sheet
     → writeOf k letters ends weights sheet ≡ writeOutcome (write.Written (length (writeText k letters ends weights))) (fill (writeText k letters ends weights) sheet)
 unfolding writeOf writeVerdict
@@ -177,6 +183,7 @@ module _ (k : ℕ) (letters ends weights sheet : List ℕ) (n : ℕ) (e : (write
       go Good h q = h
       go (Bad number place) h q = let z : _≡_ {A = ℕ} 0 1 = cc in absurd (omega arith)
 
+  -- what was written passes 2 to 6
   pub written-passes : Passes k letters ends weights
   unfolding writeVerdict
   written-passes = both-good (collectionVerdict k letters ends weights) _ written-good .0

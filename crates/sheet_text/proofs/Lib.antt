@@ -3,6 +3,7 @@ pub mod Tests
 pub mod Parts
 pub mod Blocks
 pub mod Numbers
+pub mod Digits
 pub mod Accepted
 pub mod Written
 pub mod Calls

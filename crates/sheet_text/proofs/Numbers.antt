@@ -8,7 +8,6 @@ use native.Mathlib.Omega.{arith}
 use borrow.Author.Tests.{lt-ltb, le-ltb, ltb-true, ltb-false, not-true, eqb-false}
 use lib.Dec.{ltb, eqb}
 use lib.ListN.{length}
-use Rattle.lists.specs.Choose.{choose}
 use Rattle.lists.specs.Every.{every}
 use Rattle.lists.proofs.Every.{and-both}
 use Rattle.sheet_text.specs.Numbers.{isDigit, isNumber, valueFrom, value, digitsIn, digits}
@@ -16,17 +15,19 @@ use Rattle.sheet_text.proofs.Tests.{both, never, digit-range, range-dig
 
 -- ─── steps ───────────────────────────────────────────────────────────────────
 
-last-digit : (s n : ℕ) (rest : List ℕ) → n < 10 → digitsIn s n rest ≡ (48 + n) ∷ rest
+-- below 10 a digit is left, which is the first
+pub last-digit : (s n : ℕ) (rest : List ℕ) → n < 10 → digitsIn s n rest ≡ (48 + n) ∷ rest
 unfolding digitsIn
 last-digit zero n rest h = refl
 last-digit (suc s) n rest h = rw (lt-ltb n 10 h)
 
-more-digits : (s n : ℕ) (rest : List ℕ) → 10 ≤ n → digitsIn (suc s) n rest ≡ digitsIn s (n / 10) ((48 + n % 10) ∷ rest)
+-- else the last digit goes in front of `rest`
+pub more-digits : (s n : ℕ) (rest : List ℕ) → 10 ≤ n → digitsIn (suc s) n rest ≡ digitsIn s (n / 10) ((48 + n % 10) ∷ rest)
 unfolding digitsIn
 more-digits s n rest h = rw (le-ltb n 10 h)
 
 -- any number of steps that is enough gives the same
-enough : (s t n : ℕ) (rest : List ℕ) → n ≤ s → n ≤ t → digitsIn s n rest ≡ digitsIn t n rest
+pub enough : (s t n : ℕ) (rest : List ℕ) → n ≤ s → n ≤ t → digitsIn s n rest ≡ digitsIn t n rest
 enough zero t n rest p q = last-digit 0 n rest (omega arith) ∙ sym (last-digit t n rest (omega arith))
 enough (suc s) zero n rest p q = last-digit (suc s) n rest (omega arith) ∙ sym (last-digit 0 n rest (omega arith))
 enough (suc s) (suc t) n rest p q = go (ltb n 10) refl (enough s t (n / 10) ((48 + n % 10) ∷ rest)) where
@@ -41,6 +42,7 @@ enough (suc s) (suc t) n rest p q = go (ltb n 10) refl (enough s t (n / 10) ((48
 
 -- ─── the digits of a value ───────────────────────────────────────────────────
 
+-- digits behind a value of at least 1 are the last digits of their value
 back : (f rest : List ℕ) (a m : ℕ) → every isDigit f ≡ true → 1 ≤ a → digitsIn (length f + m) (valueFrom a f) rest ≡ digitsIn m a (f ++ rest)
 unfolding every valueFrom
 back [] rest a m h p = rw zero-add
@@ -106,12 +108,14 @@ value-in (suc s) n rest h = go (ltb n 10) refl (value-in s (n / 10) ((48 + n % 1
       let l = ltb-false n 10 e in
       ap (valueFrom 0) (more-digits s n rest l) ∙ (r (omega arith) ∙ value-more n rest)
 
+-- a value's digits have the value
 pub value-digits : (n : ℕ) → value (digits n) ≡ n
 unfolding digits valueFrom
 value-digits n = value-in n n [] (omega arith)
 
 -- ─── digits are a number ─────────────────────────────────────────────────────
 
+-- digits of which the first is not 0
 abbrev led : List ℕ → Bool
 led [] = false
 led (b ∷ f) = (isDigit b && not (eqb b 48)) && every isDigit f
@@ -140,11 +144,13 @@ led-in (suc s) n rest h p g = go (ltb n 10) refl (led-in s (n / 10) ((48 + n % 1
       let l = ltb-false n 10 e in
       ap led (more-digits s n rest l) ∙ r (omega arith) (omega arith) (one-more (48 + n % 10) rest (range-digit (48 + n % 10) (omega arith) (omega arith)) g)
 
+-- what is written is a number
 pub number-digits : (n : ℕ) → isNumber (digits n) ≡ true
 unfolding digits isNumber every digitsIn
 number-digits zero = refl
 number-digits (suc n) = led-number (digits (suc n)) (led-in (suc n) (suc n) [] (omega arith) (omega arith) refl)
 
+-- a number is made of digits
 pub number-all : (f : List ℕ) → isNumber f ≡ true → every isDigit f ≡ true
 unfolding isNumber every
 number-all [] h = refl
@@ -155,36 +161,3 @@ number-all (b ∷ (c ∷ f)) h =
 
 pub all-digits : (n : ℕ) → every isDigit (digits n) ≡ true
 all-digits n = number-all _ (number-digits n)
-
--- a number below 100 has at most two digits
-pub two-digits : (n : ℕ) → n < 100 → length (digits n) ≤ 2
-unfolding digits
-two-digits zero h = omega (arith, ap length (last-digit 0 0 [] (omega arith)))
-two-digits (suc n) h = go (ltb (suc n) 10) refl where
-  go : (b : Bool) → ltb (suc n) 10 ≡ b → length (digits (suc n)) ≤ 2
-  go true e = omega (arith, ap length (last-digit (suc n) (suc n) [] (ltb-true _ _ e)))
-  go false e =
-      let l = ltb-false _ _ e in
-      omega (arith, ap length (more-digits n (suc n) [] l), ap length (last-digit n (suc n / 10) ((48 + suc n % 10) ∷ []) (omega arith)))
-
--- ─── digits, one by one ──────────────────────────────────────────────────────
-
-in-front : (s n : ℕ) (rest more : List ℕ) → digitsIn s n (rest ++ more) ≡ digitsIn s n rest ++ more
-unfolding digitsIn
-in-front zero n rest more = refl
-in-front (suc s) n rest more = go (ltb n 10) (in-front s (n / 10) ((48 + n % 10) ∷ rest) more) where
-  go : (t : Bool) → digitsIn s (n / 10) ((48 + n % 10) ∷ (rest ++ more)) ≡ digitsIn s (n / 10) ((48 + n % 10) ∷ rest) ++ more
-      → choose t ((48 + n) ∷ (rest ++ more)) (digitsIn s (n / 10) ((48 + n % 10) ∷ (rest ++ more))) ≡ choose t ((48 + n) ∷ rest) (digitsIn s (n / 10) ((48 + n % 10) ∷ rest)) ++ more
-  go true h = refl
-  go false h = h
-
-pub digits-one : (n : ℕ) → n < 10 → digits n ≡ (48 + n) ∷ []
-unfolding digits
-digits-one n h = last-digit n n [] h
-
-pub digits-more : (n : ℕ) → 10 ≤ n → digits n ≡ digits (n / 10) ++ ((48 + n % 10) ∷ [])
-unfolding digits
-digits-more zero h = absurd (omega arith)
-digits-more (suc m) h =
-    more-digits m (suc m) [] h
-    ∙ (in-front m (suc m / 10) [] ((48 + suc m % 10) ∷ []) ∙ ap (λ (x : List ℕ). x ++ ((48 + suc m % 10) ∷ [])) (enough m (suc m / 10) (suc m / 10) [] (omega arith) (omega arith)))

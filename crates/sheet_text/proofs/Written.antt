@@ -23,13 +23,16 @@ use Rattle.sheet_text.specs.Text.{weightsText, stringText, linesText, sh
 use Rattle.sheet_text.proofs.Tests.{both, every-more, every-append, never, digit-range, unequal}
 use Rattle.sheet_text.proofs.Accepted.{Holds}
 use Rattle.sheet_text.proofs.Parts.{Free, up-last, later-last, up-first, later-first}
-use Rattle.sheet_text.proofs.Numbers.{value-digits, number-digits, all-digits, two-digits}
+use Rattle.sheet_text.proofs.Numbers.{value-digits, number-digits, all-digits}
+use Rattle.sheet_text.proofs.Digits.{digits-short}
 
 -- ─── no separator stands in a letter or a digit ──────────────────────────────
 
+-- a byte that is no letter is not this letter
 clear-letter : (c b : ℕ) → (isLetter c ≡ false) → isLetter b ≡ true → not (eqb b c) ≡ true
 clear-letter c b p q = unequal b c (λ s. never (sym p ∙ (ap isLetter (sym s) ∙ q)))
 
+-- a byte below `0` is not this digit
 pub clear-digit : (c b : ℕ) → c < 48 → isDigit b ≡ true → not (eqb b c) ≡ true
 clear-digit c b p q =
     let d = digit-range b q in
@@ -41,6 +44,7 @@ free-letters c ls p h = every-more _ _ (λ b q. clear-letter c b p q) ls h
 free-digits : (c n : ℕ) → c < 48 → Free c (digits n)
 free-digits c n p = every-more _ _ (λ b q. clear-digit c b p q) (digits n) (all-digits n)
 
+-- one byte more
 pub free-next : (c b : ℕ) (bs : List ℕ) → (b ≡ c → ⊥) → Free c bs → Free c (b ∷ bs)
 unfolding every
 free-next c b bs p h = and-both (unequal b c p) h
@@ -81,9 +85,11 @@ good-weights (w ∷ ws) h =
     let t = both (isWeight w) _ h in
     and-both (and-both (number-digits w) (ap isWeight (value-digits w) ∙ t .0)) (good-weights ws (t .1))
 
+-- a line's mark alone is its first field
 pub mark-free : (m : ℕ) → (m ≡ tab → ⊥) → Free tab (m ∷ [])
 mark-free m h = free-next tab m [] h (free-none tab)
 
+-- the fields behind `S`
 fields-of : (k : ℕ) (s : Str) → Holds k s → later tab (stringText s) ≡ (s .letters) ∷ map digits (s .weights)
 unfolding isLetter
 fields-of k s h =
@@ -97,6 +103,7 @@ unfolding isString
 good-fields k s h =
     and-both (and-both (le-leb k _ (h .whole .long)) (h .letters)) (and-both (eq-eqb _ _ (length-map (s .weights) digits ∙ h .whole .counted)) (good-weights (s .weights) (h .weights)))
 
+-- the line is good, and means the string
 written-line : (k : ℕ) (s : Str) → Holds k s → isStringLine k (stringText s) ≡ true
 unfolding isStringLine
 written-line k s h =
@@ -178,7 +185,7 @@ module _ (k : ℕ) (ss : List Str) (range : kVerdict k ≡ Good) (each : All (Ho
   k-form =
       let l = k-good k range in
       and-both (ap (isMark 75) (up-first tab (75 ∷ []) (digits k) (mark-free 75 (λ e. omega arith))))
-      (ap isK k-fields ∙ and-both (number-digits k) (le-leb _ 2 (two-digits k (omega arith))))
+      (ap isK k-fields ∙ and-both (number-digits k) (le-leb _ 2 (digits-short 1 k (omega arith))))
 
   head-good : isHead (upTo feed (sheetText k ss)) (later feed (sheetText k ss)) ≡ true
   head-good = (λ i. isHead (first-line i) (later-lines i)) ∙ shown ss where
@@ -186,14 +193,9 @@ module _ (k : ℕ) (ss : List Str) (range : kVerdict k ≡ Good) (each : All (Ho
     shown [] = k-form
     shown (s ∷ ss) = k-form
 
-  -- and is accepted
+  -- and it is accepted
   pub text-accepted : Accepted (sheetText k ss)
   unfolding sheetVerdict andThen atPlace
   text-accepted =
       let a : firstWrong (sheetK (sheetText k ss)) 2 (later feed (sheetText k ss)) ≡ 0 = (λ i. firstWrong (text-k i) 2 (later-lines i)) ∙ none-wrong k 2 ss each in
       rw (head-good, a, text-k, range)
-
--- a sheet means one collection
-pub one-meaning : (k k' : ℕ) (ss ss' : List Str) → kVerdict k ≡ Good → All (Holds k) ss → kVerdict k' ≡ Good → All (Holds k') ss' → sheetText k ss ≡ sheetText k' ss' → (k ≡ k') × (ss ≡ ss')
-one-meaning k k' ss ss' r h r' h' e =
-    (sym (text-k k ss r h) ∙ (ap sheetK e ∙ text-k k' ss' r' h'), sym (text-strings k ss r h) ∙ (ap sheetStrings e ∙ text-strings k' ss' r' h'))

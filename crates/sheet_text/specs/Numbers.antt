@@ -6,7 +6,7 @@ use lib.Dec.{leb, ltb, eqb}
 use Rattle.lists.specs.Choose.{choose}
 use Rattle.lists.specs.Every.{every}
 
--- `0` to `9`
+-- `0` (48) to `9` (57)
 abbrev pub isDigit : ℕ → Bool
 isDigit b = leb 48 b && leb b 57
 
@@ -21,6 +21,7 @@ unfoldable pub valueFrom : ℕ → List ℕ → ℕ
 valueFrom a [] = a
 valueFrom a (b ∷ bs) = valueFrom (a * 10 + (b - 48)) bs
 
+-- the value of a field of digits
 abbrev pub value : List ℕ → ℕ
 value f = valueFrom 0 f
 

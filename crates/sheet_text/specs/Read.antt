@@ -37,6 +37,7 @@ pub record ReadOutcome : Type 0 where
   pub ends : List ℕ
   pub weights : List ℕ
 
+-- an outcome from its parts, as the promise of `read` gives them
 abbrev pub readOutcome : ReadAnswer → List ℕ → List ℕ → List ℕ → ReadOutcome
 readOutcome answer letters ends weights = record { answer = answer; letters = letters; ends = ends; weights = weights }
 

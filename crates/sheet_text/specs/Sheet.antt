@@ -31,7 +31,7 @@ isK [] = false
 isK (f ∷ []) = isNumber f && leb (length f) 2
 isK (f ∷ (g ∷ fs)) = false
 
--- line 1: `K`, tab, k
+-- line 1: `K` (75), tab, k
 unfoldable pub isKLine : List ℕ → Bool
 isKLine l = isMark 75 (upTo tab l) && isK (later tab l)
 
@@ -44,7 +44,7 @@ unfoldable pub isString : ℕ → List (List ℕ) → Bool
 isString k [] = false
 isString k (f ∷ fs) = (leb k (length f) && every isLetter f) && (eqb (length fs) (length f + 1 - k) && every isWeightField fs)
 
--- a further line: `S`, tab, letters, then a tab and a decimal per weight
+-- a further line: `S` (83), tab, letters, then a tab and a decimal per weight
 unfoldable pub isStringLine : ℕ → List ℕ → Bool
 isStringLine k l = isMark 83 (upTo tab l) && isString k (later tab l)
 
@@ -98,6 +98,6 @@ sheetVerdict bs =
     andThen (choose (isHead (upTo feed bs) (later feed bs)) Good (Bad 11 1))
     (andThen (kVerdict (sheetK bs)) (atPlace 11 (firstWrong (sheetK bs) 2 (later feed bs))))
 
--- bytes that are a sheet with k in range
+-- bytes that are a sheet, with k in range
 abbrev pub Accepted : List ℕ → Type 0
 Accepted bs = sheetVerdict bs ≡ Good

@@ -10,7 +10,7 @@ unfoldable pub weightsText : List ℕ → List ℕ
 weightsText [] = []
 weightsText (w ∷ ws) = tab ∷ (digits w ++ weightsText ws)
 
--- a string's line, without its line feed
+-- a string's line, without its line feed: `S` (83), tab, letters, weights
 abbrev pub stringText : Str → List ℕ
 stringText s = 83 ∷ (tab ∷ (s .letters ++ weightsText (s .weights)))
 
@@ -19,7 +19,7 @@ unfoldable pub linesText : List Str → List ℕ
 linesText [] = []
 linesText (s ∷ ss) = stringText s ++ (feed ∷ linesText ss)
 
--- the sheet of a k and strings
+-- the sheet of a k and strings: `K` (75), tab, k, then the lines
 unfoldable pub sheetText : ℕ → List Str → List ℕ
 sheetText k ss = (75 ∷ (tab ∷ digits k)) ++ (feed ∷ linesText ss)
 

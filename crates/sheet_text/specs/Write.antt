@@ -19,6 +19,7 @@ pub record WriteOutcome : Type 0 where
   pub answer : WriteAnswer
   pub sheet : List ℕ
 
+-- an outcome from its parts, as the promise of `write` gives them
 abbrev pub writeOutcome : WriteAnswer → List ℕ → WriteOutcome
 writeOutcome answer sheet = record { answer = answer; sheet = sheet }
 

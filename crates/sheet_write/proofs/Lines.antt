@@ -15,10 +15,9 @@ use Rattle.collection.proofs.Judged.{Judged, shape-long}
 use Rattle.collection.proofs.Kmers.{kmers-counted, Strings-left, strings-begin, kmers-next, Next, next-string, strings-on}
 use Rattle.sheet_text.specs.Numbers.{digits}
 use Rattle.sheet_text.specs.Parts.{tab, feed}
-use Rattle.sheet_text.specs.Sheet.{string}
 use Rattle.sheet_text.specs.Text.{weightsText, linesText, writeText}
 use Rattle.sheet_text.proofs.Blocks.{block-room, store-block}
-use Rattle.sheet_write.specs.Written.{headLine, stringLine, linesLeft}
+use Rattle.sheet_write.specs.Written.{headLine, cutString, stringLine}
 use Rattle.sheet_lines.proofs.Copied.{take-size}
 use Rattle.sheet_write.proofs.Texts.{weights-next, weights-end, lines-cons, line-length, sheet-lines}
 
@@ -34,6 +33,7 @@ pub record Weighing (size : ℕ) (ws : List ℕ) (e total : ℕ) (target out : L
   pub storing : Storing size out target (weightsText (take (e - i) (drop i ws))) p
   pub place : p + length (weightsText (take (e - i) (drop i ws))) ≡ total
 
+-- none is stored
 pub weighing : (ws : List ℕ) (w n at : ℕ) (out : List ℕ) → w + n ≤ length ws → at + length (weightsText (take n (drop w ws))) ≤ length out
     → Weighing (length out) ws (w + n) (at + length (weightsText (take n (drop w ws)))) (put at (weightsText (take n (drop w ws))) out) out w at
 weighing ws w n at out h r =
@@ -52,6 +52,7 @@ module _ {size : ℕ} {ws : List ℕ} {e total : ℕ} {target out : List ℕ} {i
     pub digits-room : p + 1 + length (digits (getD ws i 0)) ≤ length (set out p tab)
     digits-room = block-room (digits (getD ws i 0)) _ (store here)
 
+    -- one weight is
     pub weighed : {out' : List ℕ} {p' : ℕ} → p' ≡ p + 1 + length (digits (getD ws i 0)) → out' ≡ put (p + 1) (digits (getD ws i 0)) (set out p tab) → Weighing size ws e total target out' (i + 1) p'
     weighed {out'} {p'} q f =
         let d : List ℕ = digits (getD ws i 0) in
@@ -63,6 +64,7 @@ module _ {size : ℕ} {ws : List ℕ} {e total : ℕ} {target out : List ℕ} {i
           place = omega (arith, s .place, ap length (weights-next ws e i l (s .high)), length-append d r);
         }
 
+  -- all are
   pub weighed-all : e ≤ i → (p ≡ total) × (out ≡ target)
   weighed-all l =
       let z = weights-end ws e i l in
@@ -70,6 +72,7 @@ module _ {size : ℕ} {ws : List ℕ} {e total : ℕ} {target out : List ℕ} {i
 
 -- ─── one line ────────────────────────────────────────────────────────────────
 
+-- line 1
 module _ (k : ℕ) (out : List ℕ) (h : length (headLine k) ≤ length out) where
   head-begun : Storing (length out) out (put 0 (headLine k) out) (75 ∷ (tab ∷ (digits k ++ (feed ∷ [])))) 0
   unfolding headLine
@@ -83,12 +86,12 @@ module _ (k : ℕ) (out : List ℕ) (h : length (headLine k) ≤ length out) whe
 
 -- a string's line: its letters from b to e, its n weights from entry w on, stored from `at` on
 module _ (letters weights out : List ℕ) (b e w n at : ℕ) (fits : (b ≤ e) × (e ≤ length letters) × (w + n ≤ length weights))
-    (room : at + length (stringLine (string (take (e - b) (drop b letters)) (take n (drop w weights)))) ≤ length out) where
+    (room : at + length (stringLine (cutString letters b e weights w n)) ≤ length out) where
   abbrev str : Str
-  str = string (take (e - b) (drop b letters)) (take n (drop w weights))
+  str = cutString letters b e weights w n
 
   abbrev target : List ℕ
-  target = put at (stringLine (string (take (e - b) (drop b letters)) (take n (drop w weights)))) out
+  target = put at (stringLine str) out
 
   abbrev marked : List ℕ
   marked = set (set out at 83) (at + 1) tab
@@ -106,7 +109,7 @@ module _ (letters weights out : List ℕ) (b e w n at : ℕ) (fits : (b ≤ e) �
       two : at + 1 + 1 ≡ at + 2
       two = omega arith
 
-  -- all but the weights fits
+  -- mark and letters fit
   pub marks-room : at + 2 + (e - b) < length out
   marks-room = omega (arith, room, line-length str, letters-size)
 
@@ -122,16 +125,20 @@ module _ (letters weights out : List ℕ) (b e w n at : ℕ) (fits : (b ≤ e) �
 
     module _ {p : ℕ} (q : p ≡ at + 2 + (e - b) + length (weightsText (take n (drop w weights)))) where
       pub line-weighed : {weighed : List ℕ} → weighed ≡ put (at + 2 + (e - b)) (weightsText (take n (drop w weights))) lettered
-          → Storing (length out) weighed (put at (stringLine (string (take (e - b) (drop b letters)) (take n (drop w weights)))) out) (feed ∷ []) p
+          → Storing (length out) weighed (put at (stringLine (cutString letters b e weights w n)) out) (feed ∷ []) p
       line-weighed g = store-block (weightsText (str .weights)) (feed ∷ []) line-lettered g q
 
-      pub line-end : p + 1 ≡ at + length (stringLine (string (take (e - b) (drop b letters)) (take n (drop w weights))))
+      pub line-end : p + 1 ≡ at + length (stringLine (cutString letters b e weights w n))
       line-end = omega (arith, line-length str, letters-size)
 
       pub line-fits : p + 1 ≤ length out
       line-fits = omega (arith, line-end, room)
 
 -- ─── all lines ───────────────────────────────────────────────────────────────
+
+-- the text of the strings from string i on, the first of which starts at letter `before` and weight w
+abbrev linesLeft : ℕ → List ℕ → List ℕ → List ℕ → ℕ → ℕ → ℕ → List ℕ
+linesLeft k letters ends weights i before w = linesText (stringsFrom k before (drop before letters) (drop i ends) (drop w weights))
 
 -- the lines from string i on are still to be stored, from p on; the last ends at `total`
 pub record Lining (k : ℕ) (letters ends weights : List ℕ) (size total : ℕ) (target out : List ℕ) (before w p i : ℕ) : Type 0 where
@@ -140,6 +147,7 @@ pub record Lining (k : ℕ) (letters ends weights : List ℕ) (size total : ℕ)
   pub storing : Storing size out target (linesLeft k letters ends weights i before w) p
   pub place : p + length (linesLeft k letters ends weights i before w) ≡ total
 
+-- no line is stored
 pub lining : {k : ℕ} {letters ends weights : List ℕ} → Judged k letters ends weights → (at : ℕ) (out : List ℕ) → at + length (linesText (strings k letters ends weights)) ≤ length out
     → Lining k letters ends weights (length out) (at + length (linesText (strings k letters ends weights))) (put at (linesText (strings k letters ends weights)) out) out 0 0 at 0
 lining {k} {letters} {ends} {weights} r at out h =
@@ -150,9 +158,10 @@ lining {k} {letters} {ends} {weights} r at out h =
       place = refl;
     }
 
+-- the strings left are the next one, and those after it
 strings-next : (k before w i : ℕ) (letters ends weights : List ℕ) → i < length ends → before ≤ getD ends i 0
     → stringsFrom k before (drop before letters) (drop i ends) (drop w weights)
-    ≡ string (take (getD ends i 0 - before) (drop before letters)) (take (within k before (getD ends i 0)) (drop w weights))
+    ≡ cutString letters before (getD ends i 0) weights w (within k before (getD ends i 0))
     ∷ stringsFrom k (getD ends i 0) (drop (getD ends i 0) letters) (drop (i + 1) ends) (drop (w + within k before (getD ends i 0)) weights)
 unfolding stringsFrom
 strings-next k before w i letters ends weights l b =
@@ -162,7 +171,7 @@ strings-next k before w i letters ends weights l b =
     let x : drop (e - before) (drop before letters) ≡ drop e letters = drop-drop (e - before) before letters ∙ ap (λ (y : ℕ). drop y letters) u in
     let z : drop n (drop w weights) ≡ drop (w + n) weights = drop-drop n w weights in
     ap (λ (y : List ℕ). stringsFrom k before (drop before letters) y (drop w weights)) (drop-next ends i 0 l)
-    ∙ (λ y. string (take (e - before) (drop before letters)) (take n (drop w weights)) ∷ stringsFrom k e (x y) (drop (i + 1) ends) (z y))
+    ∙ (λ y. cutString letters before e weights w n ∷ stringsFrom k e (x y) (drop (i + 1) ends) (z y))
 
 none-left : (k before w i : ℕ) (letters ends weights : List ℕ) → length ends ≤ i → linesLeft k letters ends weights i before w ≡ []
 unfolding stringsFrom linesText
@@ -172,8 +181,9 @@ none-left k before w i letters ends weights l =
 module _ {k : ℕ} {letters ends weights : List ℕ} {size total : ℕ} {target out : List ℕ} {before w p i : ℕ} (s : Lining k letters ends weights size total target out before w p i) where
   module _ (l : i < length ends) where
     abbrev here-string : Str
-    here-string = string (take (getD ends i 0 - before) (drop before letters)) (take (within k before (getD ends i 0)) (drop w weights))
+    here-string = cutString letters before (getD ends i 0) weights w (within k before (getD ends i 0))
 
+    -- the next string is there
     pub next-line : Next k (length letters) before (getD ends i 0)
     next-line = next-string (s .left) l
 
@@ -191,11 +201,12 @@ module _ {k : ℕ} {letters ends weights : List ℕ} {size total : ℕ} {target 
     pub weights-there : w + within k before (getD ends i 0) ≤ length weights
     weights-there = omega (arith, rest-counted)
 
-    pub line-room : p + length (stringLine (string (take (getD ends i 0 - before) (drop before letters)) (take (within k before (getD ends i 0)) (drop w weights)))) ≤ length out
+    pub line-room : p + length (stringLine (cutString letters before (getD ends i 0) weights w (within k before (getD ends i 0)))) ≤ length out
     line-room = block-room (stringLine here-string) _ (restated split (s .storing))
 
-    pub lined : 1 ≤ k → {out' : List ℕ} {p' : ℕ} → p' ≡ p + length (stringLine (string (take (getD ends i 0 - before) (drop before letters)) (take (within k before (getD ends i 0)) (drop w weights))))
-        → out' ≡ put p (stringLine (string (take (getD ends i 0 - before) (drop before letters)) (take (within k before (getD ends i 0)) (drop w weights)))) out
+    -- its line is stored
+    pub lined : 1 ≤ k → {out' : List ℕ} {p' : ℕ} → p' ≡ p + length (stringLine (cutString letters before (getD ends i 0) weights w (within k before (getD ends i 0))))
+        → out' ≡ put p (stringLine (cutString letters before (getD ends i 0) weights w (within k before (getD ends i 0)))) out
         → Lining k letters ends weights size total target out' (getD ends i 0) (w + within k before (getD ends i 0)) p' (i + 1)
     lined k1 {out'} {p'} q f =
         let r : List ℕ = linesLeft k letters ends weights (i + 1) (getD ends i 0) (w + within k before (getD ends i 0)) in
@@ -206,6 +217,7 @@ module _ {k : ℕ} {letters ends weights : List ℕ} {size total : ℕ} {target 
           place = omega (arith, s .place, ap length split, length-append (stringLine here-string) r);
         }
 
+  -- all are
   pub lined-all : length ends ≤ i → (p ≡ total) × (out ≡ target)
   lined-all l =
       let z = none-left k before w i letters ends weights l in
@@ -213,6 +225,7 @@ module _ {k : ℕ} {letters ends weights : List ℕ} {size total : ℕ} {target 
 
 -- ─── the sheet ───────────────────────────────────────────────────────────────
 
+-- line 1, then all lines
 module _ (k : ℕ) (letters ends weights out : List ℕ) (room : length (writeText k letters ends weights) ≤ length out) where
   lines : writeText k letters ends weights ≡ headLine k ++ linesText (strings k letters ends weights)
   unfolding writeText

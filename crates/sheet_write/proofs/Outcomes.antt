@@ -13,6 +13,7 @@ use Rattle.sheet_text.specs.Text.{writeText}
 use Rattle.sheet_text.specs.Write.{writeVerdict, writeOutcome, writeOf}
 
 module _ (k : ℕ) (letters ends weights sheet : List ℕ) {v : Verdict} (e : v ≡ writeVerdict k letters ends weights (length sheet)) where
+  -- a refusal leaves the table
   pub write-refused : {number place : ℕ} → v ≡ Bad number place → writeOutcome (answer.Refused number place) sheet ≡ writeOf k letters ends weights sheet
   unfolding writeOf
   write-refused q = refused (λ number place. writeOutcome (answer.Refused number place) sheet) _ (sym e ∙ q)
@@ -25,6 +26,7 @@ module _ (k : ℕ) (letters ends weights sheet : List ℕ) {v : Verdict} (e : v 
         let b = both-good (collectionVerdict k letters ends weights) _ (sym e ∙ q) in
         (b .0, room-good _ _ (b .1))
 
+    -- the stored sheet is what WRITE leaves
     pub write-done : {n : ℕ} {sheet' : List ℕ} → n ≡ length (writeText k letters ends weights) → sheet' ≡ fill (writeText k letters ends weights) sheet → writeOutcome (answer.Written n) sheet' ≡ writeOf k letters ends weights sheet
     unfolding writeOf
     write-done x y = settled (λ number place. writeOutcome (answer.Refused number place) sheet) (λ i. writeOutcome (answer.Written (x i)) (y i)) (sym e ∙ q)

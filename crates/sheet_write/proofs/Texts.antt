@@ -16,7 +16,7 @@ use Rattle.sheet_write.specs.Written.{headLine, stringLine}
 
 -- ─── weights ─────────────────────────────────────────────────────────────────
 
-pub no-weights : weightsText [] ≡ []
+no-weights : weightsText [] ≡ []
 unfolding weightsText
 no-weights = refl
 
@@ -28,10 +28,11 @@ weights-cons w ws = refl
 pub weights-next : (ws : List ℕ) (e i : ℕ) → i < e → e ≤ length ws → weightsText (take (e - i) (drop i ws)) ≡ tab ∷ (digits (getD ws i 0) ++ weightsText (take (e - (i + 1)) (drop (i + 1) ws)))
 weights-next ws e i l h = ap weightsText (take-next ws e i l h) ∙ weights-cons (getD ws i 0) _
 
+-- none is left
 pub weights-end : (ws : List ℕ) (e i : ℕ) → e ≤ i → weightsText (take (e - i) (drop i ws)) ≡ []
 weights-end ws e i l = ap weightsText (take-none ws e i l) ∙ no-weights
 
--- the length of all weights, one weight less
+-- the length of the weights left, with one weight less
 pub weights-count : (ws : List ℕ) (i : ℕ) → i < length ws → length (weightsText (drop i ws)) ≡ 1 + length (digits (getD ws i 0)) + length (weightsText (drop (i + 1) ws))
 weights-count ws i l =
     ap (λ (x : List ℕ). length (weightsText x)) (drop-next ws i 0 l)
@@ -93,5 +94,6 @@ sheet-length {k} {letters} {ends} {weights} j =
     let c : length (weightsText (weightsIn ss)) ≡ length (weightsText weights) = ap (λ (x : List ℕ). length (weightsText x)) (strings-weights weights s n) in
     omega (arith, ap length (sheet-lines k ss), length-append (headLine k) (linesText ss), head-length k, lines-length ss)
 
+-- a judged collection has at most as many weights as it may have letters
 pub few-weights : {k : ℕ} {letters ends weights : List ℕ} → Judged k letters ends weights → length weights ≤ 1048576
 few-weights j = omega (arith, j .counted, j .shape .N-high)

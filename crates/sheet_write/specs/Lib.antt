@@ -1,2 +1,2 @@
--- What WRITE's steps store.
+-- What the contracts of WRITE's inner functions cite.
 pub mod Written

@@ -1,20 +1,21 @@
--- The lines of a sheet with their line feeds, as WRITE stores them.
+-- The lines of a sheet with their line feeds, as the inner functions of WRITE store them; its promise (`sheet_text`, specs/Write) cites `writeText`.
 use mathlib.Core.List.{List, [], _∷_, _++_}
-use Prim.Native.Nat.{ℕ}
-use lib.ListN.{drop}
-use Rattle.collection.specs.Strings.{Str, stringsFrom}
+use Prim.Native.Nat.{ℕ, _-_}
+use lib.ListN.{take, drop}
+use Rattle.collection.specs.Strings.{Str}
 use Rattle.sheet_text.specs.Numbers.{digits}
 use Rattle.sheet_text.specs.Parts.{tab, feed}
-use Rattle.sheet_text.specs.Text.{weightsText, linesText}
+use Rattle.sheet_text.specs.Sheet.{string}
+use Rattle.sheet_text.specs.Text.{weightsText}
 
--- line 1
+-- line 1: `K` (75), tab, k
 unfoldable pub headLine : ℕ → List ℕ
 headLine k = 75 ∷ (tab ∷ (digits k ++ (feed ∷ [])))
 
--- a string's line
+-- the string of the letters from b to e and the n weights from entry w on
+abbrev pub cutString : List ℕ → ℕ → ℕ → List ℕ → ℕ → ℕ → Str
+cutString letters b e weights w n = string (take (e - b) (drop b letters)) (take n (drop w weights))
+
+-- a string's line: `S` (83), tab, letters, weights
 unfoldable pub stringLine : Str → List ℕ
 stringLine s = 83 ∷ (tab ∷ (s .letters ++ (weightsText (s .weights) ++ (feed ∷ []))))
-
--- the text of the strings from string i on, the first of which starts at letter `before` and weight w
-abbrev pub linesLeft : ℕ → List ℕ → List ℕ → List ℕ → ℕ → ℕ → ℕ → List ℕ
-linesLeft k letters ends weights i before w = linesText (stringsFrom k before (drop before letters) (drop i ends) (drop w weights))

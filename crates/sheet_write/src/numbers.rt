@@ -66,7 +66,7 @@ pub(crate) fn put_weights(weights: &[u32], w: usize, n: usize, out: &mut [u8], a
     let mut i = w;
     let mut p = at;
     while i < e {
-        out[p] = 9;
+        out[p] = b'\t';
         p = put_number(weights[i], out, p + 1);
         i += 1;
     }

@@ -1,14 +1,13 @@
 // The sheet of a judged collection: how long it is, and its bytes.
 use crate::numbers;
 ghost use mathlib.Core.Path.{_≡_};
-ghost use Prim.Native.Nat.{_+_, _-_, _*_, _≤_};
-ghost use lib.ListN.{length, take, drop};
+ghost use Prim.Native.Nat.{_+_, _*_, _≤_};
+ghost use lib.ListN.{length};
 ghost use Rattle.lists.specs.Fill.{put, fill};
 ghost use Rattle.collection.specs.Judge.{Passes};
 ghost use Rattle.collection.specs.Strings.{strings};
-ghost use Rattle.sheet_text.specs.Sheet.{string};
 ghost use Rattle.sheet_text.specs.Text.{weightsText, linesText, writeText};
-ghost use Rattle.sheet_write.specs.Written.{headLine, stringLine};
+ghost use Rattle.sheet_write.specs.Written.{headLine, cutString, stringLine};
 
 // How many bytes all weights take, each with its tab.
 fn weights_length(weights: &[u32]) -> usize
@@ -33,19 +32,19 @@ pub(crate) fn sheet_length(k: usize, letters: &[u8], ends: &[u32], weights: &[u3
     head + 3 * ends.len() + letters.len() + weights_length(weights)
 }
 
-// Line 1.
+// Line 1; answers where it ends.
 fn put_head(k: usize, out: &mut [u8]) -> usize
     requires { ⌜ (k ≤ 31) × (length (headLine k) ≤ length (now out)) ⌝ }
     ensures { λ r. ⌜ (r ≡ length (headLine k)) × (now (out .exit) ≡ put 0 (headLine k) (now (out .entry))) ⌝ }
 {
     out[0] = b'K';
-    out[1] = 9;
+    out[1] = b'\t';
     let p = numbers::put_number(k as u32, out, 2);
-    out[p] = 10;
+    out[p] = b'\n';
     p + 1
 }
 
-// The line of a string: its letters from b to e, and its n weights from entry w on.
+// The line of a string from a place on: its letters from b to e, and its n weights from entry w on. Answers where it ends.
 fn put_string(
     letters: &[u8],
     b: usize,
@@ -57,18 +56,18 @@ fn put_string(
     at: usize,
 ) -> usize
     requires { ⌜ (b ≤ e) × (e ≤ length (now letters)) × (w + n ≤ length (now weights)) ⌝ }
-    requires { ⌜ at + length (stringLine (string (take (e - b) (drop b (now letters))) (take n (drop w (now weights))))) ≤ length (now out) ⌝ }
-    ensures { λ r. ⌜ (r ≡ at + length (stringLine (string (take (e - b) (drop b (now (letters .entry)))) (take n (drop w (now (weights .entry))))))) × (now (out .exit) ≡ put at (stringLine (string (take (e - b) (drop b (now (letters .entry)))) (take n (drop w (now (weights .entry)))))) (now (out .entry))) ⌝ }
+    requires { ⌜ at + length (stringLine (cutString (now letters) b e (now weights) w n)) ≤ length (now out) ⌝ }
+    ensures { λ r. ⌜ (r ≡ at + length (stringLine (cutString (now (letters .entry)) b e (now (weights .entry)) w n))) × (now (out .exit) ≡ put at (stringLine (cutString (now (letters .entry)) b e (now (weights .entry)) w n)) (now (out .entry))) ⌝ }
 {
     out[at] = b'S';
-    out[at + 1] = 9;
+    out[at + 1] = b'\t';
     sheet_lines::inner::copy_bytes(letters, b, e, out, at + 2);
     let p = numbers::put_weights(weights, w, n, out, at + 2 + (e - b));
-    out[p] = 10;
+    out[p] = b'\n';
     p + 1
 }
 
-// The lines of all strings, from a place on.
+// The lines of all strings, from a place on; answers where they end.
 fn put_lines(
     k: usize,
     letters: &[u8],

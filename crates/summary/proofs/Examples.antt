@@ -51,6 +51,7 @@ text =
     ++ ((100 ∷ 105 ∷ 115 ∷ 116 ∷ 105 ∷ 110 ∷ 99 ∷ 116 ∷ 9 ∷ 52 ∷ 10 ∷ [])
     ++ ((98 ∷ 105 ∷ 116 ∷ 115 ∷ 9 ∷ 49 ∷ 50 ∷ 10 ∷ [])))))))))
 
+-- the sheet gives them
 pub sheet-text : textOf sheet ≡ text
 unfolding textOf textFor countedText lines line entry digits digitsIn
 sheet-text = ap textFor sheet-summary

@@ -1,11 +1,9 @@
 -- A sheet of at most 8,192 bytes fits the tables, and the number of paths is at most that of strings. Assumes nothing.
 use mathlib.Core.Path.{refl, ap}
-use mathlib.Core.Logic.{_⊎_, inl, inr}
 use mathlib.Core.List.{List, [], _∷_}
-use Prim.Native.Nat.{ℕ, _+_, _*_, _<_, _≤_}
+use Prim.Native.Nat.{ℕ, _+_, _*_, _≤_}
 use native.Mathlib.Omega.{arith}
 use lib.ListN.{length, length-append}
-use Rattle.lists.proofs.Compare.{lt-or-le}
 use Rattle.collection.specs.Strings.{Str, lettersIn, weightsIn}
 use Rattle.sheet_text.specs.Numbers.{digits}
 use Rattle.sheet_text.specs.Parts.{tab, feed}
@@ -13,22 +11,15 @@ use Rattle.sheet_text.specs.Read.{sheetN, sheetM, sheetWeights}
 use Rattle.sheet_text.specs.Sheet.{sheetK, sheetStrings, Accepted}
 use Rattle.sheet_text.specs.Text.{weightsText, stringText, linesText, sheetText}
 use Rattle.sheet_text.proofs.Accepted.{accepted-text}
+use Rattle.sheet_text.proofs.Digits.{digits-some}
 use Rattle.trails.specs.Groups.{least}
 use Rattle.trails.specs.Places.{arranged}
 use Rattle.trails.specs.Strings.{Ends, turned}
 use Rattle.trails.proofs.Amounts.{paths-few}
 use Rattle.trails.proofs.Arranged.{length-arranged}
 use Rattle.trails.proofs.Bounds.{one-reaches}
-use Rattle.sheet_write.proofs.Decimals.{count-one, count-more}
 
 -- ─── how much a sheet holds ──────────────────────────────────────────────────
-
-digits-some : (n : ℕ) → 1 ≤ length (digits n)
-digits-some n = go (lt-or-le n 10)
-  where
-    go : (n < 10) ⊎ (10 ≤ n) → 1 ≤ length (digits n)
-    go (inl l) = omega (arith, count-one n l)
-    go (inr l) = omega (arith, count-more n l)
 
 -- each weight takes a tab and a digit, at least
 weights-size : (ws : List ℕ) → 2 * length ws ≤ length (weightsText ws)

@@ -10,11 +10,11 @@ use Rattle.collection.specs.declared.Verdict.{Verdict}
 use Rattle.collection.specs.declared.Verdict.the-variants.{Good, Bad}
 use Rattle.collection.specs.Verdict.{settle, roomVerdict}
 use Rattle.collection.proofs.Verdicts.{room-good, settled}
+use Rattle.sheet_text.proofs.Calls.{good-room}
 use Rattle.summary_text.specs.declared.ReportAnswer.{ReportAnswer}
 use Rattle.summary_text.specs.declared.ReportAnswer.the-variants.{Written, Refused}
 use Rattle.summary_text.specs.Written.{Outcome, outcome, writtenOf}
 use Rattle.summary.specs.Report.{textOf, reportOf}
-use Rattle.summary.proofs.Told.{good-room}
 
 -- where it is written, the table starts with the text of the sheet
 pub report-writes : (bs text : List ℕ) {answer : ReportAnswer} {n : ℕ} {text' : List ℕ} → outcome answer text' ≡ reportOf bs text → answer ≡ Written n → (n ≤ length text') × (take n text' ≡ textOf bs)
@@ -33,7 +33,7 @@ report-writes bs text {n = n} {text' = text'} e f = go (roomVerdict (length text
     go (Bad number place) h q =
         let a : Written n ≡ Refused number place = ap (λ (o : Outcome). o .answer) q in
         let z : _≡_ {A = ℕ} 0 1 = cc in
-        absurd (let w : ⊥ = omega arith in w)
+        absurd (omega arith)
 
 -- where the text has room, it is written
 pub report-enough : (bs text : List ℕ) {answer : ReportAnswer} {text' : List ℕ} → outcome answer text' ≡ reportOf bs text → length (textOf bs) ≤ length text → answer ≡ Written (length (textOf bs))

@@ -3,7 +3,7 @@ use mathlib.Core.Path.{_≡_, refl, sym, ap, ap₂, subst, _∙_}
 use mathlib.Core.List.{List}
 use Prim.Native.Nat.{ℕ, _+_, _-_, _*_, _<_, _≤_}
 use native.Mathlib.Omega.{arith}
-use borrow.Author.Tests.{le-ltb, le-leb, lt-leb}
+use borrow.Author.Tests.{le-leb, lt-leb}
 use lib.IntN.{ℤ}
 use lib.ListN.{length, take}
 use Rattle.lists.specs.Choose.{choose}
@@ -14,7 +14,7 @@ use Rattle.collection.specs.declared.Verdict.{Verdict}
 use Rattle.collection.specs.declared.Verdict.the-variants.{Good, Bad}
 use Rattle.collection.specs.Judge.{Passes, sizeVerdict, kmerCount, collectionVerdict}
 use Rattle.collection.specs.Strings.{lettersIn, endsIn, weightsIn}
-use Rattle.collection.specs.Verdict.{andThen, atPlace, settle, roomVerdict}
+use Rattle.collection.specs.Verdict.{andThen, atPlace, settle}
 use Rattle.collection.proofs.Judged.{Judged, collection-good, shape-long}
 use Rattle.collection.proofs.Kmers.{kmers-counted}
 use Rattle.collection.proofs.Strings.{ends-length}
@@ -23,7 +23,7 @@ use Rattle.sheet_text.specs.declared.ReadAnswer.{ReadAnswer}
 use Rattle.sheet_text.specs.declared.ReadAnswer.the-variants as read
 use Rattle.sheet_text.specs.Read.{sheetN, sheetM, sheetWeights, tablesVerdict, readVerdict, ReadOutcome, readOutcome, readOf}
 use Rattle.sheet_text.specs.Sheet.{sheetK, sheetStrings, sheetVerdict, Accepted}
-use Rattle.sheet_text.proofs.Calls.{ReadDone, read-done, read-passes, takes-read}
+use Rattle.sheet_text.proofs.Calls.{good-room, ReadDone, read-done, read-passes, takes-read}
 use Rattle.repeats.specs.declared.CheckAnswer.{CheckAnswer}
 use Rattle.repeats.specs.declared.CheckAnswer.the-variants as check
 use Rattle.repeats.specs.Check.{firstRepeat, checkVerdict, checkOf, Outcome, outcome}
@@ -35,20 +35,18 @@ use Rattle.cover.specs.declared.CoverAnswer.the-variants as cover
 use Rattle.cover.specs.Cover.{coverVerdict, Promise}
 use Rattle.cover.proofs.Laws.{cover-answers, ends-count}
 use Rattle.runs.specs.Runs.{runCount}
-use Rattle.counts.specs.Counts.{distinct, bitsOf, innerFrom, Weighed}
+use Rattle.counts.specs.Counts.{distinct, bitsOf}
+use Rattle.counts.specs.Inner.{innerFrom, Weighed}
 use Rattle.counts.proofs.Inside.{inner-runs}
 use Rattle.summary_text.specs.declared.Summary.{Summary}
 use Rattle.summary_text.specs.declared.Summary.the-variants.{Counted, Refused}
-use Rattle.summary.specs.Report.{Ample}
-use Rattle.summary.specs.Summary.{numbersOf, numbersFrom, checkedOf, longVerdict, linesVerdict, summaryOf}
+use Rattle.summary.specs.Inner.{numbersFrom, Ample}
+use Rattle.summary.specs.Summary.{numbersOf, checkedOf, longVerdict, linesVerdict, summaryOf}
 use Rattle.summary.proofs.Fits.{sheet-size, least-few}
-
-pub good-room : {have need : ℕ} → need ≤ have → roomVerdict have need ≡ Good
-unfolding roomVerdict
-good-room {have} {need} h = ap (λ t. choose t (Bad 1 0) Good) (le-ltb have need h)
 
 -- ─── the numbers ─────────────────────────────────────────────────────────────
 
+-- each number is what its function counted
 pub counted-from : (k : ℕ) (ends weights : List ℕ) (paths : ℕ) {total inner given different bits : ℕ}
     → total ≡ sum weights → inner ≡ innerFrom k 0 ends weights → given ≡ runCount weights → different ≡ distinct weights → bits ≡ bitsOf weights
     → Counted (length ends) (length weights) total inner given paths (inner - length ends + paths) different bits ≡ numbersFrom k ends weights paths
@@ -67,6 +65,7 @@ module _ (k : ℕ) (letters ends weights : List ℕ) (passes : Passes k letters 
   judged : Judged k letters ends weights
   judged = collection-good k letters ends weights passes
 
+  -- what the counting functions ask
   pub weighed : Weighed weights
   weighed = record { few = omega (arith, judged .counted, judged .shape .N-high); in-range = judged .all-weights }
 
@@ -119,14 +118,17 @@ module _ (k : ℕ) (letters ends weights : List ℕ) (passes : Passes k letters 
       paths-least : paths ≡ least (endWeights k letters ends weights)
       paths-least = let h = covered in cc
 
+      -- as few as the strings, so that no number wraps
       pub paths-low : paths ≤ length ends
       paths-low = omega (arith, paths-least, least-few (endWeights k letters ends weights), ends-count k letters ends weights)
 
+      -- the numbers from these paths are those of the collection
       pub numbers-told : {s : Summary} → s ≡ numbersFrom k ends weights paths → s ≡ numbersOf k letters ends weights
       numbers-told r = r ∙ numbers-are k letters ends weights paths-least
 
 -- ─── a sheet ─────────────────────────────────────────────────────────────────
 
+-- too many bytes
 pub too-long : (bs : List ℕ) → 8192 < length bs → Refused 3 0 ≡ summaryOf bs
 unfolding summaryOf longVerdict
 too-long bs l = refused Refused _ (then-bad _ (ap (λ t. choose t Good (Bad 3 0)) (lt-leb (length bs) 8192 l)))
@@ -136,13 +138,14 @@ module _ (bs letters ends weights : List ℕ) (places work : ℕ) (l : length bs
   unfolding longVerdict
   short = ap (λ t. choose t Good (Bad 3 0)) (le-leb (length bs) 8192 l)
 
+  -- the tables have room for what a sheet of so few bytes holds
   roomy : Accepted bs → tablesVerdict (length letters) (length ends) (length weights) bs ≡ Good
   unfolding tablesVerdict
   roomy h =
       let s = sheet-size bs h in
       then-good _ (good-room (omega (arith, r .letters-room))) (then-good _ (good-room (omega (arith, r .ends-room))) (good-room (omega (arith, r .weights-room))))
 
-  -- READ's verdict is without 1
+  -- so READ never refuses by 1
   read-judges : readVerdict bs (length letters) (length ends) (length weights) ≡ andThen (longVerdict bs) (linesVerdict bs)
   unfolding readVerdict linesVerdict andThen
   read-judges = go (sheetVerdict bs) refl (sizeVerdict (sheetN bs) (sheetM bs)) ∙ sym (ap (λ (v : Verdict). andThen v (andThen (sheetVerdict bs) (sizeVerdict (sheetN bs) (sheetM bs)))) short)
@@ -229,6 +232,7 @@ module _ (bs letters ends weights : List ℕ) (places work : ℕ) (l : length bs
           let y : length (take w weights') ≡ sheetWeights bs = ap length weights-read in
           (omega (arith, r .places-room), omega (arith, r .work-room), omega (arith, r .work-room))
 
+      -- what is told of the collection is told of the sheet
       pub read-told : {s : Summary} → s ≡ checkedOf k (take n letters') (take m ends') (take w weights') → s ≡ summaryOf bs
       unfolding summaryOf
       read-told t = t ∙ ((λ i. checkedOf (done .k-is i) (letters-read i) (ends-read i) (weights-read i)) ∙ settled Refused refl (sym read-judges ∙ verdict))

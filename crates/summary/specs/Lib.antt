@@ -1,3 +1,4 @@
 -- What `tally` says of a sheet.
 pub mod Summary
 pub mod Report
+pub mod Inner

@@ -1,6 +1,6 @@
 -- What `tally` writes: the bytes of its summary.
 use mathlib.Core.List.{List}
-use Prim.Native.Nat.{ℕ, _≤_}
+use Prim.Native.Nat.{ℕ}
 use Rattle.summary_text.specs.Text.{textFor}
 use Rattle.summary_text.specs.Written.{Outcome, writtenOf}
 use Rattle.summary.specs.Summary.{summaryOf}
@@ -9,14 +9,6 @@ use Rattle.summary.specs.Summary.{summaryOf}
 unfoldable pub textOf : List ℕ → List ℕ
 textOf bs = textFor (summaryOf bs)
 
--- what a report does with a lent table
+-- what a report does with a lent table: 1 where it is too short for these bytes, else it starts with them
 unfoldable pub reportOf : List ℕ → List ℕ → Outcome
 reportOf bs text = writtenOf (textOf bs) text
-
--- the tables that hold every sheet of at most 8,192 bytes
-pub record Ample (letters ends weights places work : ℕ) : Type 0 where
-  pub letters-room : 8192 ≤ letters
-  pub ends-room : 4096 ≤ ends
-  pub weights-room : 4096 ≤ weights
-  pub places-room : 4096 ≤ places
-  pub work-room : 65536 ≤ work

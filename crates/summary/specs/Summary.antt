@@ -1,6 +1,6 @@
 -- What `tally` says of a sheet: the refusal that comes first, or nine numbers of its collection.
 use mathlib.Core.List.{List}
-use Prim.Native.Nat.{ℕ, _+_, _-_}
+use Prim.Native.Nat.{ℕ}
 use lib.Dec.{leb}
 use lib.ListN.{length}
 use Rattle.lists.specs.Choose.{choose}
@@ -17,7 +17,7 @@ use Rattle.trails.specs.Groups.{least}
 use Rattle.vertices.specs.EndWeights.{endWeights}
 use Rattle.runs.specs.Runs.{runCount, innerRuns}
 use Rattle.fewest.specs.Fewest.{leastRuns}
-use Rattle.counts.specs.Counts.{distinct, bitsOf, innerFrom}
+use Rattle.counts.specs.Counts.{distinct, bitsOf}
 use Rattle.summary_text.specs.declared.Summary.{Summary}
 use Rattle.summary_text.specs.declared.Summary.the-variants.{Counted, Refused}
 
@@ -28,12 +28,6 @@ unfoldable pub numbersOf : ℕ → List ℕ → List ℕ → List ℕ → Summar
 numbersOf k letters ends weights =
     Counted (length ends) (length weights) (sum weights) (innerRuns k letters ends weights) (runCount weights) (least (endWeights k letters ends weights))
     (leastRuns k letters ends weights) (distinct weights) (bitsOf weights)
-
--- the same from ends, weights and the number of paths
-unfoldable pub numbersFrom : ℕ → List ℕ → List ℕ → ℕ → Summary
-numbersFrom k ends weights paths =
-    Counted (length ends) (length weights) (sum weights) (innerFrom k 0 ends weights) (runCount weights) paths (innerFrom k 0 ends weights - length ends + paths)
-    (distinct weights) (bitsOf weights)
 
 -- a judged collection: 7 at the first repeated word, or its numbers
 unfoldable pub checkedOf : ℕ → List ℕ → List ℕ → List ℕ → Summary

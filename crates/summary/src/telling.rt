@@ -8,11 +8,11 @@ ghost use Prim.Native.Nat.{_*_, _≤_};
 ghost use lib.ListN.{length};
 ghost use Rattle.collection.specs.Judge.{Passes};
 ghost use Rattle.vertices.specs.Promises.{Strung};
-ghost use Rattle.counts.specs.Counts.{Weighed};
-ghost use Rattle.summary.specs.Summary.{numbersFrom, checkedOf, summaryOf};
-ghost use Rattle.summary.specs.Report.{Ample};
+ghost use Rattle.counts.specs.Inner.{Weighed};
+ghost use Rattle.summary.specs.Summary.{checkedOf, summaryOf};
+ghost use Rattle.summary.specs.Inner.{numbersFrom, Ample};
 
-// The numbers of a collection that has so many paths.
+// The numbers of a collection, of which the least number of paths is known.
 fn count_all(k: usize, ends: &[u32], weights: &[u32], paths: usize, work: &mut [u32]) -> Summary
     requires { ⌜ Strung k (now ends) (now weights) × Weighed (now weights) ⌝ }
     requires { ⌜ (paths ≤ length (now ends)) × (3 * length (now weights) ≤ length (now work)) ⌝ }

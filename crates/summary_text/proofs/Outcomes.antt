@@ -19,13 +19,16 @@ module _ (bytes text : List ℕ) {n : ℕ} (e : n ≡ length bytes) {v : Verdict
   verdict : v ≡ roomVerdict (length text) (length bytes)
   verdict = judged ∙ ap (roomVerdict (length text)) e
 
+  -- no room: the table stays
   pub written-refused : {number place : ℕ} → v ≡ Bad number place → outcome (answer.Refused number place) text ≡ writtenOf bytes text
   unfolding writtenOf
   written-refused q = refused (λ number place. outcome (answer.Refused number place) text) _ (sym verdict ∙ q)
 
+  -- room
   pub written-room : v ≡ Good → length bytes ≤ length text
   written-room q = room-good _ _ (sym verdict ∙ q)
 
+  -- the stored bytes are what writing leaves
   pub written-done : v ≡ Good → {p : ℕ} {text' : List ℕ} → p ≡ length bytes → text' ≡ fill bytes text → outcome (answer.Written p) text' ≡ writtenOf bytes text
   unfolding writtenOf
   written-done q x y = settled (λ number place. outcome (answer.Refused number place) text) (λ i. outcome (answer.Written (x i)) (y i)) (sym verdict ∙ q)
@@ -39,6 +42,7 @@ text-refused : {s : Summary} {number number' place : ℕ} → s ≡ Refused numb
 unfolding textFor
 text-refused {place = place} q n = ap textFor q ∙ ap (λ (x : ℕ). refusedText x place) (sym n)
 
+-- what is promised of the text is promised of the summary
 module _ (text : List ℕ) {s : Summary} {o : Outcome} {most : ℕ} where
   pub of-counted : {a b c d e f g h i : ℕ} → s ≡ Counted a b c d e f g h i → (o ≡ writtenOf (countedText a b c d e f g h i) text) × (length (countedText a b c d e f g h i) ≤ most)
       → (o ≡ writtenOf (textFor s) text) × (length (textFor s) ≤ most)

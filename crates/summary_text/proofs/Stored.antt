@@ -15,11 +15,11 @@ use Rattle.summary_text.specs.Text.{entry, line, lines, stringsLabel, km
 
 -- ─── how long ────────────────────────────────────────────────────────────────
 
-pub entry-length : (label : List ℕ) (n : ℕ) → length (entry label n) ≡ length label + 1 + length (digits n)
+entry-length : (label : List ℕ) (n : ℕ) → length (entry label n) ≡ length label + 1 + length (digits n)
 unfolding entry
 entry-length label n = omega (arith, length-append label (tab ∷ digits n))
 
-pub line-length : (label : List ℕ) (n : ℕ) → length (line label n) ≡ length label + 2 + length (digits n)
+line-length : (label : List ℕ) (n : ℕ) → length (line label n) ≡ length label + 2 + length (digits n)
 unfolding line
 line-length label n = omega (arith, length-append (entry label n) (feed ∷ []), entry-length label n)
 
@@ -47,21 +47,22 @@ module _ (l₁ : List ℕ) (n₁ : ℕ) (l₂ : List ℕ) (n₂ : ℕ) (l₃ : L
   three-length = omega (arith, three-lines, line-length l₁ n₁, line-length l₂ n₂, line-length l₃ n₃)
 
 module _ (strings kmers total inner given paths least distinct bits : ℕ) where
-  abbrev some : List (List ℕ × ℕ)
-  some = three stringsLabel strings kmersLabel kmers totalLabel total
+  abbrev first-three : List (List ℕ × ℕ)
+  first-three = three stringsLabel strings kmersLabel kmers totalLabel total
 
-  abbrev more : List (List ℕ × ℕ)
-  more = three innerLabel inner givenLabel given pathsLabel paths
+  abbrev next-three : List (List ℕ × ℕ)
+  next-three = three innerLabel inner givenLabel given pathsLabel paths
 
-  abbrev last : List (List ℕ × ℕ)
-  last = three leastLabel least distinctLabel distinct bitsLabel bits
+  abbrev last-three : List (List ℕ × ℕ)
+  last-three = three leastLabel least distinctLabel distinct bitsLabel bits
 
-  nine-parts : countedText strings kmers total inner given paths least distinct bits ≡ lines some ++ (lines more ++ lines last)
+  -- the nine lines are three times three
+  nine-parts : countedText strings kmers total inner given paths least distinct bits ≡ lines first-three ++ (lines next-three ++ lines last-three)
   unfolding countedText
-  nine-parts = lines-append some (more ++ last) ∙ ap (λ (r : List ℕ). lines some ++ r) (lines-append more last)
+  nine-parts = lines-append first-three (next-three ++ last-three) ∙ ap (λ (r : List ℕ). lines first-three ++ r) (lines-append next-three last-three)
 
-  nine-lines : length (countedText strings kmers total inner given paths least distinct bits) ≡ length (lines some) + (length (lines more) + length (lines last))
-  nine-lines = omega (arith, ap length nine-parts, length-append (lines some) (lines more ++ lines last), length-append (lines more) (lines last))
+  nine-lines : length (countedText strings kmers total inner given paths least distinct bits) ≡ length (lines first-three) + (length (lines next-three) + length (lines last-three))
+  nine-lines = omega (arith, ap length nine-parts, length-append (lines first-three) (lines next-three ++ lines last-three), length-append (lines next-three) (lines last-three))
 
   -- the nine labels have 49 letters
   pub counted-length : {a b c : ℕ} → a ≡ length (digits strings) + length (digits kmers) + length (digits total) + 6
@@ -86,6 +87,7 @@ module _ (label : List ℕ) (n at : ℕ) (out : List ℕ) (room : at + length (e
   unfolding entry
   entry-begun = begin-at at out (entry label n) room
 
+  -- the label fits, then the tab, then the number
   pub label-room : at + (length label - 0) ≤ length out
   label-room = omega (arith, entry-length label n)
 
@@ -99,9 +101,11 @@ module _ (label : List ℕ) (n at : ℕ) (out : List ℕ) (room : at + length (e
     pub digits-room : at + length label + 1 + length (digits n) ≤ length (set out₁ (at + length label) tab)
     digits-room = store labelled .room
 
+    -- the table keeps its length
     pub entry-size : {out₂ : List ℕ} → out₂ ≡ put (at + length label + 1) (digits n) (set out₁ (at + length label) tab) → length out₂ ≡ length out
     entry-size g = ap length g ∙ (put-only (at + length label + 1) (digits n) (set out₁ (at + length label) tab) digits-room .size ∙ store labelled .size-kept)
 
+    -- label, tab and number are the entry
     pub entry-end : {p : ℕ} {out₂ : List ℕ} → p ≡ at + length label + 1 + length (digits n) → out₂ ≡ put (at + length label + 1) (digits n) (set out₁ (at + length label) tab)
         → (p ≡ at + length (entry label n)) × (out₂ ≡ put at (entry label n) out)
     entry-end q g = (omega (arith, q, entry-length label n), g ∙ store labelled .ends)
@@ -113,6 +117,7 @@ module _ (label : List ℕ) (n at : ℕ) (out : List ℕ) (room : at + length (l
   unfolding line
   line-begun = begin-at at out (line label n) room
 
+  -- the entry fits, then the line feed
   pub entry-room : at + length (entry label n) ≤ length out
   entry-room = block-room (entry label n) (feed ∷ []) line-begun
 
@@ -123,16 +128,18 @@ module _ (label : List ℕ) (n at : ℕ) (out : List ℕ) (room : at + length (l
     pub feed-inside : p < length out₁
     feed-inside = inside ended
 
+    -- they are the line
     pub line-end : (p + 1 ≡ at + length (line label n)) × (set out₁ p feed ≡ put at (line label n) out)
     line-end = (omega (arith, q, entry-length label n, line-length label n), stored (store ended))
 
--- ─── three lines ─────────────────────────────────────────────────────────────
+-- ─── lines ───────────────────────────────────────────────────────────────────
 
 -- the lines ls are still to be stored, from p on, and end at `total`
 pub record Lining (size total : ℕ) (target : List ℕ) (ls : List (List ℕ × ℕ)) (out : List ℕ) (p : ℕ) : Type 0 where
   pub storing : Storing size out target (lines ls) p
   pub place : p + length (lines ls) ≡ total
 
+-- none is stored
 pub lining : (ls : List (List ℕ × ℕ)) (at : ℕ) (out : List ℕ) → at + length (lines ls) ≤ length out → Lining (length out) (at + length (lines ls)) (put at (lines ls) out) ls out at
 lining ls at out h = record { storing = begin-at at out (lines ls) h; place = refl }
 
@@ -144,14 +151,16 @@ module _ {size total : ℕ} {target : List ℕ} {label : List ℕ} {n : ℕ} {ls
   pub line-room : p + length (line label n) ≤ length out
   line-room = block-room (line label n) (lines ls) here
 
+  -- the first one is
   pub lined : {p' : ℕ} {out' : List ℕ} → p' ≡ p + length (line label n) → out' ≡ put p (line label n) out → Lining size total target ls out' p'
   lined q f = record { storing = store-block (line label n) (lines ls) here f q; place = omega (arith, q, s .place, lines-more label n ls) }
 
+-- all are
 pub lined-all : {size total : ℕ} {target out : List ℕ} {p : ℕ} → Lining size total target [] out p → (p ≡ total) × (out ≡ target)
 unfolding lines
 lined-all s = (omega (arith, s .place, lines-none), stored (s .storing))
 
--- ─── the whole text ──────────────────────────────────────────────────────────
+-- ─── nine lines ──────────────────────────────────────────────────────────────
 
 module _ (strings kmers total inner given paths least distinct bits : ℕ) (text : List ℕ) (room : length (countedText strings kmers total inner given paths least distinct bits) ≤ length text) where
   abbrev target : List ℕ
@@ -169,32 +178,37 @@ module _ (strings kmers total inner given paths least distinct bits : ℕ) (text
   counted-begun : Storing (length text) text target (first-lines ++ (next-lines ++ last-lines)) 0
   counted-begun = restated (nine-parts strings kmers total inner given paths least distinct bits) (begin text (countedText strings kmers total inner given paths least distinct bits) room)
 
-  pub some-room : 0 + length first-lines ≤ length text
-  some-room = block-room first-lines (next-lines ++ last-lines) counted-begun
+  -- each three of them fit
+  pub first-room : 0 + length first-lines ≤ length text
+  first-room = block-room first-lines (next-lines ++ last-lines) counted-begun
 
   module _ {p₁ : ℕ} {text₁ : List ℕ} (q₁ : p₁ ≡ 0 + length first-lines) (f₁ : text₁ ≡ put 0 first-lines text) where
-    some-stored : Storing (length text) text₁ target (next-lines ++ last-lines) p₁
-    some-stored = store-block first-lines (next-lines ++ last-lines) counted-begun f₁ q₁
+    first-stored : Storing (length text) text₁ target (next-lines ++ last-lines) p₁
+    first-stored = store-block first-lines (next-lines ++ last-lines) counted-begun f₁ q₁
 
-    pub more-room : p₁ + length next-lines ≤ length text₁
-    more-room = block-room next-lines last-lines some-stored
+    pub next-room : p₁ + length next-lines ≤ length text₁
+    next-room = block-room next-lines last-lines first-stored
 
     module _ {p₂ : ℕ} {text₂ : List ℕ} (q₂ : p₂ ≡ p₁ + length next-lines) (f₂ : text₂ ≡ put p₁ next-lines text₁) where
-      more-stored : Storing (length text) text₂ target last-lines p₂
-      more-stored = store-block next-lines last-lines some-stored f₂ q₂
+      next-stored : Storing (length text) text₂ target last-lines p₂
+      next-stored = store-block next-lines last-lines first-stored f₂ q₂
 
       pub last-room : p₂ + length last-lines ≤ length text₂
-      last-room = more-stored .room
+      last-room = next-stored .room
 
+      -- all nine are the text
       pub counted-end : {p₃ : ℕ} {text₃ : List ℕ} → p₃ ≡ p₂ + length last-lines → text₃ ≡ put p₂ last-lines text₂
           → (p₃ ≡ length (countedText strings kmers total inner given paths least distinct bits)) × (text₃ ≡ target)
-      counted-end q₃ f₃ = (omega (arith, q₁, q₂, q₃, nine-lines strings kmers total inner given paths least distinct bits), f₃ ∙ more-stored .ends)
+      counted-end q₃ f₃ = (omega (arith, q₁, q₂, q₃, nine-lines strings kmers total inner given paths least distinct bits), f₃ ∙ next-stored .ends)
+
+-- ─── a refusal ───────────────────────────────────────────────────────────────
 
 module _ (number place : ℕ) (text : List ℕ) (room : length (refusedText number place) ≤ length text) where
   refused-begun : Storing (length text) text (fill (refusedText number place) text) (entry refusedLabel number ++ line [] place) 0
   unfolding refusedText
   refused-begun = begin text (refusedText number place) room
 
+  -- the number fits, then the place
   pub number-room : 0 + length (entry refusedLabel number) ≤ length text
   number-room = block-room (entry refusedLabel number) (line [] place) refused-begun
 
@@ -205,6 +219,7 @@ module _ (number place : ℕ) (text : List ℕ) (room : length (refusedText numb
     pub place-room : p + length (line [] place) ≤ length text₁
     place-room = number-stored .room
 
+    -- they are the text of a refusal
     pub refused-end : {p' : ℕ} {text₂ : List ℕ} → p' ≡ p + length (line [] place) → text₂ ≡ put p (line [] place) text₁
         → (p' ≡ length (refusedText number place)) × (text₂ ≡ fill (refusedText number place) text)
     unfolding refusedText

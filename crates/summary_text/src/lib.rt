@@ -11,7 +11,7 @@ ghost use Rattle.sheet_text.specs.Numbers.{digits};
 ghost use Rattle.summary_text.specs.Text.{countedText, refusedText, textFor};
 ghost use Rattle.summary_text.specs.Written.{outcome, writtenOf};
 
-// What there is to say of a sheet.
+// What there is to say of a sheet: nine numbers of its collection, or why it is refused.
 pub enum Summary {
     Counted {
         strings: usize,
@@ -30,7 +30,7 @@ pub enum Summary {
     },
 }
 
-// What a report answers: how many bytes it wrote.
+// What a report answers: how many bytes it wrote; or a refusal, where the table is too short.
 pub enum ReportAnswer {
     Written { bytes: usize },
     Refused { number: u32, place: usize },
@@ -150,7 +150,7 @@ fn write_refused(number: usize, place: usize, text: &mut [u8]) -> ReportAnswer
     ReportAnswer::Written { bytes: n }
 }
 
-// The number of a refusal as an index.
+// The number of a refusal, as wide as its place.
 fn wide(x: u32) -> usize
     ensures { λ r. ⌜ r ≡ x ⌝ }
 {

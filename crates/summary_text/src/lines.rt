@@ -14,21 +14,21 @@ pub(crate) fn put_entry(label: &[u8], n: usize, out: &mut [u8], at: usize) -> us
 {
     sheet_lines::inner::copy_bytes(label, 0, label.len(), out, at);
     let e = at + label.len();
-    out[e] = 9;
+    out[e] = b'\t';
     numbers::put_number(n, out, e + 1)
 }
 
-// The same as a line.
+// The same as a line, with its line feed.
 pub(crate) fn put_line(label: &[u8], n: usize, out: &mut [u8], at: usize) -> usize
     requires { ⌜ at + length (line (now label) n) ≤ length (now out) ⌝ }
     ensures { λ r. ⌜ (r ≡ at + length (line (now (label .entry)) n)) × (now (out .exit) ≡ put at (line (now (label .entry)) n) (now (out .entry))) ⌝ }
 {
     let e = put_entry(label, n, out, at);
-    out[e] = 10;
+    out[e] = b'\n';
     e + 1
 }
 
-// Three lines.
+// Three lines, from a place on; answers where they end.
 pub(crate) fn put_lines(
     label1: &[u8],
     n1: usize,

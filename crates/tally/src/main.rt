@@ -3,7 +3,8 @@ use libc::STDIN_FILENO;
 use libc::STDOUT_FILENO;
 use summary_text::ReportAnswer;
 
-// A report takes at most 247 bytes, so that it always has room.
+// Writes the report of a sheet. It takes at most 247 bytes, so that it always has room (`report-enough` of `summary`): the early way
+// out is never taken.
 fn tell(sheet: &[u8]) {
     let mut text = [0u8; 256];
     let answer = summary::report(sheet, &mut text);

@@ -5,7 +5,7 @@ use summary_text::ReportAnswer;
 ghost use Prim.Native.Nat.{_<_, _≤_};
 ghost use lib.ListN.{length};
 
-// The report of one sheet, which takes at most 247 bytes.
+// Writes the report of one sheet, as `tally` does, and an empty line.
 fn tell(sheet: &[u8]) {
     let mut text = [0u8; 256];
     let answer = summary::report(sheet, &mut text);

@@ -1,5 +1,5 @@
 -- `put_counted` meets its contract: three times three lines. Assumes nothing.
-use Rattle.summary_text.proofs.Stored.{some-room, more-room, last-room, counted-end}
+use Rattle.summary_text.proofs.Stored.{first-room, next-room, last-room, counted-end}
 use borrow.Author.Needs.{needs}
 use Rattle.summary_text.proofs.put_counted.Statement.{statement}
 use Rattle.summary_text.proofs.put_counted.Tie as tie
@@ -16,7 +16,7 @@ slice-aggregate-put-lines-3 c = search needs
 put-lines-requires : tie.Need-put-lines-requires
 put-lines-requires c κs =
     let g = c .before .before .before .before .before in
-    some-room _ _ _ _ _ _ _ _ _ (g .args .text .now) (g .pre)
+    first-room _ _ _ _ _ _ _ _ _ (g .args .text .now) (g .pre)
 
 slice-aggregate-put-lines-4 : tie.Need-slice-aggregate-put-lines-4
 slice-aggregate-put-lines-4 c = search needs
@@ -30,7 +30,7 @@ slice-aggregate-put-lines-6 c = search needs
 put-lines-requires-2 : tie.Need-put-lines-requires-2
 put-lines-requires-2 c κs =
     let p = c .before .before .before .before .before .before in
-    more-room _ _ _ _ _ _ _ _ _ _ (p .before .before .before .before .before .before .pre) (p .put-lines .ensures .0) (p .put-lines .ensures .1)
+    next-room _ _ _ _ _ _ _ _ _ _ (p .before .before .before .before .before .before .pre) (p .put-lines .ensures .0) (p .put-lines .ensures .1)
 
 slice-aggregate-put-lines-7 : tie.Need-slice-aggregate-put-lines-7
 slice-aggregate-put-lines-7 c = search needs

@@ -5,9 +5,9 @@ use native.Mathlib.Omega.{arith}
 use borrow.Author.Needs.{needs}
 use borrow.Author.Tests.{not-true, not-false}
 use lib.ListN.{length, drop}
-use Rattle.sheet_lines.specs.Cursor.{weightFrom, field, weightAt}
+use Rattle.sheet_lines.specs.Cursor.{field, weightAt}
 use Rattle.sheet_text.proofs.Tests.{digit-range}
-use Rattle.sheet_lines.proofs.OneWeight.{walk-field, walk-end, walk-bad, walk-next, walk-none, fair-range}
+use Rattle.sheet_lines.proofs.OneWeight.{weightFrom, walk-field, walk-end, walk-bad, walk-next, walk-none, weight-range}
 use Rattle.sheet_lines.proofs.fields.weight_at.Statement.{statement}
 use Rattle.sheet_lines.proofs.fields.weight_at.Tie as tie
 
@@ -60,7 +60,7 @@ loop-again c =
     let e = c .before .before .before in
     let at = e .before .before .before .before in
     let w = sym (c .before .is-weight .ensures) ∙ not-false (c .before .is-weight .result) (c .if2 .left) in
-    (fair-range _ w .1, at .loop .inv .1 ∙ walk-next _ _ (e .before .before .before .loop-test .taken) (at .loop .v) _ (c .before .before .with-digit .ensures) (sym (e .before .is-digit .ensures) ∙ not-false (e .before .is-digit .result) (e .if1 .left)) w)
+    (weight-range _ w .1, at .loop .inv .1 ∙ walk-next _ _ (e .before .before .before .loop-test .taken) (at .loop .v) _ (c .before .before .with-digit .ensures) (sym (e .before .is-digit .ensures) ∙ not-false (e .before .is-digit .result) (e .if1 .left)) w)
 
 ended-requires : tie.Need-ended-requires Inv-loop μ-loop
 ended-requires c κs = search needs

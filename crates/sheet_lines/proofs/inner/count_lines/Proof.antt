@@ -1,23 +1,21 @@
 -- `count_lines` meets its contract. Invariant: the count of the lines left, after what is counted, is the count of all. Assumes nothing.
-use Prim.Native.Nat.{_+_, _-_, _≤_}
-use mathlib.Core.Path.{_≡_, refl, sym, _∙_}
+use Prim.Native.Nat.{_-_}
+use mathlib.Core.Path.{sym, _∙_}
 use native.Mathlib.Omega.{arith}
 use borrow.Author.Needs.{needs}
 use lib.ListN.{length}
-use Rattle.sheet_lines.specs.Cursor.{linesAt, countOf}
-use Rattle.sheet_lines.proofs.Counts.{count-next, count-wrong, count-end}
+use Rattle.sheet_lines.proofs.Counts.{Counting, counting, count-next, count-wrong, count-end}
 use Rattle.sheet_lines.proofs.inner.count_lines.Statement.{statement}
 use Rattle.sheet_lines.proofs.inner.count_lines.Tie as tie
 
 abbrev Inv-loop : tie.InvT-loop
-Inv-loop k s at n₀ m₀ w₀ i₀ n m w i =
-    (i ≤ length s) × (n ≤ i) × (m + 2 ≤ i) × (w ≤ i) × (countOf k 0 0 0 (linesAt s at) ≡ countOf k n m w (linesAt s i))
+Inv-loop k s at n₀ m₀ w₀ i₀ n m w i = Counting k s at n m w i
 
 abbrev μ-loop : tie.MeasureT-loop
 μ-loop k s at n₀ m₀ w₀ i₀ n m w i = length s - i
 
 loop-holds : tie.Need-loop-holds Inv-loop μ-loop
-loop-holds c = (omega arith, omega arith, omega arith, omega arith, refl)
+loop-holds c = counting _ _ _ (c .before .pre .0) (c .before .pre .1)
 
 line-at-requires : tie.Need-line-at-requires Inv-loop μ-loop
 line-at-requires c κs = search needs
@@ -33,48 +31,34 @@ add-t14 c = search needs
 
 returns : tie.Need-returns Inv-loop μ-loop
 returns c =
-    let at = c .before .before .before .before in
-    sym (at .loop .inv .4 ∙ count-wrong (at .before .before .args .k) (at .before .before .args .s .now) (at .loop .i) (at .loop .n) (at .loop .m) (at .loop .w) (c .before .before .before .loop-test .taken) (sym (c .before .before .line-at .ensures) ∙ c .enum-told .given .1))
+    let t = c .before .before .before in
+    count-wrong (t .before .loop .inv) (t .loop-test .taken) (sym (c .before .before .line-at .ensures) ∙ c .enum-told .given .1)
 
 add-n : tie.Need-add-n Inv-loop μ-loop
 add-n c =
-    let at = c .before .before .before .before .before in
-    let g = c .before .l .given in
-    let st = count-next (at .before .before .args .k) (at .before .before .args .s .now) (at .loop .i) (g .0 .0) (g .0 .1 .0) (g .0 .1 .1 .0) (at .loop .inv .0) (sym (c .before .before .before .line-at .ensures) ∙ g .1) in
-    omega (arith, st .inside, st .letters, st .weights, at .loop .inv .0, at .loop .inv .1, at .loop .inv .2, at .loop .inv .3)
+    let on = count-next (c .before .before .before .before .before .loop .inv) (sym (c .before .before .before .line-at .ensures) ∙ c .before .l .given .1) .0 in
+    omega (arith, on .letters, on .inside)
 
 add-m : tie.Need-add-m Inv-loop μ-loop
 add-m c =
-    let at = c .before .before .before .before .before in
-    let g = c .before .l .given in
-    let st = count-next (at .before .before .args .k) (at .before .before .args .s .now) (at .loop .i) (g .0 .0) (g .0 .1 .0) (g .0 .1 .1 .0) (at .loop .inv .0) (sym (c .before .before .before .line-at .ensures) ∙ g .1) in
-    omega (arith, st .inside, st .letters, st .weights, at .loop .inv .0, at .loop .inv .1, at .loop .inv .2, at .loop .inv .3)
+    let on = count-next (c .before .before .before .before .before .loop .inv) (sym (c .before .before .before .line-at .ensures) ∙ c .before .l .given .1) .0 in
+    omega (arith, on .strings, on .inside)
 
 add-w : tie.Need-add-w Inv-loop μ-loop
 add-w c =
-    let at = c .before .before .before .before .before in
-    let g = c .before .l .given in
-    let st = count-next (at .before .before .args .k) (at .before .before .args .s .now) (at .loop .i) (g .0 .0) (g .0 .1 .0) (g .0 .1 .1 .0) (at .loop .inv .0) (sym (c .before .before .before .line-at .ensures) ∙ g .1) in
-    omega (arith, st .inside, st .letters, st .weights, at .loop .inv .0, at .loop .inv .1, at .loop .inv .2, at .loop .inv .3)
+    let on = count-next (c .before .before .before .before .before .loop .inv) (sym (c .before .before .before .line-at .ensures) ∙ c .before .l .given .1) .0 in
+    omega (arith, on .weights, on .inside)
 
 loop-less : tie.Need-loop-less Inv-loop μ-loop
 loop-less c =
-    let at = c .before .before .before .before .before in
-    let g = c .before .l .given in
-    let st = count-next (at .before .before .args .k) (at .before .before .args .s .now) (at .loop .i) (g .0 .0) (g .0 .1 .0) (g .0 .1 .1 .0) (at .loop .inv .0) (sym (c .before .before .before .line-at .ensures) ∙ g .1) in
-    omega (arith, st .inside, st .letters, st .weights, at .loop .inv .0, at .loop .inv .1, at .loop .inv .2, at .loop .inv .3)
+    let on = count-next (c .before .before .before .before .before .loop .inv) (sym (c .before .before .before .line-at .ensures) ∙ c .before .l .given .1) in
+    omega (arith, on .0 .inside, on .1)
 
 loop-again : tie.Need-loop-again Inv-loop μ-loop
-loop-again c =
-    let at = c .before .before .before .before .before in
-    let g = c .before .l .given in
-    let st = count-next (at .before .before .args .k) (at .before .before .args .s .now) (at .loop .i) (g .0 .0) (g .0 .1 .0) (g .0 .1 .1 .0) (at .loop .inv .0) (sym (c .before .before .before .line-at .ensures) ∙ g .1) in
-    (st .inside, omega (arith, st .inside, st .letters, st .weights, at .loop .inv .0, at .loop .inv .1, at .loop .inv .2, at .loop .inv .3), omega (arith, st .inside, st .letters, st .weights, at .loop .inv .0, at .loop .inv .1, at .loop .inv .2, at .loop .inv .3), omega (arith, st .inside, st .letters, st .weights, at .loop .inv .0, at .loop .inv .1, at .loop .inv .2, at .loop .inv .3), at .loop .inv .4 ∙ st .counts (at .loop .n) (at .loop .m) (at .loop .w))
+loop-again c = count-next (c .before .before .before .before .before .loop .inv) (sym (c .before .before .before .line-at .ensures) ∙ c .before .l .given .1) .0
 
 returns-2 : tie.Need-returns-2 Inv-loop μ-loop
-returns-2 c =
-    let at = c .before in
-    sym (at .loop .inv .4 ∙ count-end (at .before .before .args .k) (at .before .before .args .s .now) (at .loop .i) (at .loop .n) (at .loop .m) (at .loop .w) (c .loop-test .left))
+returns-2 c = count-end (c .before .loop .inv) (c .loop-test .left)
 
 pub count-lines-spec : {M : Type 1} → statement M
 count-lines-spec =

@@ -6,7 +6,7 @@ use borrow.Author.Needs.{needs}
 use borrow.Author.Tests.{not-true, not-false}
 use lib.ListN.{length, drop}
 use Rattle.sheet_lines.specs.Cursor.{span}
-use Rattle.sheet_lines.proofs.OneLine.{span-stop, span-next, span-none}
+use Rattle.sheet_lines.proofs.Letters.{span-stop, span-next, span-none}
 use Rattle.sheet_lines.proofs.inner.letters_end.Statement.{statement}
 use Rattle.sheet_lines.proofs.inner.letters_end.Tie as tie
 

@@ -4,7 +4,8 @@ use native.Mathlib.Omega.{arith}
 use borrow.Author.Needs.{needs}
 use borrow.Author.Tests.{not-true, not-false}
 use Rattle.sheet_lines.specs.Cursor.{tailAt}
-use Rattle.sheet_lines.proofs.OneLine.{byte-here, tail-no-tab, tail-bad, tail-next}
+use Rattle.sheet_lines.proofs.Bytes.{byte-here}
+use Rattle.sheet_lines.proofs.Tails.{tail-no-tab, tail-bad, tail-next}
 use Rattle.sheet_lines.proofs.lines.tail_at.Statement.{statement}
 use Rattle.sheet_lines.proofs.lines.tail_at.Tie as tie
 

@@ -2,7 +2,8 @@
 use mathlib.Core.Path.{sym, _∙_}
 use native.Mathlib.Omega.{arith}
 use borrow.Author.Needs.{needs}
-use Rattle.sheet_lines.proofs.OneLine.{byte-here, tail-ended, tail-unended}
+use Rattle.sheet_lines.proofs.Bytes.{byte-here}
+use Rattle.sheet_lines.proofs.Tails.{tail-ended, tail-unended}
 use Rattle.sheet_lines.proofs.lines.tail_end.Statement.{statement}
 use Rattle.sheet_lines.proofs.lines.tail_end.Tie as tie
 

@@ -1,24 +1,21 @@
--- `fill_lines` meets its contract. Invariant: the strings left, stored from here on, bring the three tables to their targets. Assumes nothing.
-use Prim.Native.Nat.{_+_, _-_}
-use mathlib.Core.Path.{refl, ap}
+-- `fill_lines` meets its contract. Invariant: the strings left, stored from here on, bring the three tables to their targets. In the answers `le` is
+-- where the letters' end was found. Assumes nothing.
+use Prim.Native.Nat.{_-_}
+use mathlib.Core.Path.{ap}
 use native.Mathlib.Omega.{arith}
 use borrow.Author.Needs.{needs}
 use lib.ListN.{length}
-use Rattle.collection.specs.Strings.{lettersIn, weightsIn, endsIn}
-use Rattle.sheet_lines.proofs.OneLine.{marked-room}
-use Rattle.sheet_lines.specs.Cursor.{fine}
 use Rattle.lists.specs.Fill.{fill}
 use Rattle.lists.proofs.Storing.{inside}
-use Rattle.lists.specs.Fill.{fill}
 use Rattle.collection.specs.Strings.{lettersIn, weightsIn, endsIn}
-use Rattle.sheet_lines.specs.Cursor.{left}
-use Rattle.sheet_read.proofs.Rows.{row, row-marked, State, split, next-state, feed-place, begin-state, end-state}
+use Rattle.sheet_lines.specs.Cursor.{fine, stringsAt}
+use Rattle.sheet_read.proofs.Filled.{State, begin-state, mark-room, split, end-state, feed-place, next-state}
 use Rattle.sheet_read.proofs.filling.fill_lines.Statement.{statement}
 use Rattle.sheet_read.proofs.filling.fill_lines.Tie as tie
 
 abbrev Inv-loop : tie.InvT-loop
 Inv-loop k s at letters₀ ends₀ weights₀ i₀ n₀ m₀ w₀ letters ends weights i n m w =
-    State k s (length letters₀) (length ends₀) (length weights₀) (fill (lettersIn (left s at)) letters₀) (fill (endsIn 0 (left s at)) ends₀) (fill (weightsIn (left s at)) weights₀) i n m w letters ends weights
+    State k s (length letters₀) (length ends₀) (length weights₀) (fill (lettersIn (stringsAt s at)) letters₀) (fill (endsIn 0 (stringsAt s at)) ends₀) (fill (weightsIn (stringsAt s at)) weights₀) i n m w letters ends weights
 
 abbrev μ-loop : tie.MeasureT-loop
 μ-loop k s at letters₀ ends₀ weights₀ i₀ n₀ m₀ w₀ letters ends weights i n m w = length s - i
@@ -27,61 +24,33 @@ loop-holds : tie.Need-loop-holds Inv-loop μ-loop
 loop-holds c = begin-state _ _ _ (c .before .before .before .before .pre)
 
 add-b : tie.Need-add-b Inv-loop μ-loop
-add-b c =
-    let at = c .before in
-    let go = at .before .before .before .before .before in
-    let ro = marked-room (go .args .s .now) (at .loop .i) (row-marked (go .args .k) (at .loop .m + 1) (go .args .s .now) (at .loop .i) _ (at .loop .inv .lines) (c .loop-test .taken) refl) in
-    omega (arith, ro)
+add-b c = omega (arith, mark-room (c .before .loop .inv) (c .loop-test .taken))
 
 letters-end-requires : tie.Need-letters-end-requires Inv-loop μ-loop
-letters-end-requires c κs =
-    let at = c .before in
-    let go = at .before .before .before .before .before in
-    let ro = marked-room (go .args .s .now) (at .loop .i) (row-marked (go .args .k) (at .loop .m + 1) (go .args .s .now) (at .loop .i) _ (at .loop .inv .lines) (c .loop-test .taken) refl) in
-    ro
+letters-end-requires c κs = mark-room (c .before .loop .inv) (c .loop-test .taken)
 
 copy-bytes-requires : tie.Need-copy-bytes-requires Inv-loop μ-loop
 copy-bytes-requires c κs =
     let le = c .before in
-    let at = le .before .before in
-    let go = at .before .before .before .before .before in
-    let st = at .loop .inv in
-    let en = le .letters-end .ensures in
-    let r = row (go .args .k) (at .loop .m + 1) (go .args .s .now) (at .loop .i) (le .letters-end .result) (st .lines) (le .before .loop-test .taken) (en .0) in
-    let sp = split st r (en .1) in
-    (r .start, en .1, sp .letters-room)
+    let sp = split (le .before .before .loop .inv) (le .before .loop-test .taken) (le .letters-end .ensures) in
+    (sp .row .start, le .letters-end .ensures .1, sp .letters-room)
 
 sub-x : tie.Need-sub-x Inv-loop μ-loop
 sub-x c =
     let le = c .before .before .before .before in
-    let at = le .before .before in
-    let go = at .before .before .before .before .before in
-    let st = at .loop .inv in
-    let en = le .letters-end .ensures in
-    let r = row (go .args .k) (at .loop .m + 1) (go .args .s .now) (at .loop .i) (le .letters-end .result) (st .lines) (le .before .loop-test .taken) (en .0) in
-    let sp = split st r (en .1) in
-    r .start
+    let sp = split (le .before .before .loop .inv) (le .before .loop-test .taken) (le .letters-end .ensures) in
+    sp .row .start
 
 add-n : tie.Need-add-n Inv-loop μ-loop
 add-n c =
     let le = c .before .before .before .before in
-    let at = le .before .before in
-    let go = at .before .before .before .before .before in
-    let st = at .loop .inv in
-    let en = le .letters-end .ensures in
-    let r = row (go .args .k) (at .loop .m + 1) (go .args .s .now) (at .loop .i) (le .letters-end .result) (st .lines) (le .before .loop-test .taken) (en .0) in
-    let sp = split st r (en .1) in
+    let sp = split (le .before .before .loop .inv) (le .before .loop-test .taken) (le .letters-end .ensures) in
     omega (arith, sp .small)
 
 cast-ends : tie.Need-cast-ends Inv-loop μ-loop
 cast-ends c =
     let le = c .before .before .before .before in
-    let at = le .before .before in
-    let go = at .before .before .before .before .before in
-    let st = at .loop .inv in
-    let en = le .letters-end .ensures in
-    let r = row (go .args .k) (at .loop .m + 1) (go .args .s .now) (at .loop .i) (le .letters-end .result) (st .lines) (le .before .loop-test .taken) (en .0) in
-    let sp = split st r (en .1) in
+    let sp = split (le .before .before .loop .inv) (le .before .loop-test .taken) (le .letters-end .ensures) in
     omega (arith, sp .small)
 
 mul-ends : tie.Need-mul-ends Inv-loop μ-loop
@@ -90,23 +59,13 @@ mul-ends c = search needs
 slice-write-ends : tie.Need-slice-write-ends Inv-loop μ-loop
 slice-write-ends c =
     let le = c .before .before .before .before in
-    let at = le .before .before in
-    let go = at .before .before .before .before .before in
-    let st = at .loop .inv in
-    let en = le .letters-end .ensures in
-    let r = row (go .args .k) (at .loop .m + 1) (go .args .s .now) (at .loop .i) (le .letters-end .result) (st .lines) (le .before .loop-test .taken) (en .0) in
-    let sp = split st r (en .1) in
+    let sp = split (le .before .before .loop .inv) (le .before .loop-test .taken) (le .letters-end .ensures) in
     inside (sp .ends)
 
 add-m : tie.Need-add-m Inv-loop μ-loop
 add-m c =
     let le = c .before .before .before .before in
-    let at = le .before .before in
-    let go = at .before .before .before .before .before in
-    let st = at .loop .inv in
-    let en = le .letters-end .ensures in
-    let r = row (go .args .k) (at .loop .m + 1) (go .args .s .now) (at .loop .i) (le .letters-end .result) (st .lines) (le .before .loop-test .taken) (en .0) in
-    let sp = split st r (en .1) in
+    let sp = split (le .before .before .loop .inv) (le .before .loop-test .taken) (le .letters-end .ensures) in
     omega (arith, inside (sp .ends))
 
 add-y : tie.Need-add-y Inv-loop μ-loop
@@ -115,70 +74,40 @@ add-y c = search needs
 sub-y : tie.Need-sub-y Inv-loop μ-loop
 sub-y c =
     let le = c .before .before .before .before in
-    let at = le .before .before in
-    let go = at .before .before .before .before .before in
-    let st = at .loop .inv in
-    let en = le .letters-end .ensures in
-    let r = row (go .args .k) (at .loop .m + 1) (go .args .s .now) (at .loop .i) (le .letters-end .result) (st .lines) (le .before .loop-test .taken) (en .0) in
-    let sp = split st r (en .1) in
-    omega (arith, r .long)
+    let sp = split (le .before .before .loop .inv) (le .before .loop-test .taken) (le .letters-end .ensures) in
+    omega (arith, sp .row .long)
 
 fill-weights-requires : tie.Need-fill-weights-requires Inv-loop μ-loop
 fill-weights-requires c κs =
     let le = c .before .before .before .before .before in
-    let at = le .before .before in
-    let go = at .before .before .before .before .before in
-    let st = at .loop .inv in
-    let en = le .letters-end .ensures in
-    let r = row (go .args .k) (at .loop .m + 1) (go .args .s .now) (at .loop .i) (le .letters-end .result) (st .lines) (le .before .loop-test .taken) (en .0) in
-    let sp = split st r (en .1) in
-    (ap fine (r .tail-is), sp .weights-room)
+    let sp = split (le .before .before .loop .inv) (le .before .loop-test .taken) (le .letters-end .ensures) in
+    (ap fine (sp .row .tail-is), sp .weights-room)
 
 add-w : tie.Need-add-w Inv-loop μ-loop
 add-w c =
     let le = c .before .before .before .before .before .before .before .before in
-    let at = le .before .before in
-    let go = at .before .before .before .before .before in
-    let st = at .loop .inv in
-    let en = le .letters-end .ensures in
-    let r = row (go .args .k) (at .loop .m + 1) (go .args .s .now) (at .loop .i) (le .letters-end .result) (st .lines) (le .before .loop-test .taken) (en .0) in
-    let sp = split st r (en .1) in
-    omega (arith, sp .weights-room, r .count)
+    let sp = split (le .before .before .loop .inv) (le .before .loop-test .taken) (le .letters-end .ensures) in
+    omega (arith, sp .weights-room, sp .row .count)
 
 add-i : tie.Need-add-i Inv-loop μ-loop
 add-i c =
     let le = c .before .before .before .before .before .before .before .before in
-    let at = le .before .before in
-    let go = at .before .before .before .before .before in
-    let st = at .loop .inv in
-    let en = le .letters-end .ensures in
-    let r = row (go .args .k) (at .loop .m + 1) (go .args .s .now) (at .loop .i) (le .letters-end .result) (st .lines) (le .before .loop-test .taken) (en .0) in
-    let sp = split st r (en .1) in
-    let fp = feed-place st r (en .1) (c .before .before .fill-weights .result) (c .before .before .fill-weights .ensures .1) in
+    let sp = split (le .before .before .loop .inv) (le .before .loop-test .taken) (le .letters-end .ensures) in
+    let fp = feed-place sp _ (c .before .before .fill-weights .ensures .1) in
     omega (arith, fp .0)
 
 loop-less : tie.Need-loop-less Inv-loop μ-loop
 loop-less c =
     let le = c .before .before .before .before .before .before .before .before in
-    let at = le .before .before in
-    let go = at .before .before .before .before .before in
-    let st = at .loop .inv in
-    let en = le .letters-end .ensures in
-    let r = row (go .args .k) (at .loop .m + 1) (go .args .s .now) (at .loop .i) (le .letters-end .result) (st .lines) (le .before .loop-test .taken) (en .0) in
-    let sp = split st r (en .1) in
-    let fp = feed-place st r (en .1) (c .before .before .fill-weights .result) (c .before .before .fill-weights .ensures .1) in
+    let sp = split (le .before .before .loop .inv) (le .before .loop-test .taken) (le .letters-end .ensures) in
+    let fp = feed-place sp _ (c .before .before .fill-weights .ensures .1) in
     omega (arith, fp .0, fp .1)
 
 loop-again : tie.Need-loop-again Inv-loop μ-loop
 loop-again c =
     let le = c .before .before .before .before .before .before .before .before in
-    let at = le .before .before in
-    let go = at .before .before .before .before .before in
-    let st = at .loop .inv in
-    let en = le .letters-end .ensures in
-    let r = row (go .args .k) (at .loop .m + 1) (go .args .s .now) (at .loop .i) (le .letters-end .result) (st .lines) (le .before .loop-test .taken) (en .0) in
-    let sp = split st r (en .1) in
-    next-state st r (en .1) (c .before .before .fill-weights .result) (c .before .before .fill-weights .ensures .1) (c .before .before .before .before .before .before .copy-bytes .ensures) (c .before .before .fill-weights .ensures .0)
+    let sp = split (le .before .before .loop .inv) (le .before .loop-test .taken) (le .letters-end .ensures) in
+    next-state sp _ (c .before .before .fill-weights .ensures .1) (c .before .before .before .before .before .before .copy-bytes .ensures) (c .before .before .fill-weights .ensures .0)
 
 same-length : tie.Need-same-length Inv-loop μ-loop
 same-length c = c .before .loop .inv .letters .size-kept

@@ -6,12 +6,12 @@ use native.Mathlib.Omega.{arith}
 use borrow.Author.Needs.{needs}
 use borrow.Author.Tests.{not-true, not-false}
 use lib.ListN.{length}
-use Rattle.sheet_lines.specs.Cursor.{tailAt}
-use Rattle.sheet_lines.proofs.OneLine.{byte-here, tail-no-tab, tail-bad, tail-next}
-use Rattle.sheet_lines.specs.Cursor.{fine, weightsAt}
 use Rattle.lists.specs.Fill.{put}
 use Rattle.lists.proofs.Storing.{Storing, begin-at, inside, store, restated, stored}
-use Rattle.sheet_read.proofs.Stored.{weights-next, weights-none, not-fine, tail-fine}
+use Rattle.sheet_lines.specs.Cursor.{tailAt, fine, weightsAt}
+use Rattle.sheet_lines.proofs.Bytes.{byte-here}
+use Rattle.sheet_lines.proofs.Tails.{tail-no-tab, tail-bad, tail-next}
+use Rattle.sheet_read.proofs.Weights.{weights-next, weights-none, not-fine, tail-fine}
 use Rattle.sheet_read.proofs.filling.fill_weights.Statement.{statement}
 use Rattle.sheet_read.proofs.filling.fill_weights.Tie as tie
 

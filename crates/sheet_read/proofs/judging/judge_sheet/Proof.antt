@@ -1,7 +1,6 @@
 -- `judge_sheet` meets its contract: line 1, k, then the lines. Assumes nothing.
 use mathlib.Core.Path.{sym, _∙_}
 use borrow.Author.Needs.{needs}
-use Rattle.lists.proofs.Storing.{inside}
 use Rattle.sheet_read.proofs.Refusals.{head-wrong, headed, k-bad, line-bad, all-lines}
 use Rattle.sheet_read.proofs.judging.judge_sheet.Statement.{statement}
 use Rattle.sheet_read.proofs.judging.judge_sheet.Tie as tie

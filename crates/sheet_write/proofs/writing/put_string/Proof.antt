@@ -9,32 +9,32 @@ use Rattle.sheet_write.proofs.writing.put_string.Tie as tie
 slice-write-out : tie.Need-slice-write-out
 slice-write-out c =
     let g = c .before .before .before in
-    omega (arith, marks-room (g .args .letters .now) (g .args .weights .now) (g .args .out .now) (g .args .b) (g .args .e) (g .args .w) (g .args .n) (g .args .at) (g .pre .0) (g .pre .1))
+    omega (arith, marks-room (g .args .letters .now) (g .args .weights .now) (g .args .out .now) _ _ _ _ _ (g .pre .0) (g .pre .1))
 
 add-out : tie.Need-add-out
 add-out c =
     let g = c .before .before .before in
-    omega (arith, marks-room (g .args .letters .now) (g .args .weights .now) (g .args .out .now) (g .args .b) (g .args .e) (g .args .w) (g .args .n) (g .args .at) (g .pre .0) (g .pre .1))
+    omega (arith, marks-room (g .args .letters .now) (g .args .weights .now) (g .args .out .now) _ _ _ _ _ (g .pre .0) (g .pre .1))
 
 slice-write-out-2 : tie.Need-slice-write-out-2
 slice-write-out-2 c =
     let g = c .before .before .before in
-    rw length-set (omega (arith, marks-room (g .args .letters .now) (g .args .weights .now) (g .args .out .now) (g .args .b) (g .args .e) (g .args .w) (g .args .n) (g .args .at) (g .pre .0) (g .pre .1)))
+    rw length-set (omega (arith, marks-room (g .args .letters .now) (g .args .weights .now) (g .args .out .now) _ _ _ _ _ (g .pre .0) (g .pre .1)))
 
 add-copy-bytes : tie.Need-add-copy-bytes
 add-copy-bytes c =
     let g = c .before .before .before .before in
-    omega (arith, marks-room (g .args .letters .now) (g .args .weights .now) (g .args .out .now) (g .args .b) (g .args .e) (g .args .w) (g .args .n) (g .args .at) (g .pre .0) (g .pre .1))
+    omega (arith, marks-room (g .args .letters .now) (g .args .weights .now) (g .args .out .now) _ _ _ _ _ (g .pre .0) (g .pre .1))
 
 copy-bytes-requires : tie.Need-copy-bytes-requires
 copy-bytes-requires c κs =
     let g = c .before .before .before .before in
-    (g .pre .0 .0, g .pre .0 .1, letters-room (g .args .letters .now) (g .args .weights .now) (g .args .out .now) (g .args .b) (g .args .e) (g .args .w) (g .args .n) (g .args .at) (g .pre .0) (g .pre .1))
+    (g .pre .0 .0, g .pre .0 .1, letters-room (g .args .letters .now) (g .args .weights .now) (g .args .out .now) _ _ _ _ _ (g .pre .0) (g .pre .1))
 
 add-put-weights : tie.Need-add-put-weights
 add-put-weights c =
     let g = c .before .before .before .before .before .before .before .before in
-    omega (arith, marks-room (g .args .letters .now) (g .args .weights .now) (g .args .out .now) (g .args .b) (g .args .e) (g .args .w) (g .args .n) (g .args .at) (g .pre .0) (g .pre .1))
+    omega (arith, marks-room (g .args .letters .now) (g .args .weights .now) (g .args .out .now) _ _ _ _ _ (g .pre .0) (g .pre .1))
 
 sub-put-weights : tie.Need-sub-put-weights
 sub-put-weights c =
@@ -44,41 +44,41 @@ sub-put-weights c =
 add-put-weights-2 : tie.Need-add-put-weights-2
 add-put-weights-2 c =
     let g = c .before .before .before .before .before .before .before .before in
-    omega (arith, marks-room (g .args .letters .now) (g .args .weights .now) (g .args .out .now) (g .args .b) (g .args .e) (g .args .w) (g .args .n) (g .args .at) (g .pre .0) (g .pre .1))
+    omega (arith, marks-room (g .args .letters .now) (g .args .weights .now) (g .args .out .now) _ _ _ _ _ (g .pre .0) (g .pre .1))
 
 put-weights-requires : tie.Need-put-weights-requires
 put-weights-requires c κs =
     let y = c .before .before .before in
     let g = y .before .before .before .before .before in
-    (g .pre .0 .2, weights-room (g .args .letters .now) (g .args .weights .now) (g .args .out .now) (g .args .b) (g .args .e) (g .args .w) (g .args .n) (g .args .at) (g .pre .0) (g .pre .1) (y .copy-bytes .ensures))
+    (g .pre .0 .2, weights-room (g .args .letters .now) (g .args .weights .now) (g .args .out .now) _ _ _ _ _ (g .pre .0) (g .pre .1) (y .copy-bytes .ensures))
 
 slice-write-out-3 : tie.Need-slice-write-out-3
 slice-write-out-3 c =
     let z = c .before .before in
     let y = z .before .before .before .before in
     let g = y .before .before .before .before .before in
-    inside (line-weighed (g .args .letters .now) (g .args .weights .now) (g .args .out .now) (g .args .b) (g .args .e) (g .args .w) (g .args .n) (g .args .at) (g .pre .0) (g .pre .1) (y .copy-bytes .ensures) (z .put-weights .ensures .0) (z .put-weights .ensures .1))
+    inside (line-weighed (g .args .letters .now) (g .args .weights .now) (g .args .out .now) _ _ _ _ _ (g .pre .0) (g .pre .1) (y .copy-bytes .ensures) (z .put-weights .ensures .0) (z .put-weights .ensures .1))
 
 add-result : tie.Need-add-result
 add-result c =
     let z = c .before .before in
     let y = z .before .before .before .before in
     let g = y .before .before .before .before .before in
-    omega (arith, line-fits (g .args .letters .now) (g .args .weights .now) (g .args .out .now) (g .args .b) (g .args .e) (g .args .w) (g .args .n) (g .args .at) (g .pre .0) (g .pre .1) (y .copy-bytes .ensures) (z .put-weights .ensures .0), g .good .1 .1 .1 .1 .1 .1 .0)
+    omega (arith, line-fits (g .args .letters .now) (g .args .weights .now) (g .args .out .now) _ _ _ _ _ (g .pre .0) (g .pre .1) (y .copy-bytes .ensures) (z .put-weights .ensures .0), g .good .1 .1 .1 .1 .1 .1 .0)
 
 same-length : tie.Need-same-length
 same-length c =
     let z = c .before .before in
     let y = z .before .before .before .before in
     let g = y .before .before .before .before .before in
-    store (line-weighed (g .args .letters .now) (g .args .weights .now) (g .args .out .now) (g .args .b) (g .args .e) (g .args .w) (g .args .n) (g .args .at) (g .pre .0) (g .pre .1) (y .copy-bytes .ensures) (z .put-weights .ensures .0) (z .put-weights .ensures .1)) .size-kept
+    store (line-weighed (g .args .letters .now) (g .args .weights .now) (g .args .out .now) _ _ _ _ _ (g .pre .0) (g .pre .1) (y .copy-bytes .ensures) (z .put-weights .ensures .0) (z .put-weights .ensures .1)) .size-kept
 
 returns : tie.Need-returns
 returns c =
     let z = c .before .before in
     let y = z .before .before .before .before in
     let g = y .before .before .before .before .before in
-    (line-end (g .args .letters .now) (g .args .weights .now) (g .args .out .now) (g .args .b) (g .args .e) (g .args .w) (g .args .n) (g .args .at) (g .pre .0) (g .pre .1) (y .copy-bytes .ensures) (z .put-weights .ensures .0), stored (store (line-weighed (g .args .letters .now) (g .args .weights .now) (g .args .out .now) (g .args .b) (g .args .e) (g .args .w) (g .args .n) (g .args .at) (g .pre .0) (g .pre .1) (y .copy-bytes .ensures) (z .put-weights .ensures .0) (z .put-weights .ensures .1))))
+    (line-end (g .args .letters .now) (g .args .weights .now) (g .args .out .now) _ _ _ _ _ (g .pre .0) (g .pre .1) (y .copy-bytes .ensures) (z .put-weights .ensures .0), stored (store (line-weighed (g .args .letters .now) (g .args .weights .now) (g .args .out .now) _ _ _ _ _ (g .pre .0) (g .pre .1) (y .copy-bytes .ensures) (z .put-weights .ensures .0) (z .put-weights .ensures .1))))
 
 pub put-string-spec : {M : Type 1} → statement M
 put-string-spec =

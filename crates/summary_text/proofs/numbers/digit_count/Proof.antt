@@ -5,8 +5,7 @@ use Prim.Native.Nat.{_+_, _≤_}
 use native.Mathlib.Omega.{arith}
 use lib.ListN.{length}
 use Rattle.sheet_text.specs.Numbers.{digits}
-use Rattle.sheet_write.proofs.Decimals.{count-more, count-one}
-use Rattle.summary_text.proofs.Decimals.{digits-short}
+use Rattle.sheet_text.proofs.Digits.{count-one, count-more, digits-short}
 use borrow.Author.Needs.{needs}
 use Rattle.summary_text.proofs.numbers.digit_count.Statement.{statement}
 use Rattle.summary_text.proofs.numbers.digit_count.Tie as tie

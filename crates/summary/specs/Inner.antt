@@ -1,0 +1,24 @@
+-- What only the contracts of inner functions cite: the numbers as they are counted, and tables that hold every sheet.
+use mathlib.Core.List.{List}
+use Prim.Native.Nat.{ℕ, _+_, _-_, _≤_}
+use lib.ListN.{length}
+use Rattle.lists.specs.Count.{sum}
+use Rattle.runs.specs.Runs.{runCount}
+use Rattle.counts.specs.Counts.{distinct, bitsOf}
+use Rattle.counts.specs.Inner.{innerFrom}
+use Rattle.summary_text.specs.declared.Summary.{Summary}
+use Rattle.summary_text.specs.declared.Summary.the-variants.{Counted}
+
+-- the numbers of a collection, from ends, weights and the number of paths
+unfoldable pub numbersFrom : ℕ → List ℕ → List ℕ → ℕ → Summary
+numbersFrom k ends weights paths =
+    Counted (length ends) (length weights) (sum weights) (innerFrom k 0 ends weights) (runCount weights) paths (innerFrom k 0 ends weights - length ends + paths)
+    (distinct weights) (bitsOf weights)
+
+-- lengths of tables that hold every sheet of at most 8,192 bytes
+pub record Ample (letters ends weights places work : ℕ) : Type 0 where
+  pub letters-room : 8192 ≤ letters
+  pub ends-room : 4096 ≤ ends
+  pub weights-room : 4096 ≤ weights
+  pub places-room : 4096 ≤ places
+  pub work-room : 65536 ≤ work
