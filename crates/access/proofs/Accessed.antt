@@ -22,6 +22,7 @@ pub record Accessed (k : ℕ) (letters ends : List ℕ) (handle : ℕ) : Type 0 
   pub low : 1 ≤ handle
   pub high : handle ≤ length (kmers k ends)
 
+-- what passes the verdict of ACCESS
 pub access-good : (k : ℕ) (letters ends : List ℕ) (handle : ℕ) → accessVerdict k letters ends handle ≡ Good → Accessed k letters ends handle
 unfolding accessVerdict
 access-good k letters ends handle h =
@@ -37,13 +38,16 @@ access-word k letters ends handle h = ap spell (sym (settled (λ number place. _
 
 -- ─── the part as the code lends it ───────────────────────────────────────────
 
+-- the part as the code cuts it
 pub part-from : {p q : ℕ} (k : ℕ) (letters : List ℕ) → p ≡ q → take (p + k - p) (drop p letters) ≡ take k (drop q letters)
 part-from {p} k letters e = ap (λ (n : ℕ). take n (drop p letters)) (add-sub-cancel-left p k) ∙ ap (λ (j : ℕ). take k (drop j letters)) e
 
+-- refused, it starts where the letters do
 pub start-refused : (base : ℕ) {verdict : Verdict} {number place : ℕ} (p : ℕ) → verdict ≡ Bad number place → base ≡ base + settle verdict (λ n q. 0) p
 unfolding settle
 start-refused base p e = sym (add-zero base) ∙ sym (ap (λ (v : Verdict). base + settle v (λ n q. 0) p) e)
 
+-- else at the position of the k-mer
 pub start-found : (base : ℕ) {verdict : Verdict} {p q : ℕ} → verdict ≡ Good → p ≡ q → p + base ≡ base + settle verdict (λ n r. 0) q
 unfolding settle
 start-found base {p = p} {q = q} e f = add-comm p base ∙ (ap (λ (n : ℕ). base + n) f ∙ sym (ap (λ (v : Verdict). base + settle v (λ n r. 0) q) e))

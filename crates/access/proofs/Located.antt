@@ -55,11 +55,13 @@ pub record Halving (k : ℕ) (ends : List ℕ) (handle low high : ℕ) : Type 0 
   pub before : length (kmers k (take low ends)) < handle
   pub up-to : handle ≤ length (kmers k (take (high + 1) ends))
 
+-- where there is a handle there is a string
 pub some-string : (k handle : ℕ) (ends : List ℕ) → 1 ≤ handle → handle ≤ length (kmers k ends) → 1 ≤ length ends
 unfolding kmersFrom
 some-string k handle [] h l = absurd (omega arith)
 some-string k handle (e ∷ ends) h l = omega arith
 
+-- all strings are open
 pub halving-begins : (k handle : ℕ) (ends : List ℕ) → 1 ≤ handle → handle ≤ length (kmers k ends) → Halving k ends handle 0 (length ends - 1)
 unfolding kmersFrom
 halving-begins k handle ends h l =
@@ -72,6 +74,7 @@ halving-begins k handle ends h l =
       up-to = rw (q, take-length ends) l;
     }
 
+-- one string is left
 pub halving-ends : {k handle low high : ℕ} {ends : List ℕ} → Halving k ends handle low high → high ≤ low → Holds k ends handle low
 halving-ends {k} {handle} {low} {high} {ends} w h =
     let q : high ≡ low = omega (arith, w .order) in

@@ -9,6 +9,7 @@ use borrow.Author.Tests.{eqb-true, ltb-true, lt-ltb}
 use Rattle.lists.specs.Choose.{choose}
 use Rattle.alphabet.specs.Letter.{letter, isLetter, capital, twoBits}
 
+-- of any byte, letter or not
 pub bits-lt : (b : ℕ) → twoBits b < 4
 unfolding twoBits
 bits-lt b = xor-lt 2 (bitAnd (b / 2 ^ 1) 3) (bitAnd (b / 2 ^ 2) 1) (omega (arith, and-le-r (b / 2 ^ 1) 3)) (omega (arith, and-le-r (b / 2 ^ 2) 1))
@@ -25,6 +26,7 @@ four-tests b = go (eqb b 65) (eqb b 67) (eqb b 71) (eqb b 84)
     go false false false true = refl
     go false false false false = refl
 
+-- the code of a letter is below 4
 pub letter-lt : (b : ℕ) → isLetter b ≡ true → letter b < 4
 unfolding isLetter
 letter-lt b e = ltb-true (letter b) 4 e
@@ -68,6 +70,7 @@ letter-capital (suc (suc zero)) h = refl
 letter-capital (suc (suc (suc zero))) h = refl
 letter-capital (suc (suc (suc (suc x)))) h = absurd (omega arith)
 
+-- the capital of a code is a letter
 pub capital-is-letter : (x : ℕ) → x < 4 → isLetter (capital x) ≡ true
 unfolding isLetter
 capital-is-letter x h = lt-ltb (letter (capital x)) 4 (subst (λ (n : ℕ). n < 4) (sym (letter-capital x h)) h)

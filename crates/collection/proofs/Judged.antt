@@ -22,12 +22,14 @@ use Rattle.collection.proofs.Verdicts.{both-good, test-good, place-good
 
 -- ─── 2 and 3 ─────────────────────────────────────────────────────────────────
 
+-- what passes 2
 pub k-good : (k : ℕ) → kVerdict k ≡ Good → (3 ≤ k) × (k ≤ 31)
 unfolding kVerdict
 k-good k h =
     let t = test-good (leb 3 k && leb k 31) 2 0 Good h .0 in
     (leb-true 3 k (and-left (leb 3 k) (leb k 31) t), leb-true k 31 (and-right (leb 3 k) (leb k 31) t))
 
+-- what passes 3
 pub size-good : (N m : ℕ) → sizeVerdict N m ≡ Good → (N ≤ 1048576) × (m ≤ 65536)
 unfolding sizeVerdict
 size-good N m h =
@@ -54,6 +56,7 @@ ends-room k i before (e ∷ ends) h =
     let b = ends-room k (suc i) e ends (a .1) in
     rw suc-mul (omega arith)
 
+-- what passes 4
 pub ends-good : (k N : ℕ) (ends : List ℕ) → endsVerdict k N ends ≡ Good → (firstShort k 0 0 ends ≡ 0) × (lastEnd 0 ends ≡ N)
 unfolding endsVerdict
 ends-good k N ends h =
@@ -72,6 +75,7 @@ pub record Shape (k : ℕ) (letters ends : List ℕ) : Type 0 where
   pub last : lastEnd 0 ends ≡ length letters
   pub room : length ends * k ≤ length letters
 
+-- what passes 2, 3 and 4
 pub shape-good : (k : ℕ) (letters ends : List ℕ) → shapeVerdict k letters ends ≡ Good → Shape k letters ends
 unfolding shapeVerdict
 shape-good k letters ends h =
@@ -95,11 +99,13 @@ shape-long s = record { k-low = omega (arith, s .k-low); k-high = s .k-high; few
 
 -- ─── 5 and 6 ─────────────────────────────────────────────────────────────────
 
+-- what passes 5
 pub letters-good : (letters : List ℕ) → lettersVerdict letters ≡ Good → All (λ b. isLetter b ≡ true) letters
 unfolding lettersVerdict
 letters-good letters h =
     all-map (λ b e. not-false (isLetter b) e) letters (first-none (λ b. not (isLetter b)) letters (place-good 5 _ h))
 
+-- what passes 6
 pub weights-good : (n : ℕ) (weights : List ℕ) → weightsVerdict n weights ≡ Good → (length weights ≡ n) × All (λ w. isWeight w ≡ true) weights
 unfolding weightsVerdict
 weights-good n weights h =
@@ -113,6 +119,7 @@ pub record Judged (k : ℕ) (letters ends weights : List ℕ) : Type 0 where
   pub counted : length weights ≡ kmerCount k (length letters) (length ends)
   pub all-weights : All (λ w. isWeight w ≡ true) weights
 
+-- what passes 2 to 6
 pub collection-good : (k : ℕ) (letters ends weights : List ℕ) → Passes k letters ends weights → Judged k letters ends weights
 unfolding collectionVerdict
 collection-good k letters ends weights h =
@@ -123,12 +130,14 @@ collection-good k letters ends weights h =
 
 -- ─── 9 ───────────────────────────────────────────────────────────────────────
 
+-- a handle that passes 9
 pub handle-good : (n handle : ℕ) → handleVerdict n handle ≡ Good → (1 ≤ handle) × (handle ≤ n)
 unfolding handleVerdict
 handle-good n handle h =
     let t = test-good (leb 1 handle && leb handle n) 9 0 Good h .0 in
     (leb-true 1 handle (and-left (leb 1 handle) (leb handle n) t), leb-true handle n (and-right (leb 1 handle) (leb handle n) t))
 
+-- a word that passes 9
 pub word-good : (k : ℕ) (word : List ℕ) → wordVerdict k word ≡ Good → (length word ≡ k) × (every isLetter word ≡ true)
 unfolding wordVerdict
 word-good k word h =

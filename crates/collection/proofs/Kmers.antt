@@ -87,6 +87,7 @@ kmers-fit k i before (e ∷ ends) h =
     (all-count (λ a. a + k ≤ lastEnd e ends) before (within k before e) (λ j l u. omega arith))
     (kmers-fit k (suc i) e ends (a .1))
 
+-- the k letters of a handle lie within the letters
 pub position-fits : {k : ℕ} {letters ends : List ℕ} → Shape k letters ends → (handle : ℕ) → 1 ≤ handle → handle ≤ length (kmers k ends) → positionOf k ends handle + k ≤ length letters
 position-fits {k} {letters} {ends} s handle h l =
     omega (arith, all-at (λ a. a + k ≤ lastEnd 0 ends) (kmers k ends) (kmers-fit k 0 0 ends (s .long)) (handle - 1) 0 (omega arith), s .last)
@@ -100,13 +101,16 @@ pub record Strings-left (k N : ℕ) (ends : List ℕ) (i before passed : ℕ) : 
   pub last : lastEnd before (drop i ends) ≡ N
   pub few : passed ≤ before
 
+-- before the first string
 pub strings-begin : {k N : ℕ} {ends : List ℕ} → Long k ends → lastEnd 0 ends ≡ N → Strings-left k N ends 0 0 0
 strings-begin g e = record { inside = omega arith; long = g .long; last = e; few = omega arith }
 
+-- the k-mers of one string more
 pub kmers-next : (k before : ℕ) (ends : List ℕ) (i : ℕ) → i < length ends → kmersFrom k before (drop i ends) ≡ countFrom before (within k before (getD ends i 0)) ++ kmersFrom k (getD ends i 0) (drop (i + 1) ends)
 unfolding kmersFrom
 kmers-next k before ends i l = ap (kmersFrom k before) (drop-next ends i 0 l)
 
+-- no string is left
 pub kmers-end : (k before : ℕ) (ends : List ℕ) (i : ℕ) → length ends ≤ i → kmersFrom k before (drop i ends) ≡ []
 unfolding kmersFrom
 kmers-end k before ends i l = ap (kmersFrom k before) (drop-of-length-le ends l)

@@ -32,5 +32,6 @@ module _ {k : ℕ} {letters ends : List ℕ} (r : Ready k letters ends) where
   pub word-length : (a : ℕ) → a + k ≤ length letters → length (wordAt k letters a) ≡ k
   word-length a l = ap length (word-part k letters a) ∙ length-at (spell letters) k a (omega (arith, length-map letters letter))
 
+  -- and each is the code of a letter
   pub word-letters : (a : ℕ) → Letters (wordAt k letters a)
   word-letters a = subst Letters (sym (word-part k letters a)) (letters-at (spell letters) (spell-letters letters good) k a)

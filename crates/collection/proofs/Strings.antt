@@ -47,11 +47,13 @@ strings-back-from k before (s ∷ ss) h =
     cut-first k before s (lettersIn ss) (endsIn (before + length (s .letters)) ss) (weightsIn ss) (h .0)
     ∙ ap (λ (r : List Str). s ∷ r) (strings-back-from k (before + length (s .letters)) ss (h .1))
 
+-- the strings of the tables of strings are those strings
 pub strings-back : (k : ℕ) (ss : List Str) → All (Whole k) ss → strings k (lettersIn ss) (endsIn 0 ss) (weightsIn ss) ≡ ss
 strings-back k ss h = strings-back-from k 0 ss h
 
 -- ─── the shape of the tables of strings ──────────────────────────────────────
 
+-- no string is short
 pub ends-long : (k i before : ℕ) (ss : List Str) → All (Whole k) ss → firstShort k i before (endsIn before ss) ≡ 0
 unfolding firstShort endsIn
 ends-long k i before [] h = refl
@@ -59,11 +61,13 @@ ends-long k i before (s ∷ ss) h =
     let l = h .0 .long in
     rw (le-ltb (before + length (s .letters)) (before + k) (omega arith)) (ends-long k (suc i) (before + length (s .letters)) ss (h .1))
 
+-- the last end is the number of letters
 pub ends-last : (before : ℕ) (ss : List Str) → lastEnd before (endsIn before ss) ≡ before + length (lettersIn ss)
 unfolding lastEnd endsIn lettersIn
 ends-last before [] = omega arith
 ends-last before (s ∷ ss) = ends-last (before + length (s .letters)) ss ∙ omega (arith, length-append (s .letters) (lettersIn ss))
 
+-- as many ends as strings
 pub ends-length : (before : ℕ) (ss : List Str) → length (endsIn before ss) ≡ length ss
 unfolding endsIn
 ends-length before [] = refl
@@ -76,6 +80,7 @@ weights-length k [] l h = omega (arith, zero-mul (k - 1))
 weights-length k (s ∷ ss) l h =
     omega (arith, weights-length k ss l (h .1), h .0 .long, h .0 .counted, suc-mul (length ss) (k - 1), length-append (s .weights) (weightsIn ss), length-append (s .letters) (lettersIn ss))
 
+-- as many weights as k-mers
 pub weights-counted : (k : ℕ) (ss : List Str) → 1 ≤ k → All (Whole k) ss → length (weightsIn ss) ≡ kmerCount k (length (lettersIn ss)) (length (endsIn 0 ss))
 weights-counted k ss l h = omega (arith, weights-length k ss l h, ap (λ (m : ℕ). m * (k - 1)) (ends-length 0 ss))
 
@@ -217,5 +222,6 @@ module _ {k : ℕ} {letters ends : List ℕ} (weights : List ℕ) (s : Shape k l
   pub strings-weights : weightsIn (strings k letters ends weights) ≡ weights
   strings-weights = cut .same-weights
 
+  -- each string has its letters and its weights
   pub strings-whole : All (Whole k) (strings k letters ends weights)
   strings-whole = cut .whole

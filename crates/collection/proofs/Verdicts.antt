@@ -44,24 +44,29 @@ both-good (Bad number place) next h = absurd (bad-good h)
 
 -- ─── a judgement by a test ───────────────────────────────────────────────────
 
+-- a test that passed
 pub test-good : (test : Bool) (number place : ℕ) (next : Verdict) → choose test next (Bad number place) ≡ Good → (test ≡ true) × (next ≡ Good)
 test-good true number place next h = (refl, h)
 test-good false number place next h = absurd (bad-good h)
 
+-- no first fault
 pub place-good : (number place : ℕ) → atPlace number place ≡ Good → place ≡ 0
 unfolding atPlace
 place-good number zero h = refl
 place-good number (suc place) h = absurd (bad-good h)
 
+-- the verdict where there is none
 pub place-none : (number : ℕ) {place : ℕ} → place ≡ 0 → Good ≡ atPlace number place
 unfolding atPlace
 place-none number e = sym (ap (atPlace number) e)
 
+-- and where there is one
 pub place-some : (number place : ℕ) → (place ≡ 0 → ⊥) → Bad number place ≡ atPlace number place
 unfolding atPlace
 place-some number zero h = absurd (h refl)
 place-some number (suc place) h = refl
 
+-- a table that is long enough
 pub room-good : (have need : ℕ) → roomVerdict have need ≡ Good → need ≤ have
 unfolding roomVerdict
 room-good have need h = go (ltb have need) refl h
@@ -77,6 +82,7 @@ module _ {Out : Type 0} {verdict : Verdict} (refuse : ℕ → ℕ → Out) where
   unfolding settle
   refused done e = sym (ap (λ (v : Verdict). settle v refuse done) e)
 
+  -- a call that was not refused
   pub settled : {done answer : Out} → answer ≡ done → verdict ≡ Good → answer ≡ settle verdict refuse done
   unfolding settle
   settled {done = done} d e = d ∙ sym (ap (λ (v : Verdict). settle v refuse done) e)

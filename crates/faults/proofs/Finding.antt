@@ -23,10 +23,12 @@ module _ (k before : ℕ) (ends : List ℕ) (i : ℕ) (h : i < length ends) wher
   unfolding firstShort
   short-here e = rw (drop-cons ends i 0, lt-ltb _ _ e, add-one)
 
+  -- it is long: the first short one comes later
   pub short-next : before + k ≤ getD ends i 0 → firstShort k i before (drop i ends) ≡ firstShort k (i + 1) (getD ends i 0) (drop (i + 1) ends)
   unfolding firstShort
   short-next e = rw (drop-cons ends i 0, le-ltb _ _ e, add-one)
 
+-- no string is left
 pub short-end : (k before : ℕ) (ends : List ℕ) (i : ℕ) → length ends ≤ i → firstShort k i before (drop i ends) ≡ 0
 unfolding firstShort
 short-end k before ends i h = rw (drop-of-length-le ends h)
@@ -43,9 +45,11 @@ module _ (k before : ℕ) (ends : List ℕ) (i : ℕ) where
       go (yes l) = rw (short-next k before ends i h l, le-leb (before + k) (getD ends i 0) l)
       go (no l) = let s : getD ends i 0 < before + k = omega arith in rw (short-here k before ends i h s, lt-leb (before + k) (getD ends i 0) s) (ne-eqb (i + 1) 0 (λ q. omega arith))
 
+  -- one string more was tested
   pub none-short-next : i < length ends → (all good : Bool) → all ≡ (good && noneShort) → all ≡ ((good && leb (before + k) (getD ends i 0)) && eqb (firstShort k (i + 1) (getD ends i 0) (drop (i + 1) ends)) 0)
   none-short-next h all good q = q ∙ (ap (λ (t : Bool). good && t) (none-short-step h) ∙ and-assoc good (leb (before + k) (getD ends i 0)) (eqb (firstShort k (i + 1) (getD ends i 0) (drop (i + 1) ends)) 0))
 
+  -- all were tested
   pub none-short-end : length ends ≤ i → (all good : Bool) → all ≡ (good && noneShort) → good ≡ all
   none-short-end h all good q = sym (q ∙ (ap (λ (n : ℕ). good && eqb n 0) (short-end k before ends i h) ∙ and-true good))
 
@@ -57,9 +61,11 @@ last-pred before [] h = absurd (h refl)
 last-pred before (e ∷ []) h = refl
 last-pred before (e ∷ (f ∷ ends)) h = rw sub-one (rw sub-one at (last-pred e (f ∷ ends) (λ q. omega arith)))
 
+-- the last end by its place
 pub last-is : (ends : List ℕ) → (length ends ≡ 0 → ⊥) → getD ends (length ends - 1) 0 ≡ lastEnd 0 ends
 last-is ends h = last-pred 0 ends h
 
+-- with no string it is 0
 pub last-none : (ends : List ℕ) → length ends ≡ 0 → 0 ≡ lastEnd 0 ends
 unfolding lastEnd
 last-none [] h = refl

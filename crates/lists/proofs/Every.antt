@@ -1,7 +1,7 @@
 -- Laws of `All`, `every` and `same`. Assumes nothing.
 use mathlib.Core.Path.{_≡_, refl, sym, ap, ap₂, _∙_, subst}
-use mathlib.Core.Bool.{Bool, true, false, _&&_, true≢false, false≢true}
-use mathlib.Core.List.{List, [], _∷_, _++_, map}
+use mathlib.Core.Bool.{Bool, true, false, _&&_, false≢true}
+use mathlib.Core.List.{List, [], _∷_, _++_}
 use Prim.Native.Nat.{ℕ, zero, suc, _+_, _<_, _≤_}
 use native.Mathlib.Nat.{not-suc-le-zero, le-of-suc-le-suc}
 use native.Mathlib.Omega.{arith}
@@ -51,6 +51,7 @@ module _ {A : Type 0} (P : A → Type 0) where
   all-right [] ys h = h
   all-right (x ∷ xs) ys h = all-right xs ys (h .1)
 
+  -- what holds of all holds at each place
   pub all-at : (xs : List A) → All P xs → (i : ℕ) (d : A) → i < length xs → P (getD xs i d)
   all-at [] h i d l = absurd (not-suc-le-zero l)
   all-at (x ∷ xs) h zero d l = h .0
@@ -82,6 +83,7 @@ module _ {A : Type 0} where
   every-all test [] e = tt
   every-all test (x ∷ xs) e = (and-left (test x) (every test xs) e, every-all test xs (and-right (test x) (every test xs) e))
 
+  -- the type and the test say the same
   pub all-every : (test : A → Bool) (xs : List A) → All (λ x. test x ≡ true) xs → every test xs ≡ true
   unfolding every
   all-every test [] h = refl
@@ -102,6 +104,7 @@ module _ {A : Type 0} (test : A → Bool) (xs : List A) (i : ℕ) (d : A) (good 
 
 -- ─── equal lists of numbers ──────────────────────────────────────────────────
 
+-- lists that test equal are equal
 pub same-is : (xs ys : List ℕ) → same xs ys ≡ true → xs ≡ ys
 unfolding same
 same-is [] [] e = refl

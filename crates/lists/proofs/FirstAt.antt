@@ -16,5 +16,6 @@ module _ {A : Type 0} (test : A → Bool) (d : A) where
   first-at-from b (x ∷ xs) (suc i) l e h =
       rw (h 0 (omega arith)) (first-at-from (suc b) xs i (omega arith) e (λ j g. h (suc j) (omega arith)) ∙ (omega arith))
 
+  -- the first is known by its place: it meets the test, and none before it does
   pub first-at : (xs : List A) (i : ℕ) → i < length xs → test (getD xs i d) ≡ true → ((j : ℕ) → j < i → test (getD xs j d) ≡ false) → firstThat test xs ≡ suc i
   first-at xs i l e h = first-at-from 0 xs i l e h ∙ (omega arith)

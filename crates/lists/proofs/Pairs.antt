@@ -7,7 +7,7 @@ use lib.ListN.{length, getD}
 use Rattle.lists.specs.Count.{countFrom}
 use Rattle.lists.specs.Every.{All}
 use Rattle.lists.specs.Pairs.{Pairs}
-use Rattle.lists.proofs.Every.{all-at, at-all, all-map}
+use Rattle.lists.proofs.Every.{all-at, all-map}
 
 module _ {A : Type 0} where
   pub pairs-at : (R : A → A → Type 0) (xs : List A) → Pairs R xs → (i j : ℕ) (d : A) → i < j → j < length xs → R (getD xs i d) (getD xs j d)

@@ -8,9 +8,7 @@ use native.Mathlib.Omega.{arith}
 use lib.ListN.{length, getD, take, drop, set, length-drop, length-set}
 use lib.Seq.{length-take-le, take-at, drop-at, take-take, take-all, take-add, drop-drop, getD-take, getD-drop, getD-set-other, drop-set-add, drop-set-lt, take-set-lt, take-set-le, ext-getD}
 use borrow.Rule.Slice.PartMut.{putMid, postOf, same-len-mid, mid-len, take-put, drop-put}
-use Rattle.lists.specs.Every.{All}
 use Rattle.lists.specs.Regions.{part, Apart, Off, Clear, Among, Only}
-use Rattle.lists.proofs.Every.{all-take, all-drop}
 
 -- ─── regions that share no entry ─────────────────────────────────────────────
 
@@ -55,6 +53,7 @@ module _ {A : Type 0} where
   unfolding part
   part-length b n w h = length-take-le n (drop b w) (simp length-drop (omega arith))
 
+  -- entry i of a region is entry b + i of the table
   pub part-at : (b n : ℕ) (w : List A) (i : ℕ) (d : A) → i < n → getD (part b n w) i d ≡ getD w (b + i) d
   unfolding part
   part-at b n w i d h = getD-take n (drop b w) i d h ∙ getD-drop b w i d
@@ -72,6 +71,7 @@ module _ {A : Type 0} where
 
   -- ─── the parts of a region ─────────────────────────────────────────────────
 
+  -- two regions side by side
   pub part-add : (b a n : ℕ) (w : List A) → part b (a + n) w ≡ part b a w ++ part (b + a) n w
   unfolding part
   part-add b a n w = take-add a n (drop b w) ∙ ap (λ (l : List A). take a (drop b w) ++ take n l) (drop-drop a b w)
@@ -80,6 +80,7 @@ module _ {A : Type 0} where
   unfolding part
   part-take b n e w h = take-take e n (drop b w) h
 
+  -- a region of a region
   pub part-mid : (b n a k : ℕ) (w : List A) → a + k ≤ n → b + n ≤ length w → take k (drop a (part b n w)) ≡ part (b + a) k w
   part-mid b n a k w h g =
       ext (take k (drop a (part b n w))) (part (b + a) k w) (ll ∙ sym (part-length (b + a) k w (omega arith)))
@@ -100,10 +101,12 @@ module _ {A : Type 0} where
 
   -- ─── a store in a region, and outside of it ────────────────────────────────
 
+  -- an entry stored inside a region
   pub part-set : (b n : ℕ) (w : List A) (i : ℕ) (x : A) → i < n → part b n (set w (b + i) x) ≡ set (part b n w) i x
   unfolding part
   part-set b n w i x h = rw (drop-set-add b w i x) (take-set-lt n (drop b w) i x h)
 
+  -- an entry stored outside it
   pub part-set-off : (b n : ℕ) (w : List A) (i : ℕ) (x : A) → (i < b) ⊎ (b + n ≤ i) → part b n (set w i x) ≡ part b n w
   unfolding part
   part-set-off b n w i x (inl l) = rw (drop-set-lt b w i x l)
@@ -154,9 +157,11 @@ module _ {A : Type 0} where
     pub only-set : (i : ℕ) (x : A) → i < n → Only b n w (set v (b + i) x)
     only-set i x h = among-set ((b, n) ∷ []) w v (b + i) x p (hit b n [] i h)
 
+    -- a region apart from the one that was written holds what it held, entry by entry
     pub only-at : (a m : ℕ) → Apart a m b n → (i : ℕ) (d : A) → i < m → getD v (a + i) d ≡ getD (part a m w) i d
     only-at a m c = among-at ((b, n) ∷ []) a m w v p (c, tt)
 
+    -- and as a whole
     pub only-part : (a m : ℕ) → Apart a m b n → a + m ≤ length w → part a m v ≡ part a m w
     only-part a m c = among-part ((b, n) ∷ []) a m w v p (c, tt)
 
@@ -169,6 +174,7 @@ module _ {A : Type 0} where
         ap (take n) (drop-at (take b w) (ys ++ postOf b (b + n - b) w) b (length-take-le b w (omega arith)))
         ∙ take-at ys (postOf b (b + n - b) w) n e
 
+    -- a part that was lent for writing is all that changes
     pub lent-only : Only b n w (putMid b (b + n - b) w ys)
     lent-only =
         record {

@@ -5,7 +5,7 @@ use Prim.Native.Nat.{ℕ, suc, _+_, _-_, _<_, _≤_}
 use native.Mathlib.Nat.{add-suc, suc-add, zero-add, add-zero}
 use native.Mathlib.Numerals.{add-one}
 use native.Mathlib.Omega.{arith}
-use lib.ListN.{length, take, drop, set, getD, take-append-drop, length-set, length-append, length-drop, length-take, drop-of-length-le}
+use lib.ListN.{length, take, drop, set, getD, take-append-drop, length-set, length-append, length-drop, drop-of-length-le}
 use lib.Seq.{take-suc-set, drop-set-lt, drop-cons, drop-drop, take-all, take-at, drop-at, length-take-le}
 use Rattle.lists.specs.Fill.{put, fill}
 
@@ -104,5 +104,6 @@ module _ {A : Type 0} where
   pub restated : {size at : ℕ} {table target rest rest' : List A} → rest ≡ rest' → Storing size table target rest at → Storing size table target rest' at
   restated {size} {at} {table} {target} e s = subst (λ (r : List A). Storing size table target r at) e s
 
+  -- where nothing is left to store, the table is the target
   pub stored : {size at : ℕ} {table target : List A} → Storing size table target [] at → table ≡ target
   stored {at = at} {table = table} s = sym (put-none at table) ∙ s .ends

@@ -30,11 +30,13 @@ module _ (m : ℕ) (places : List ℤ) (i : ℕ) (earlier : List ℕ) (l : i < l
   unfolding firstBad
   bad-here e = rw (drop-next places i (pos 0) l, e, add-one)
 
+  -- a good place: the first bad one comes later
   pub bad-later : badPlace m earlier (natAbs (getD places i (pos 0))) ≡ false
       → firstBad m i earlier (drop i places) ≡ firstBad m (i + 1) (earlier ++ (natAbs (getD places i (pos 0)) ∷ [])) (drop (i + 1) places)
   unfolding firstBad
   bad-later e = rw (drop-next places i (pos 0) l, e, add-one)
 
+-- no place is left
 pub bad-none : (m i : ℕ) (earlier : List ℕ) (places : List ℤ) → length places ≤ i → firstBad m i earlier (drop i places) ≡ 0
 unfolding firstBad
 bad-none m i earlier places l = rw (drop-of-length-le places l)
@@ -46,20 +48,24 @@ module _ (m : ℕ) (earlier : List ℕ) (a : ℕ) where
   unfolding badPlace
   bad-zero e = rw (eq-eqb a 0 e)
 
+  -- a place beyond m
   pub bad-high : (a ≡ 0 → ⊥) → m < a → badPlace m earlier a ≡ true
   unfolding badPlace
   bad-high n h = rw (ne-eqb a 0 n, lt-ltb m a h)
 
+  -- a place that an earlier string has
   pub bad-used : (a ≡ 0 → ⊥) → a ≤ m → (holder a earlier ≡ 0 → ⊥) → badPlace m earlier a ≡ true
   unfolding badPlace
   bad-used n h u = rw (ne-eqb a 0 n, le-ltb m a h, ne-eqb (holder a earlier) 0 u)
 
+  -- a place of 1 to m that is free
   pub good-place : (a ≡ 0 → ⊥) → a ≤ m → holder a earlier ≡ 0 → badPlace m earlier a ≡ false
   unfolding badPlace
   good-place n h u = rw (ne-eqb a 0 n, le-ltb m a h, eq-eqb (holder a earlier) 0 u)
 
 -- ─── marks ───────────────────────────────────────────────────────────────────
 
+-- zeros name no string
 pub marks-none : (m : ℕ) (work : List ℕ) → take m work ≡ replicate m 0 → Marks m work []
 unfolding Rattle.lists.specs.First.firstFrom
 marks-none m work e a h = sym (getD-take m work a 0 h) ∙ (ap (λ (l : List ℕ). getD l a 0) e ∙ getD-replicate m a 0 0 h)
@@ -70,6 +76,7 @@ marked m work places a p q marks =
     let f : suc (a - 1) ≡ a = omega arith in
     marks (a - 1) (omega arith) ∙ ap (λ (n : ℕ). holder n places) f
 
+-- one string more is named
 pub marks-more : (m : ℕ) (work places : List ℕ) (a : ℕ) → (a ≡ 0 → ⊥) → a ≤ m → m ≤ length work → holder a places ≡ 0 → Marks m work places
     → Marks m (set work (a - 1) (length places + 1)) (places ++ (a ∷ []))
 marks-more m work places a p q r u marks b h = go (ℕ-discrete (suc b) a)
@@ -107,6 +114,7 @@ pub record Marking (m : ℕ) (places : List ℤ) (before work : List ℕ) (i : �
   pub marks : Marks m work (map natAbs (take i places))
   pub first : firstBad m 0 [] places ≡ firstBad m i (map natAbs (take i places)) (drop i places)
 
+-- no string is named yet
 pub marking-begins : (places : List ℤ) (work : List ℕ) → take (length places) work ≡ replicate (length places) 0 → Marking (length places) places work work 0
 marking-begins places work e = record { inside = omega arith; size = refl; rest = refl; marks = marks-none (length places) work e; first = refl }
 

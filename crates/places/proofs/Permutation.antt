@@ -128,6 +128,7 @@ twice w (x ∷ xs) i zero l b e f = absurd (omega arith)
 twice w (x ∷ xs) zero (suc j) l b e f = omega (arith, agree-same w x (sym e), occurs-at w xs j (omega arith) f)
 twice w (x ∷ xs) (suc i) (suc j) l b e f = omega (arith, twice w xs i j (omega arith) (omega arith) e f)
 
+-- no two strings have one place
 pub one-string : {m : ℕ} {places : List ℤ} → SignedPermutation m places → (i j : ℕ) → i < m → j < m → natAbs (getD places i (pos 0)) ≡ natAbs (getD places j (pos 0)) → i ≡ j
 one-string {m} {places} s i j l b e = go (decLt i j) (decLt j i)
   where

@@ -26,6 +26,7 @@ module _ (z : ℤ) (f : SFits w32 z) where
   pub cast-wide : SFits w64 (toZ w32 (ofZ w32 z))
   cast-wide = rw same (wide f)
 
+-- the machine's test of the sign is the definition's
 pub below-zero : (z : ℤ) (f : SFits w32 z) → ltZ (toZ w32 (ofZ w32 z)) (pos 0) ≡ isTurned z
 below-zero (pos n) f = ap (λ (x : ℤ). ltZ x (pos 0)) (same (pos n) f) ∙ no-less n
   where
@@ -41,6 +42,7 @@ sized-pos : (z : ℤ) → isTurned z ≡ false → z ≡ pos (natAbs z)
 sized-pos (pos n) h = refl
 sized-pos (negsuc n) h = let q : _≡_ {A = ℕ} 0 1 = cc in absurd (omega arith)
 
+-- no size is beyond 2 ^ 31
 pub size-high : (z : ℤ) → SFits w32 z → natAbs z ≤ 2147483648
 size-high (pos n) f = omega (arith, f .sfits)
 size-high (negsuc n) f = omega (arith, f .sfits)
@@ -49,6 +51,7 @@ module _ (z : ℤ) (f : SFits w32 z) (h : ltZ (toZ w32 (ofZ w32 z)) (pos 0) ≡ 
   away : pos 0 -ℤ toZ w64 (ofZ w64 (toZ w32 (ofZ w32 z))) ≡ pos (natAbs z)
   away = ap (λ (x : ℤ). pos 0 -ℤ x) (same-wide z f) ∙ sized-neg z (sym (below-zero z f) ∙ h)
 
+  -- the negative of a 32-bit number fits in 64 bits
   pub away-fits : SFits w64 (pos 0 -ℤ toZ w64 (ofZ w64 (toZ w32 (ofZ w32 z))))
   away-fits = rw away (record { sfits = omega (arith, size-high z f) })
 

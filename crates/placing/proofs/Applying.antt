@@ -44,10 +44,12 @@ module _ (k : ℕ) (letters ends weights : List ℕ) (places : List ℤ) (newLet
           work-room = room-good _ _ (d .1);
         }
 
+    -- refused by 2 to 6 or 1
     pub apply-refused : {number place : ℕ} → tables ≡ Bad number place → outcome (Refused number place) newLetters newEnds newWeights work ≡ applyOf k letters ends weights places newLetters newEnds newWeights work
     unfolding applyOf
     apply-refused e = refused _ _ (sym t ∙ e)
 
+    -- not refused by these
     pub apply-goes-on : {done : Outcome} → tables ≡ Good → done ≡ placedOf k letters ends weights places newLetters newEnds newWeights work → done ≡ applyOf k letters ends weights places newLetters newEnds newWeights work
     unfolding applyOf
     apply-goes-on good e = settled _ e (sym t ∙ good)
@@ -59,6 +61,7 @@ module _ (k : ℕ) (letters ends weights : List ℕ) (places : List ℤ) (newLet
     zeroed-again : {zeros : List ℕ} → zeros ≡ fill (replicate (length ends) 0) marks → zeros ≡ fill (replicate (length ends) 0) work
     zeroed-again z = z ∙ fill-again (replicate (length ends) 0) work marks (length ends) (length-replicate {A = ℕ} (length ends) 0) (judged .rest)
 
+    -- refused by 8
     pub places-refused : {number place : ℕ} {zeros : List ℕ} → verdict ≡ Bad number place → zeros ≡ fill (replicate (length ends) 0) marks
         → outcome (Refused number place) newLetters newEnds newWeights zeros ≡ placedOf k letters ends weights places newLetters newEnds newWeights work
     unfolding placedOf

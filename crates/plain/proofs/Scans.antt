@@ -43,6 +43,7 @@ module _ (isAsked isTurned : ℕ → Bool) where
         let q : suc (passed + i) ≡ passed + (i + 1) = omega arith in
         ap (scanFrom isAsked isTurned (passed + i) turned) (count-next at number i l) ∙ (scan-asked (passed + i) turned (at + i) _ e ∙ ap At q)
 
+    -- another word: the pass goes on, and remembers the first turned one
     pub string-other : isAsked (at + i) ≡ false → (here : Bool) → here ≡ isTurned (at + i) → (turned' : ℕ) → turned' ≡ choose (eqb turned 0 && here) (passed + (i + 1)) turned
         → scanFrom isAsked isTurned (passed + i) turned (countFrom (at + i) (number - i)) ≡ scanFrom isAsked isTurned (passed + (i + 1)) turned' (countFrom (at + (i + 1)) (number - (i + 1)))
     string-other e here b turned' t =
@@ -53,9 +54,11 @@ module _ (isAsked isTurned : ℕ → Bool) where
         ∙ ap (λ (n : ℕ). scanFrom isAsked isTurned (passed + (i + 1)) n (countFrom (at + (i + 1)) (number - (i + 1))))
         (sym (t ∙ ap (λ (s : Bool). choose (eqb turned 0 && s) (passed + (i + 1)) turned) b))))
 
+  -- before the first k-mer of the string
   pub string-start : (passed turned at number : ℕ) → scanFrom isAsked isTurned passed turned (countFrom at number) ≡ scanFrom isAsked isTurned (passed + 0) turned (countFrom (at + 0) (number - 0))
   string-start passed turned at number = ap₂ (λ (n : ℕ) (l : List ℕ). scanFrom isAsked isTurned n turned l) (sym (add-zero passed)) (count-start at number)
 
+  -- after its last
   pub string-end : (passed turned at number i : ℕ) → number ≤ i → scanFrom isAsked isTurned (passed + i) turned (countFrom (at + i) (number - i)) ≡ NotAsked turned
   string-end passed turned at number i l = ap (scanFrom isAsked isTurned (passed + i) turned) (count-end at number i l) ∙ scan-none (passed + i) turned
 

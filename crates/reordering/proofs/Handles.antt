@@ -113,6 +113,7 @@ module _ (k : ℕ) (letters ends weights : List ℕ) (passes : Passes k letters 
       ap (λ (s : Str). length (s .weights)) (string-at letters ends weights none long i l)
       ∙ length-take-le (within k (startOf ends i) (getD ends i 0)) (drop (firstOf k ends i) weights) (rw length-drop (omega (arith, last-inside long i l, judged .counted, judged .shape .last)))
 
+  -- from strings to handles
   pub handle-weighs : Weighs k (strings k letters ends weights) word weight → WeighsAt k letters ends weights word weight
   handle-weighs u =
       let i : ℕ = u .0 in
@@ -128,6 +129,7 @@ module _ (k : ℕ) (letters ends weights : List ℕ) (passes : Passes k letters 
         ap (λ (n : ℕ). getD weights n 0) (sym q) ∙ (kmer-weight long i a l b letters weights ∙ u .2 .3),
       )
 
+  -- and back
   pub weighs-handle : WeighsAt k letters ends weights word weight → Weighs k (strings k letters ends weights) word weight
   weighs-handle u =
       let f = located k 0 ends (u .0 - 1) (omega (arith, u .1, u .2)) in
@@ -156,6 +158,7 @@ module _ (k : ℕ) (letters ends weights : List ℕ) (places : List ℤ) (passes
       (subst (λ (ss : List Str). Weighs k ss word weight) (sym (reordered-strings k letters ends weights places passes permutation))
       (weighs-after k letters ends weights places passes permutation word weight (weighs-handle k letters ends weights passes word weight u)))
 
+  -- and no word gains a weight
   pub weight-from : WeighsAt k (lettersIn (reordered k letters ends weights places)) (endsIn 0 (reordered k letters ends weights places)) (weightsIn (reordered k letters ends weights places)) word weight
       → WeighsAt k letters ends weights word weight
   weight-from u =

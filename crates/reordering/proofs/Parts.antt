@@ -21,11 +21,13 @@ start-from before j [] h = absurd (omega arith)
 start-from before zero (e ∷ ends) h = refl
 start-from before (suc j) (e ∷ ends) h = start-from e j ends (omega arith)
 
+-- a later string starts where the one before ends
 pub start-later : (ends : List ℕ) (i : ℕ) → (i ≡ 0 → ⊥) → i < length ends → getD ends (i - 1) 0 ≡ startOf ends i
 start-later ends i n l =
     let q : suc (i - 1) ≡ i = omega arith in
     sym (start-from 0 (i - 1) ends (omega arith)) ∙ ap (λ (j : ℕ). lastEnd 0 (take j ends)) q
 
+-- the first starts at 0
 pub start-first : (ends : List ℕ) (i : ℕ) → i ≡ 0 → 0 ≡ startOf ends i
 unfolding lastEnd
 start-first ends i e = sym (ap (λ (j : ℕ). lastEnd 0 (take j ends)) e)
@@ -64,6 +66,7 @@ module _ {k : ℕ} {ends : List ℕ} (g : Long k ends) (i : ℕ) (l : i < length
   pub end-inside : getD ends i 0 ≤ lastEnd 0 ends
   end-inside = standing k 0 0 i ends (g .long) l .inside
 
+  -- its weights lie within the weights
   pub last-inside : firstOf k ends i + within k (startOf ends i) (getD ends i 0) ≤ lastEnd 0 ends - length ends * (k - 1)
   last-inside = omega (arith, standing k 0 0 i ends (g .long) l .after, string-long, weights-before, suc-mul i (k - 1), g .k-low)
 
@@ -95,6 +98,7 @@ string-from k n before (suc i) letters (e ∷ ends) weights d low h l =
     string-from k (suc n) e i (drop (e - before) letters) ends (drop (within k before e) weights) d low (a .1) (omega arith)
     ∙ (λ t. record { letters = take (getD ends i 0 - z) (p t); weights = take (within k z (getD ends i 0)) (q t) })
 
+-- string i by its parts of the tables
 pub string-at : {k : ℕ} (letters ends weights : List ℕ) (d : Str) → Long k ends → (i : ℕ) → i < length ends
     → getD (strings k letters ends weights) i d
     ≡ record { letters = take (getD ends i 0 - startOf ends i) (drop (startOf ends i) letters); weights = take (within k (startOf ends i) (getD ends i 0)) (drop (firstOf k ends i) weights) }

@@ -79,6 +79,7 @@ module _ {k : ℕ} {letters ends weights : List ℕ} {places : List ℤ} {work :
         sym (map-at natAbs (pos 0) places (getD work j 0 - 1)) ∙ (ap (λ (n : ℕ). getD (map natAbs places) (n - 1) 0) e ∙ f .2),
       )
 
+  -- work names a string for each place
   pub part-asked : (j : ℕ) → j < length ends → Long k ends × (getD work j 0 - 1 < length ends) × (length places ≡ length ends)
   part-asked j l = (long, named j l .1, p .permutation .number)
 
@@ -158,14 +159,17 @@ module _ {k : ℕ} {letters ends weights : List ℕ} {places : List ℤ} {work :
     next-there : drop j (reordered k letters ends weights places) ≡ getD (reordered k letters ends weights places) j none ∷ drop (j + 1) (reordered k letters ends weights places)
     next-there = drop-next (reordered k letters ends weights places) j none (omega (arith, sizes .number))
 
+    -- the letters of one string more
     pub letters-next : lettersIn (drop j (reordered k letters ends weights places)) ≡ lettersBy (r .turned) letters-from ++ lettersIn (drop (j + 1) (reordered k letters ends weights places))
     unfolding lettersIn
     letters-next = ap lettersIn next-there ∙ ap (λ (x : List ℕ). x ++ lettersIn (drop (j + 1) (reordered k letters ends weights places))) letters-there
 
+    -- the weights of one string more
     pub weights-next : weightsIn (drop j (reordered k letters ends weights places)) ≡ columnBy (r .turned) weights-from ++ weightsIn (drop (j + 1) (reordered k letters ends weights places))
     unfolding weightsIn
     weights-next = ap weightsIn next-there ∙ ap (λ (x : List ℕ). x ++ weightsIn (drop (j + 1) (reordered k letters ends weights places))) weights-there
 
+    -- one end more
     pub ends-next : (at : ℕ) → endsIn at (drop j (reordered k letters ends weights places)) ≡ (at + (r .end - r .start)) ∷ endsIn (at + (r .end - r .start)) (drop (j + 1) (reordered k letters ends weights places))
     unfolding endsIn
     ends-next at =

@@ -33,6 +33,7 @@ pub record Sizes (letters ends weights : List ℕ) (ss : List Str) : Type 0 wher
   pub ends-number : length (endsIn 0 ss) ≡ length ends
   pub weights-number : length (weightsIn ss) ≡ length weights
 
+-- as many strings as ends
 pub strings-number : (k : ℕ) (letters ends weights : List ℕ) → Passes k letters ends weights → length (strings k letters ends weights) ≡ length ends
 strings-number k letters ends weights passes =
     let j = collection-good k letters ends weights passes in
@@ -47,6 +48,7 @@ module _ (k : ℕ) (letters ends weights : List ℕ) (places : List ℤ) (passes
   many : length (strings k letters ends weights) ≡ length ends
   many = strings-number k letters ends weights passes
 
+  -- as many letters, ends and weights as before
   pub reordered-sizes : Sizes letters ends weights (reordered k letters ends weights places)
   unfolding lettersIn weightsIn
   reordered-sizes =
@@ -71,6 +73,7 @@ module _ (k : ℕ) (letters ends weights : List ℕ) (places : List ℤ) (passes
   old-letters : All (λ s. All (λ b. isLetter b ≡ true) (s .letters)) (strings k letters ends weights)
   old-letters = each-letters (λ b. isLetter b ≡ true) k 0 letters ends weights (judged .all-letters)
 
+  -- each string has its letters and its weights
   pub reordered-whole : All (Whole k) (reordered k letters ends weights places)
   reordered-whole = all-arranged turnStr (Whole k) (turned-whole k) places (strings k letters ends weights) old-whole
 
@@ -126,6 +129,7 @@ module _ (k : ℕ) (letters ends weights : List ℕ) (places : List ℤ) (passes
           subst (Has k word weight) (turn-turn-str k s letters-at)
           (has-turned k (turnStr s) (turned-letters (s .letters) letters-at) (turned-whole k s whole-at) (omega (arith, judged .shape .k-low)) word weight h)
 
+    -- a word keeps its weight
     pub weighs-after : Weighs k (strings k letters ends weights) word weight → Weighs k (reordered k letters ends weights places) word weight
     weighs-after u =
         let i : ℕ = u .0 in
@@ -133,6 +137,7 @@ module _ (k : ℕ) (letters ends weights : List ℕ) (places : List ℤ) (passes
         let r = all-at (λ p. (1 ≤ natAbs p) × (natAbs p ≤ length ends)) places (permutation .range) i (pos 0) (omega (arith, permutation .number)) in
         (natAbs (getD places i (pos 0)) - 1, omega (arith, r, reordered-sizes .number), subst (Has k word weight) (sym (string-stands i l)) (has-there i l (getD places i (pos 0)) (u .2)))
 
+    -- and gains none
     pub weighs-before : Weighs k (reordered k letters ends weights places) word weight → Weighs k (strings k letters ends weights) word weight
     weighs-before u =
         let j : ℕ = u .0 in

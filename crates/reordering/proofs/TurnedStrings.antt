@@ -55,6 +55,7 @@ module _ (letters : List ℕ) (h : All (λ b. isLetter b ≡ true) letters) wher
   turned-codes : Letters (turn (spell letters))
   turned-codes = letters-turn (spell letters) (spell-letters letters h)
 
+  -- turned letters are letters
   pub turned-letters : All (λ b. isLetter b ≡ true) (turnLetters letters)
   unfolding turnLetters
   turned-letters = map-all (λ b. isLetter b ≡ true) capital (turn (spell letters)) (capitals (turn (spell letters)) turned-codes)
@@ -63,6 +64,7 @@ module _ (letters : List ℕ) (h : All (λ b. isLetter b ≡ true) letters) wher
       capitals [] g = tt
       capitals (x ∷ w) g = (capital-is-letter x (g .0), capitals w (g .1))
 
+  -- they spell the reverse complement
   pub turned-spells : spell (turnLetters letters) ≡ turn (spell letters)
   unfolding turnLetters
   turned-spells = spell-capital (turn (spell letters)) turned-codes
@@ -74,16 +76,19 @@ module _ (letters : List ℕ) (h : All (λ b. isLetter b ≡ true) letters) wher
       ∙ (ap (λ (w : List ℕ). take k (drop b w)) turned-spells
       ∙ (turn-cut (spell letters) a k b (e ∙ sym (length-map letters letter)) ∙ ap turn (sym (map-cut letter k a letters))))
 
+  -- turned twice they are the letters again
   pub turned-back : turnLetters (turnLetters letters) ≡ letters
   unfolding turnLetters
   turned-back = ap (λ (w : List ℕ). map capital (turn w)) turned-spells ∙ (ap (map capital) (turn-turn (spell letters) (spell-letters letters h)) ∙ capital-spell letters h)
 
 -- ─── strings ─────────────────────────────────────────────────────────────────
 
+-- a turned string has its letters and its weights
 pub turned-whole : (k : ℕ) (s : Str) → Whole k s → Whole k (turnStr s)
 turned-whole k s h =
     record { long = omega (arith, h .long, length-turned (s .letters)); counted = omega (arith, h .counted, length-turned (s .letters), length-reverse (s .weights)) }
 
+-- what holds of all weights holds of the turned ones
 pub turned-weights : (P : ℕ → Type 0) (s : Str) → All P (s .weights) → All P (turnStr s .weights)
 turned-weights P s h = all-reverse P (s .weights) h
 

@@ -18,6 +18,7 @@ module _ (n : ℕ) where
   follow-uneven w f (v ∷ ws) [] h = refl
   follow-uneven w f (v ∷ ws) (g ∷ fs) h = and-no (follows n w f v g) (follow-uneven v g ws fs (λ e. h (ap suc e)))
 
+  -- tables of unequal length are no run list
   pub list-uneven : (ws fs : List ℕ) → (length ws ≡ length fs → ⊥) → isRunList n ws fs ≡ false
   unfolding isRunList
   list-uneven [] [] h = absurd (h refl)
@@ -25,12 +26,14 @@ module _ (n : ℕ) where
   list-uneven (w ∷ ws) [] h = refl
   list-uneven (w ∷ ws) (f ∷ fs) h = and-no (begins n w f) (follow-uneven w f ws fs (λ e. h (ap suc e)))
 
+  -- empty tables are the run list of no k-mers
   pub list-none : (ws fs : List ℕ) → length ws ≡ length fs → length ws ≡ 0 → isRunList n ws fs ≡ eqb n 0
   unfolding isRunList
   list-none [] [] e h = refl
   list-none [] (f ∷ fs) e h = absurd (omega arith)
   list-none (w ∷ ws) fs e h = absurd (omega arith)
 
+  -- the first run, and whether the others follow
   pub list-first : (ws fs : List ℕ) → length ws ≡ length fs → (length ws ≡ 0 → ⊥) → (t : Bool) → t ≡ begins n (getD ws 0 0) (getD fs 0 0)
       → isRunList n ws fs ≡ (t && allFollow n (getD ws 0 0) (getD fs 0 0) (drop 1 ws) (drop 1 fs))
   unfolding isRunList
@@ -48,6 +51,7 @@ module _ (n : ℕ) where
         ∙ (and-assoc good (follows n w f (getD ws i 0) (getD fs i 0)) (allFollow n (getD ws i 0) (getD fs i 0) (drop (i + 1) ws) (drop (i + 1) fs))
         ∙ ap (λ (b : Bool). (good && b) && allFollow n (getD ws i 0) (getD fs i 0) (drop (i + 1) ws) (drop (i + 1) fs)) (sym e)))
 
+    -- no run is left
     pub follow-end : length ws ≤ i → length fs ≤ i → all ≡ (good && allFollow n w f (drop i ws) (drop i fs)) → good ≡ all
     unfolding allFollow
     follow-end l m q =

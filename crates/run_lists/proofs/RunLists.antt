@@ -26,6 +26,7 @@ pub record Later (n w f : ℕ) (weights firsts : List ℕ) : Type 0 where
   pub rise : Pairs (λ g h. g < h) firsts
   pub within : All (λ g. g ≤ n) firsts
 
+-- what runs keep to that follow one another
 pub follow-good : (n w f : ℕ) (weights firsts : List ℕ) → allFollow n w f weights firsts ≡ true → Later n w f weights firsts
 unfolding allFollow
 follow-good n w f [] [] e = record { same-length = refl; above = tt; rise = tt; within = tt }
@@ -52,6 +53,7 @@ pub record RunListed (n : ℕ) (weights firsts : List ℕ) : Type 0 where
   pub rise : Pairs (λ g h. g < h) firsts
   pub within : All (λ g. g ≤ n) firsts
 
+-- what a run list keeps to
 pub list-good : (n : ℕ) (weights firsts : List ℕ) → isRunList n weights firsts ≡ true → RunListed n weights firsts
 unfolding isRunList
 list-good n [] [] e =
@@ -70,6 +72,7 @@ list-good n (w ∷ weights) (f ∷ firsts) e =
       within = (leb-true f n (and-right (eqb f 1) (leb f n) b), r .within);
     }
 
+-- what passes 12
 pub list-verdict-good : (n : ℕ) (weights firsts : List ℕ) → runListVerdict n weights firsts ≡ Good → (n ≤ 1048576) × (isRunList n weights firsts ≡ true)
 unfolding runListVerdict
 list-verdict-good n weights firsts h =
@@ -78,6 +81,7 @@ list-verdict-good n weights firsts h =
 
 -- ─── the last run at or before a handle ──────────────────────────────────────
 
+-- every run left starts after the handle
 pub last-none : (handle so-far : ℕ) (weights firsts : List ℕ) → All (λ g. handle < g) firsts → lastAt handle so-far weights firsts ≡ so-far
 unfolding lastAt
 last-none handle so-far [] firsts h = refl

@@ -111,10 +111,12 @@ after s rs zero = s
 after s [] (suc i) = s
 after s (r ∷ rs) (suc i) = after (stepped s r) rs i
 
+-- before any record
 pub after-none : (s : State) (rs : List Run) → after s rs 0 ≡ s
 unfolding after
 after-none s rs = refl
 
+-- after all of them
 pub after-all : (s : State) (rs : List Run) → after s rs (length rs) ≡ passed s rs
 unfolding after passed
 after-all s [] = refl
@@ -126,5 +128,6 @@ after-suc s [] i l = absurd (not-suc-le-zero l)
 after-suc s (r ∷ rs) zero l = refl
 after-suc s (r ∷ rs) (suc i) l = after-suc (stepped s r) rs i (le-of-suc-le-suc l)
 
+-- after one more
 pub after-next : (s : State) (rs : List Run) (i : ℕ) → i < length rs → after s rs (i + 1) ≡ stepped (after s rs i) (getD rs i zeros)
 after-next s rs i l = ap (after s rs) (add-one i) ∙ after-suc s rs i l

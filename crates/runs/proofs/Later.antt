@@ -9,14 +9,17 @@ use Rattle.lists.specs.Every.{All}
 use Rattle.lists.proofs.Every.{all-map}
 use Rattle.runs.specs.Runs.{Run, laterRuns}
 
+-- an equal weight goes on with the run
 pub later-equal : (h w v : ℕ) (ws : List ℕ) → v ≡ w → laterRuns h w (v ∷ ws) ≡ laterRuns (suc h) w ws
 unfolding laterRuns
 later-equal h w v ws e = rw (eq-eqb v w e)
 
+-- another weight starts a run
 pub later-other : (h w v : ℕ) (ws : List ℕ) → (v ≡ w → ⊥) → laterRuns h w (v ∷ ws) ≡ (v, suc h) ∷ laterRuns (suc h) v ws
 unfolding laterRuns
 later-other h w v ws e = rw (ne-eqb v w e)
 
+-- no weight is left
 pub later-nil : (h w : ℕ) → laterRuns h w [] ≡ []
 unfolding laterRuns
 later-nil h w = refl

@@ -18,14 +18,17 @@ module _ (w : ℕ) (ws : List ℕ) (i : ℕ) (l : i < length ws) where
   unfolding laterRuns
   later-same e = rw (drop-cons ws i 0, eq-eqb _ _ e, add-one)
 
+  -- weight i is another: a run starts at handle i + 1
   pub later-new : (getD ws i 0 ≡ w → ⊥) → laterRuns i w (drop i ws) ≡ (getD ws i 0, i + 1) ∷ laterRuns (i + 1) (getD ws i 0) (drop (i + 1) ws)
   unfolding laterRuns
   later-new e = rw (drop-cons ws i 0, ne-eqb _ _ e, add-one)
 
+-- no weight is left
 pub later-end : (w : ℕ) (ws : List ℕ) (i : ℕ) → length ws ≤ i → laterRuns i w (drop i ws) ≡ []
 unfolding laterRuns
 later-end w ws i l = rw (drop-of-length-le ws l)
 
+-- the first weight starts a run
 pub runs-first : (ws : List ℕ) → (length ws ≡ 0 → ⊥) → runs ws ≡ (getD ws 0 0, 1) ∷ laterRuns 1 (getD ws 0 0) (drop 1 ws)
 unfolding runs
 runs-first [] h = absurd (h refl)
@@ -49,6 +52,7 @@ column-none column ws table h = sym (ap (λ (rs : List Run). fill (map column rs
 
 -- ─── room for the run list ───────────────────────────────────────────────────
 
+-- a table with room for the runs has an entry where there is a weight
 pub room-some : (ws : List ℕ) (room : ℕ) → (length ws ≡ 0 → ⊥) → length (runs ws) ≤ room → 0 < room
 room-some ws room h l = omega (arith, ap length (runs-first ws h))
 

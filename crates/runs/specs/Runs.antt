@@ -6,7 +6,7 @@ use lib.Dec.{eqb}
 use lib.ListN.{length}
 use Rattle.lists.specs.Choose.{choose}
 use Rattle.lists.specs.Count.{sum}
-use Rattle.collection.specs.Strings.{Str, strings}
+use Rattle.collection.specs.Strings.{strings}
 
 -- a run: its weight and its first handle
 abbrev pub Run : Type 0

@@ -33,6 +33,7 @@ module _ (k : ℕ) (letters : List ℕ) (k-low : 1 ≤ k) (k-high : k ≤ 31) wh
   cut : (j a : ℕ) → code (map twoBits (take j (drop a letters))) ≡ codeAt bits j a
   cut j a = ap code (map-cut twoBits j a letters)
 
+  -- the code of the k - 1 bytes from `at` on is where a pass begins
   pub rolls-begin : (at c : ℕ) → at + (k - 1) ≤ length letters → c ≡ code (map twoBits (take (at + (k - 1) - at) (drop at letters))) → Rolls k letters (at + 0) c
   rolls-begin at c l e =
       let q : at + (k - 1) - at ≡ k - 1 = omega arith in

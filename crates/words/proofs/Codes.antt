@@ -50,6 +50,7 @@ code-none = refl
 
 -- ─── range ───────────────────────────────────────────────────────────────────
 
+-- a code is below 4 ^ length
 pub code-lt : (w : List ℕ) → Letters w → code w < 4 ^ length w
 unfolding codeFrom
 code-lt [] h = omega arith
@@ -63,6 +64,7 @@ code-room w h l = lt-of-lt-of-le (code-lt w h) (pow-le-pow-right (lit< tt) l)
 
 -- ─── one code, one word ──────────────────────────────────────────────────────
 
+-- words of one length that share a code are equal
 pub code-injective : (u v : List ℕ) → length u ≡ length v → Letters u → Letters v → code u ≡ code v → u ≡ v
 code-injective [] [] l g h e = refl
 code-injective [] (y ∷ v) l g h e = absurd (let z : ⊥ = omega arith in z)
@@ -77,11 +79,13 @@ code-injective (x ∷ u) (y ∷ v) l g h e =
 
 -- ─── the word of a code ──────────────────────────────────────────────────────
 
+-- what a code spells is a word
 pub spelled-letters : (k c : ℕ) → Letters (spelled k c)
 unfolding spelled
 spelled-letters zero c = tt
 spelled-letters (suc k) c = all-append (λ x. x < 4) (spelled k (c / 4)) (c % 4 ∷ []) (spelled-letters k (c / 4)) (mod-lt c (lit< tt), tt)
 
+-- of k letters
 pub length-spelled : (k c : ℕ) → length (spelled k c) ≡ k
 unfolding spelled
 length-spelled zero c = refl

@@ -30,6 +30,7 @@ mod-step j c x h =
     let e : (c * 4 + x) % 4 ≡ x = omega arith in
     ap (λ (n : ℕ). (c * 4 + x) % n) m ∙ (mod-mul (c * 4 + x) p (lit< tt) ∙ ap₂ (λ (u v : ℕ). (u % 4 ^ j) * 4 + v) d e)
 
+-- the code without the first letter
 pub tail-code : (x : ℕ) (w : List ℕ) → Letters w → code (x ∷ w) % 4 ^ length w ≡ code w
 tail-code x w h = ap (λ (n : ℕ). n % 4 ^ length w) (code-cons x w) ∙ digits-mod x (code-lt w h)
 
@@ -58,9 +59,11 @@ module _ (xs : List ℕ) where
   take-tail : (j a : ℕ) → a < length xs → take (suc j) (drop a xs) ≡ getD xs a 0 ∷ take j (drop (suc a) xs)
   take-tail j a h = ap (take (suc j)) (drop-cons xs a 0 h)
 
+  -- j letters from a on
   pub length-at : (j a : ℕ) → a + j ≤ length xs → length (take j (drop a xs)) ≡ j
   length-at j a h = length-take-le j (drop a xs) (rw (length-drop a xs) (omega arith))
 
+  -- which are letters
   pub letters-at : Letters xs → (j a : ℕ) → Letters (take j (drop a xs))
   letters-at h j a = all-take (λ x. x < 4) j (drop a xs) (all-drop (λ x. x < 4) a xs h)
 
@@ -79,17 +82,6 @@ module _ (xs : List ℕ) where
       let n = length-at j (suc a) (omega arith) in
       ap (λ (w : List ℕ). code w % 4 ^ j) (take-tail j a (omega arith))
       ∙ (ap (λ (m : ℕ). code (getD xs a 0 ∷ take j (drop (suc a) xs)) % 4 ^ m) (sym n) ∙ tail-code (getD xs a 0) (take j (drop (suc a) xs)) (letters-at h j (suc a)))
-
-  -- the turned code of the k letters from a + 1 on
-  pub turned-rolls : Letters xs → (j a : ℕ) → a + suc j < length xs
-      → code (turn (take (suc j) (drop (suc a) xs))) ≡ rolledTurned (suc j) (code (turn (take (suc j) (drop a xs)))) (getD xs (a + suc j) 0)
-  turned-rolls h j a l =
-      let n = length-at j (suc a) (omega arith) in
-      let w : List ℕ = take j (drop (suc a) xs) in
-      let p : suc a + j ≡ a + suc j = omega arith in
-      ap (λ (v : List ℕ). code (turn v)) (take-more j (suc a) (omega arith) ∙ ap (λ (i : ℕ). w ++ (getD xs i 0 ∷ [])) p)
-      ∙ (turned-roll (getD xs a 0) w (getD xs (a + suc j) 0) (all-at (λ x. x < 4) xs h a 0 (omega arith))
-      ∙ ap₂ (λ (m : ℕ) (v : List ℕ). rolledTurned (suc m) (code (turn v)) (getD xs (a + suc j) 0)) n (sym (take-tail j a (omega arith))))
 
 -- the word at a position is a part of the word that all letters spell
 pub word-part : (k : ℕ) (letters : List ℕ) (a : ℕ) → wordAt k letters a ≡ take k (drop a (spell letters))
@@ -110,6 +102,7 @@ word-part k letters a = map-take letter k (drop a letters) ∙ ap (take k) (map-
 pub one-shifted : (b : ℕ) → b < 64 → (1 * 2 ^ b) % 2 ^ 64 ≡ 2 ^ b
 one-shifted b h = shl-exact 1 b 64 (omega arith) (omega arith) ∙ one-mul (2 ^ b)
 
+-- a letter is two bits
 pub four-two : (k : ℕ) → 4 ^ k ≡ 2 ^ (2 * k)
 four-two zero = refl
 four-two (suc k) =
@@ -136,6 +129,7 @@ turned-room k c x h l small =
 
 -- ─── the letters of a word one after the other ───────────────────────────────
 
+-- the bits of bytes are codes of letters, whatever the bytes
 pub bits-letters : (bytes : List ℕ) → Letters (map twoBits bytes)
 bits-letters [] = tt
 bits-letters (b ∷ bytes) = (bits-lt b, bits-letters bytes)
@@ -144,11 +138,13 @@ map-snoc : (f : ℕ → ℕ) (u : List ℕ) (x : ℕ) → map f (u ++ (x ∷ [])
 map-snoc f [] x = refl
 map-snoc f (y ∷ u) x = ap (λ (l : List ℕ). f y ∷ l) (map-snoc f u x)
 
+-- one byte more
 pub bits-more : (word : List ℕ) (i c x : ℕ) → i < length word → c ≡ code (map twoBits (take i word)) → x ≡ twoBits (getD word i 0) → c * 4 + x ≡ code (map twoBits (take (i + 1) word))
 bits-more word i c x l e q =
     ap₂ (λ (m n : ℕ). m * 4 + n) e q
     ∙ sym (ap (λ (n : ℕ). code (map twoBits (take n word))) (add-one i) ∙ (ap (λ (w : List ℕ). code (map twoBits w)) (take-suc word i 0 l) ∙ (ap code (map-snoc twoBits (take i word) (getD word i 0)) ∙ code-snoc (map twoBits (take i word)) (twoBits (getD word i 0)))))
 
+-- 31 letters fit in 62 bits
 pub bits-room : (word : List ℕ) (i : ℕ) → length word ≤ 31 → i ≤ length word → code (map twoBits (take i word)) < 4 ^ 31
 bits-room word i h l =
     code-room (map twoBits (take i word)) (bits-letters (take i word))

@@ -84,6 +84,7 @@ unfolding spelled turnFrom codeFrom
 from-spelled zero c acc = ap (codeFrom acc) turn-none
 from-spelled (suc k) c acc = ap (codeFrom acc) (turn-snoc (spelled k (c / 4)) (c % 4)) ∙ from-spelled k (c / 4) (acc * 4 + (3 - c % 4))
 
+-- the turned code, letter by letter from the end
 pub turned-from : (k c : ℕ) → turnedCode k c ≡ turnFrom k c 0
 unfolding turnedCode
 turned-from k c = from-spelled k c 0
@@ -130,6 +131,7 @@ table-turns table t b h =
     eqb-true (getD table b 0) (turnedCode 4 b)
     (table-rule (λ b x. eqb x (turnedCode 4 b)) table (and-right (eqb (length table) 256) (everyAt (λ b x. eqb x (turnedCode 4 b)) table) t) b (omega arith))
 
+-- four turned letters are a byte
 pub turned-four-lt : (b : ℕ) → turnedCode 4 b < 256
 turned-four-lt b = subst (λ (n : ℕ). n < 256) (sym (turned-from 4 b)) (four-small b)
 
@@ -142,6 +144,7 @@ pub record Turning (k c left rest turned : ℕ) : Type 0 where
   pub small : turned < 4 ^ (k - left)
   pub ends : turnFrom left rest turned ≡ turnedCode k c
 
+-- nothing turned yet
 pub turning-begins : (k c : ℕ) → k ≤ 31 → Turning k c k c 0
 turning-begins k c h = record { left-high = omega arith; k-high = h; small = one-le-pow (k - k) 4 (lit≤ tt); ends = sym (turned-from k c) }
 
@@ -173,12 +176,14 @@ module _ (k c left rest turned : ℕ) (s : Turning k c left rest turned) where
   pub one-fits : 1 ≤ left → turned * 4 + (3 - rest % 4) < 18446744073709551616
   one-fits h = turning-fits 1 k c left rest turned (3 - rest % 4) s h (omega arith)
 
+  -- one letter turned
   pub one-turned : 1 ≤ left → Turning k c (left - 1) (rest / 4) (turned * 4 + (3 - rest % 4))
   unfolding turnFrom
   one-turned h =
       let q : left ≡ suc (left - 1) = omega arith in
       step 1 k c left rest turned (3 - rest % 4) s h (omega arith) (rest / 4) (sym (ap (λ (n : ℕ). turnFrom n rest turned) q))
 
+  -- all letters turned
   pub turning-ends : left ≤ 0 → turned ≡ turnedCode k c
   unfolding turnFrom
   turning-ends h =

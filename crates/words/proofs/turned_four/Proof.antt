@@ -1,6 +1,5 @@
 -- `turned_four` meets its contract: the constant table passes the test at all of its 256 entries, which the checker computes. Assumes nothing.
 use mathlib.Core.Path.{refl}
-use mathlib.Core.List.{reverse}
 use Rattle.lists.specs.Every.{everyFrom}
 use Rattle.words.specs.Word.{codeFrom, turn}
 use Rattle.words.specs.Turned.{spelled, turnedCode, turnsFour}

@@ -1,6 +1,5 @@
 -- `roll` meets its contract: the mask keeps the last k letters. Assumes nothing.
-use mathlib.Core.Path.{_≡_}
-use Prim.Native.Nat.{_*_, _+_}
+use Prim.Native.Nat.{_*_}
 use native.Mathlib.Omega.{arith}
 use lib.Pow.{pow-pos}
 use Rattle.words.proofs.Rolling.{one-shifted, masked}

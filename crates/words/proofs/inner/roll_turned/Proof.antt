@@ -1,6 +1,6 @@
 -- `roll_turned` meets its contract: the shifted pair stands before k - 1 letters, and both together are below 4 ^ k. Assumes nothing.
-use mathlib.Core.Path.{_≡_, ap, _∙_}
-use Prim.Native.Nat.{ℕ, _*_, _+_, _-_, _/_, _^_, _<_, _≤_}
+use mathlib.Core.Path.{ap}
+use Prim.Native.Nat.{ℕ, _+_, _-_, _/_}
 use native.Mathlib.Omega.{arith}
 use Rattle.words.proofs.Rolling.{shifted, turned-room}
 use borrow.Author.Needs.{needs}

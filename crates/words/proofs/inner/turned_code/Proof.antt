@@ -1,12 +1,11 @@
 -- `turned_code` meets its contract. Both loops keep one state: what is turned so far, and what the rest makes of it. Assumes nothing.
-use mathlib.Core.Path.{_≡_, refl, sym, _∙_}
+use mathlib.Core.Path.{_≡_, refl}
 use mathlib.Core.Bool.{true}
-use Prim.Native.Nat.{ℕ, _%_, _<_}
 use native.Mathlib.Omega.{arith}
 use Rattle.lists.specs.Every.{everyFrom}
 use Rattle.words.specs.Word.{codeFrom, turn}
 use Rattle.words.specs.Turned.{spelled, turnedCode, turnsFour}
-use Rattle.words.proofs.Turning.{Turning, turning-begins, four-fit, four-turned, one-fits, one-turned, turning-ends, turned-four-lt}
+use Rattle.words.proofs.Turning.{Turning, turning-begins, four-fit, four-turned, one-fits, one-turned, turning-ends}
 use borrow.Author.Needs.{needs}
 use Rattle.words.proofs.inner.turned_code.Statement.{statement}
 use Rattle.words.proofs.inner.turned_code.Tie as tie
