@@ -13,9 +13,9 @@ use Rattle.trails.specs.Paths.{pathCount}
 use Rattle.trails.specs.Places.{signed, SignedPermutation, arranged}
 use Rattle.trails.specs.Renamed.{Renamed}
 use Rattle.trails.specs.Strings.{Ends, turned}
+use Rattle.trails.specs.Hub.{unspoked}
 use Rattle.trails.proofs.Arranged.{marked, marked-permutation, marked-arranged}
 use Rattle.trails.proofs.Amounts.{paths-few, length-spoked}
-use Rattle.trails.proofs.Hub.{unspoked}
 use Rattle.trails.proofs.Orders.{length-reordered}
 use Rattle.trails.proofs.Renamed.{renamed-length, renamed-paths, renamed-least}
 use Rattle.trails.proofs.Upper.{toured-reordered, toured-answer, toured-least}

@@ -16,9 +16,9 @@ use Rattle.lists.specs.Choose.{choose}
 use Rattle.trails.specs.Counting.{agree, occurs}
 use Rattle.trails.specs.Places.{signed}
 use Rattle.trails.specs.Strings.{Ends, front, back, turned}
+use Rattle.trails.specs.Hub.{unspoked}
 use Rattle.trails.proofs.Arranged.{marked}
 use Rattle.trails.proofs.Counting.{agree-same, agree-other, Agreeing, agree-cases}
-use Rattle.trails.proofs.Hub.{unspoked}
 use Rattle.tours.specs.Halves.{near, other, gone, numbered}
 use Rattle.tours.specs.States.{numbers}
 use Rattle.tours.proofs.Halves.{near-string, near-hub}

@@ -21,9 +21,9 @@ use Rattle.trails.specs.Places.{SignedPermutation, arrangedTo}
 use Rattle.trails.proofs.Bounds.{no-strings}
 use Rattle.trails.proofs.Paths.{paths-none}
 use Rattle.tours.specs.Layout.{Fits}
-use Rattle.vertices.specs.EndWeights.{endWeights, endsFrom}
+use Rattle.vertices.specs.EndWeights.{endWeights}
 use Rattle.vertices.specs.Ladder.{ladder}
-use Rattle.vertices.specs.Promises.{Strung}
+use Rattle.vertices.specs.Promises.{endsFrom, Strung}
 use Rattle.vertices.proofs.EndWeights.{end-weights}
 use Rattle.vertices.proofs.Ladder.{ladder-zeros}
 use Rattle.cover.specs.declared.CoverAnswer.the-variants.{Covered, Refused}

@@ -4,8 +4,7 @@ ghost use Prim.Native.Nat.{_+_, _*_, _≤_, _<_};
 ghost use lib.ListN.{length, drop};
 ghost use Rattle.trails.specs.Places.{signed};
 ghost use Rattle.tours.specs.Layout.{Fits, tables};
-ghost use Rattle.vertices.specs.EndWeights.{endsFrom};
-ghost use Rattle.vertices.specs.Promises.{Strung};
+ghost use Rattle.vertices.specs.Promises.{endsFrom, Strung};
 ghost use Rattle.cover.specs.Placing.{counted, placedBy, placeAll, Covering};
 
 // A number as an index.

@@ -2,78 +2,24 @@
 use mathlib.Core.Path.{_≡_, refl, ap, sym, _∙_, subst}
 use mathlib.Core.Logic.{inl, inr}
 use mathlib.Core.List.{List, [], _∷_, _++_}
-use Prim.Native.Nat.{ℕ, zero, suc, _+_, _-_, _*_, _/_, _%_, _≤_, _<_}
+use Prim.Native.Nat.{ℕ, suc, _+_, _-_, _*_, _/_, _≤_, _<_}
 use native.Mathlib.Omega.{arith}
-use native.Mathlib.Numerals.{add-one}
-use native.Mathlib.Decide.{ℕ-discrete, decLt}
+use native.Mathlib.Decide.{ℕ-discrete}
 use lib.ListN.{length, getD, set, drop, length-set}
-use lib.Seq.{drop-cons, drop-set-lt, getD-set-same, getD-set-other}
+use lib.Seq.{drop-set-lt, getD-set-same, getD-set-other}
 use Rattle.trails.specs.Counting.{occurs}
 use Rattle.trails.specs.Strings.{Ends, weights}
+use Rattle.trails.specs.Walks.{Reordered, Closed}
 use Rattle.trails.proofs.Counting.{agree-same, agree-other}
-use Rattle.trails.proofs.Orders.{Reordered, length-reordered}
-use Rattle.trails.proofs.Walk.{Walk, Closed, started, taken as walk-taken, popped, closed as walk-closed}
+use Rattle.trails.proofs.Orders.{length-reordered}
+use Rattle.trails.proofs.Walk.{Walk, started, taken as walk-taken, popped, closed as walk-closed}
 use Rattle.tours.specs.Layout.{Tables}
 use Rattle.tours.specs.Halves.{near, other, gone, unused}
-use Rattle.tours.specs.Rows.{Graph, Cursors, Answer}
+use Rattle.tours.specs.Rows.{Cursors, Answer}
 use Rattle.tours.specs.States.{moved, taken, returned, Same, Found, left, along, numbers, Between, Ready, Walked}
-use Rattle.tours.proofs.Halves.{near-string, near-hub, near-spoke, use-half}
-
--- ─── small facts ─────────────────────────────────────────────────────────────
-
--- every half starts at a vertex or at the hub
-pub near-low : {m : ℕ} {verts rows : List ℕ} → Graph m verts rows → (c : ℕ) → c < 6 * m → near m verts c ≤ 2 * m
-near-low {m} {verts} g c l = go (decLt c (2 * m)) (ℕ-discrete (c % 2) 0)
-  where
-    go : Dec (c < 2 * m) → Dec (c % 2 ≡ 0) → near m verts c ≤ 2 * m
-    go (yes p) d = rw (near-string m verts c p) (omega (arith, g .verts-low c p))
-    go (no p) (yes d) = rw (near-hub m verts c (omega arith) d) (omega arith)
-    go (no p) (no d) = rw (near-spoke m verts c (omega arith) d) (omega arith)
-
--- what is used stays used
-pub still-used : (used : List ℕ) (i k : ℕ) → i < length used → getD (set used i 1) k 0 ≡ 0 → getD used k 0 ≡ 0
-still-used used i k l z = go (ℕ-discrete k i)
-  where
-    go : Dec (k ≡ i) → getD used k 0 ≡ 0
-    go (yes e) = absurd (omega (arith, getD-set-same used i 1 0 l, ap (λ (x : ℕ). getD (set used i 1) x 0) e))
-    go (no e) = sym (getD-set-other used i k 1 0 e) ∙ z
-
-flags-set : (used : List ℕ) (i : ℕ) → i < length used → ((e : ℕ) → getD used e 0 ≤ 1) → (e : ℕ) → getD (set used i 1) e 0 ≤ 1
-flags-set used i l h e = go (ℕ-discrete e i)
-  where
-    go : Dec (e ≡ i) → getD (set used i 1) e 0 ≤ 1
-    go (yes p) = rw (p, getD-set-same used i 1 0 l) (omega arith)
-    go (no p) = rw (getD-set-other used i e 1 0 p) (h e)
-
-cursors-used : (m : ℕ) (t : Tables) (n c : ℕ) → c / 2 < length (t .used) → Cursors m t → Cursors m (taken t n c)
-cursors-used m t n c l k v b =
-    record { low = k v b .low; high = k v b .high; passed = record { all-used = λ q h e z. k v b .passed .all-used q h e (still-used (t .used) (c / 2) (getD (t .rows) q 0 / 2) l z) } }
-
--- the first n halves of the stack, the last first
-unfoldable pub held : List ℕ → ℕ → List ℕ
-held stack zero = []
-held stack (suc n) = getD stack n 0 ∷ held stack n
-
-held-other : (stack : List ℕ) (n k x : ℕ) → n ≤ k → held (set stack k x) n ≡ held stack n
-unfolding held
-held-other stack zero k x l = refl
-held-other stack (suc n) k x l = rw (getD-set-other stack k n x 0 (λ e. omega arith), held-other stack n k x (omega arith))
-
-held-more : (stack : List ℕ) (n x : ℕ) → n < length stack → held (set stack n x) (n + 1) ≡ x ∷ held stack n
-unfolding held
-held-more stack n x l = rw (add-one, getD-set-same stack n x 0 l, held-other stack n n x (omega arith))
-
-held-less : (stack : List ℕ) (n : ℕ) → (n ≡ 0 → ⊥) → held stack n ≡ getD stack (n - 1) 0 ∷ held stack (n - 1)
-unfolding held
-held-less stack n h = let e : n ≡ suc (n - 1) = omega arith in ap (held stack) e
-
-drop-stored : (stack : List ℕ) (z x : ℕ) → (z ≡ 0 → ⊥) → z ≤ length stack → drop (z - 1) (set stack (z - 1) x) ≡ x ∷ drop z stack
-drop-stored stack z x h l =
-    let e : suc (z - 1) ≡ z = omega arith in
-    let b : z - 1 < length stack = omega arith in
-    drop-cons (set stack (z - 1) x) (z - 1) 0 (simp length-set b)
-    ∙ (ap (λ (y : ℕ). y ∷ drop (suc (z - 1)) (set stack (z - 1) x)) (getD-set-same stack (z - 1) x 0 b)
-    ∙ (ap (λ (L : List ℕ). x ∷ L) (drop-set-lt (suc (z - 1)) stack (z - 1) x (omega arith)) ∙ ap (λ (k : ℕ). x ∷ drop k stack) e))
+use Rattle.tours.proofs.Entries.{still-used, flags-set, held, held-other, held-more, held-less, drop-stored}
+use Rattle.tours.proofs.Halves.{use-half}
+use Rattle.tours.proofs.Rows.{near-low, cursors-used}
 
 -- ─── the state of a walk ─────────────────────────────────────────────────────
 
@@ -90,6 +36,7 @@ pub record Going (m : ℕ) (t₀ : Tables) (s z₀ : ℕ) (t : Tables) (n z here
   pub z-at : ℕ
   pub state : Walk s (unused (near m (t .verts)) 0 (t₀ .used)) (left m t) (along m t (held (t .stack) n)) here (along m t Z) z-at
 
+-- a walk starts, with nothing taken
 pub going-start : {m : ℕ} {t : Tables} {z : ℕ} (s : ℕ) → s ≤ 2 * m → Ready m t z → Going m t s z t 0 z s
 unfolding held
 going-start {m} {t} {z} s l r = record {
@@ -131,6 +78,7 @@ module _ {m : ℕ} {t₀ : Tables} {s z₀ : ℕ} {t : Tables} {n z here : ℕ} 
     state = g .state;
   }
 
+  -- a search for an unused half moves one cursor
   pub going-found : {u : Tables} {v r : ℕ} → Found m t u v r → Going m t₀ s z₀ u n z here × Answer m u v r
   going-found {u} {v} {r} f = (
     subst (λ (x : Tables). Going m t₀ s z₀ x n z here) (sym (f .moves)) (going-moved v (f .cursor) (subst (Cursors m) (f .moves) (f .kept))),
@@ -155,10 +103,11 @@ module _ {m : ℕ} {t₀ : Tables} {s z₀ : ℕ} {t : Tables} {n z here : ℕ} 
         subst (λ (x : ℕ). Reordered (left m t) ((x, near m (t .verts) (other c)) ∷ left m (taken t n c))) (is-fresh .1)
         (use-half (near m (t .verts)) (t .used) c in-used (is-fresh .0))
 
-    -- one less is unused
+    -- one less is unused then
     pub take-fewer : length (left m t) ≡ suc (length (left m (taken t n c)))
     take-fewer = length-reordered take-left
 
+    -- the stack has room for it
     pub take-inside : n < 3 * m
     take-inside = omega (arith, g .room, take-fewer, g .between .high)
 
@@ -200,6 +149,7 @@ module _ {m : ℕ} {t₀ : Tables} {s z₀ : ℕ} {t : Tables} {n z here : ℕ} 
         ap (along m t) held-now
         ∙ ap (λ (e : Ends). e ∷ along m t (held (t .stack) n)) (λ j. (is-fresh .1 j, near m (t .verts) (other c)))
 
+    -- the walk goes on over it
     pub going-take : Going m t₀ s z₀ (taken t n c) (n + 1) z (near m (t .verts) (other c))
     going-take = record {
       same = record { verts = g .same .verts; rows = g .same .rows };
@@ -255,6 +205,7 @@ module _ {m : ℕ} {t₀ : Tables} {s z₀ : ℕ} {t : Tables} {n z here : ℕ} 
       unfolding occurs
       listed-back e b = rw (held-left, given-more) (omega (arith, rw held-was at (g .between .listed e b)))
 
+      -- and the walk stands where that half started
       pub going-back : Going m t₀ s z₀ (returned t (n - 1) (z - 1)) (n - 1) (z - 1) (near m (t .verts) (getD (t .stack) (n - 1) 0))
       unfolding back
       going-back = record {
@@ -302,22 +253,27 @@ module _ {m : ℕ} {t₀ : Tables} {s z₀ : ℕ} {t : Tables} {n z here : ℕ} 
 
 -- ─── the same for the tables that the code leaves ────────────────────────────
 
+-- a search leaves the same unused
 pub found-left : {m : ℕ} {t u : Tables} {v r : ℕ} → Found m t u v r → left m u ≡ left m t
 found-left {m} f = ap (left m) (f .moves)
 
 module _ {m : ℕ} {t₀ : Tables} {s z₀ : ℕ} {t : Tables} {n z here c : ℕ} (g : Going m t₀ s z₀ t n z here) (a : Answer m t here c) where
+  -- a half was taken
   pub going-took : {u : Tables} {h : ℕ} → c < 6 * m → u ≡ taken t n c → h ≡ near m (t .verts) (other c) → Going m t₀ s z₀ u (n + 1) z h
   going-took {u} {h} l e q =
       subst (λ (x : Tables). Going m t₀ s z₀ x (n + 1) z h) (sym e)
       (subst (λ (y : ℕ). Going m t₀ s z₀ (taken t n c) (n + 1) z y) (sym q) (going-take g c a l))
 
+  -- and one less is unused
   pub took-fewer : {u : Tables} → c < 6 * m → u ≡ taken t n c → length (left m t) ≡ suc (length (left m u))
   took-fewer {u} l e = take-fewer g c a l ∙ ap (λ (x : Tables). suc (length (left m x))) (sym e)
 
+  -- a half was given back
   pub going-gave : {u : Tables} {h : ℕ} → 6 * m ≤ c → (n ≡ 0 → ⊥) → u ≡ returned t (n - 1) (z - 1) → h ≡ near m (t .verts) (getD (t .stack) (n - 1) 0) → Going m t₀ s z₀ u (n - 1) (z - 1) h
   going-gave {u} {h} l some e q =
       subst (λ (x : Tables). Going m t₀ s z₀ x (n - 1) (z - 1) h) (sym e)
       (subst (λ (y : ℕ). Going m t₀ s z₀ (returned t (n - 1) (z - 1)) (n - 1) (z - 1) y) (sym q) (going-back g c a l some))
 
+  -- and the same is unused
   pub gave-left : {u : Tables} → u ≡ returned t (n - 1) (z - 1) → left m u ≡ left m t
   gave-left e = ap (left m) e

@@ -1,6 +1,6 @@
--- How many paths and spokes there can be; and strings that change sides.
-use mathlib.Core.Path.{_≡_, refl, sym, subst}
-use mathlib.Core.List.{List, [], _∷_, _++_, append-nil}
+-- How many paths and spokes there can be.
+use mathlib.Core.Path.{_≡_, refl}
+use mathlib.Core.List.{List, [], _∷_}
 use Prim.Native.Nat.{ℕ, zero, suc, _+_, _≤_}
 use native.Mathlib.Omega.{arith}
 use native.Mathlib.Decide.{ℕ-discrete}
@@ -9,15 +9,9 @@ use Rattle.trails.specs.Counting.{oddly, sumBelow}
 use Rattle.trails.specs.Groups.{countOdd, oddWeights}
 use Rattle.trails.specs.Paths.{pathCount}
 use Rattle.trails.specs.Strings.{Ends, front, back, weights}
+use Rattle.trails.specs.Hub.{spokes, spoked, limit}
 use Rattle.trails.proofs.Counting.{oddly-le}
-use Rattle.trails.proofs.Hub.{spokes, spoked, limit}
-use Rattle.trails.proofs.Orders.{Reordered, keep, both, unmoved, move-in}
 use Rattle.trails.proofs.Paths.{paths-none, paths-append, chain-one-path}
-
--- strings behind others may come before them
-pub swapped : (A B : List Ends) → Reordered (A ++ B) (B ++ A)
-swapped [] B = subst (Reordered B) (sym (append-nil B)) (unmoved B)
-swapped (s ∷ A) B = both (keep (swapped A B)) (move-in s B A)
 
 -- there are not more paths than strings
 pub paths-few : (L : List Ends) → pathCount L ≤ length L
@@ -34,6 +28,7 @@ length-spokes h ws (suc n) = go (ℕ-discrete (oddly ws n) 0) (length-spokes h w
     go (yes e) ih = rw e (omega (arith, ih))
     go (no q) ih = let e : oddly ws n ≡ 1 = omega (arith, oddly-le ws n) in rw e (omega (arith, ih))
 
+-- with the strings
 pub length-spoked : (h : ℕ) (L : List Ends) → length (spoked h L) ≡ oddWeights L + length L
 unfolding oddWeights countOdd
 length-spoked h L = omega (arith, length-append (spokes h (weights L) (limit L)) L, length-spokes h (weights L) (limit L))

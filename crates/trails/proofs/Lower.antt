@@ -12,8 +12,9 @@ use Rattle.trails.specs.Counting.{agree, occurs, oddly, sumBelow, above}
 use Rattle.trails.specs.Strings.{Ends, front, back, weights}
 use Rattle.trails.specs.Paths.{pathCount}
 use Rattle.trails.specs.Groups.{nameOf, allEven, oddMembers, evenGroup, countEvenGroups, countOdd, evenGroups, oddWeights, least}
+use Rattle.trails.specs.Walks.{Reordered}
 use Rattle.trails.proofs.Counting.{agree-same, agree-other, Agreeing, agree-cases, sum-zero, sum-part, sum-mono, sum-at, sum-off, oddly-le, oddly-same, oddly-other, AllBelow, above-all}
-use Rattle.trails.proofs.Orders.{Reordered, names-reordered, oddly-reordered, EndsBelow, below-reordered}
+use Rattle.trails.proofs.Orders.{names-reordered, oddly-reordered, EndsBelow, below-reordered}
 use Rattle.trails.proofs.EvenGroups.{even-le, even-not, even-mono}
 use Rattle.trails.proofs.Paths.{breaks, paths-breaks, paths-none}
 use Rattle.trails.proofs.Groups.{Level, name-level, level-reordered}
@@ -79,6 +80,7 @@ pub no-odd : (n : ℕ) → countOdd n [] ≡ 0
 unfolding countOdd oddly occurs
 no-odd n = sum-zero (oddly []) n (λ w k. refl)
 
+-- each weight pays one half
 pub each-pays : (n : ℕ) (name : ℕ → ℕ) (ws : List ℕ) → AllBelow n ws → 2 * countEvenGroups n name ws + countOdd n ws ≤ length ws
 each-pays n name [] h = omega (arith, no-even-groups n name, no-odd n)
 each-pays n name (x ∷ ws) h = omega (arith, one-more n name ws x (h .0), each-pays n name ws (h .1))
@@ -196,6 +198,7 @@ module _ (n : ℕ) (name : ℕ → ℕ) where
         length-path-ends order,
       )
 
+  -- a group counts the same in another order
   pub even-group-reordered : {L M : List Ends} → Reordered L M → (l : ℕ) → evenGroup n name (weights L) l ≡ evenGroup n name (weights M) l
   unfolding evenGroup oddMembers
   even-group-reordered r l =

@@ -6,6 +6,7 @@ use Prim.Native.Nat.{ℕ}
 abbrev pub Ends : Type 0
 Ends = ℕ × ℕ
 
+-- the one and the other
 abbrev pub front : Ends → ℕ
 front s = s .0
 

@@ -8,9 +8,8 @@ ghost use Rattle.lists.specs.Every.{All};
 ghost use Rattle.lists.specs.Fill.{put};
 ghost use Rattle.trails.specs.Strings.{weights as endsIn};
 ghost use Rattle.tours.specs.Layout.{Fits};
-ghost use Rattle.vertices.specs.EndWeights.{endsFrom};
 ghost use Rattle.vertices.specs.Ladder.{ladder};
-ghost use Rattle.vertices.specs.Promises.{keysIn, orderIn, vertsIn, flagsIn, Strung, Ordered, Rising, Named, Blank, Marked, LaidOut};
+ghost use Rattle.vertices.specs.Promises.{endsFrom, keysIn, orderIn, vertsIn, flagsIn, Strung, Ordered, Rising, Named, Blank, Marked, LaidOut};
 
 // A number as an index.
 fn wide(x: u32) -> usize

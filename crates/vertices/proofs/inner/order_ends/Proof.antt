@@ -5,7 +5,7 @@ use native.Mathlib.Omega.{arith}
 use lib.ListN.{length}
 use Rattle.lists.specs.Every.{All}
 use Rattle.trails.specs.Strings.{weights as endsIn}
-use Rattle.vertices.specs.EndWeights.{endsFrom}
+use Rattle.vertices.specs.Promises.{endsFrom}
 use Rattle.vertices.proofs.EndWeights.{length-keys}
 use Rattle.vertices.proofs.Ordering.{keys-low, keys-then, ids-low, ordered, laid}
 use borrow.Author.Needs.{needs}
