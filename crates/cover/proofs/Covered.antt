@@ -28,8 +28,8 @@ use Rattle.tours.proofs.Tours.{hub-fresh}
 use Rattle.cover.specs.Cover.{Fewest}
 use Rattle.vertices.specs.Ladder.{ladder}
 use Rattle.vertices.proofs.Ladder.{length-ladder}
-use Rattle.cover.specs.Placing.{placeAll, Covering}
-use Rattle.cover.proofs.Placing.{marks, names-placed, length-all, unspoked-marks}
+use Rattle.cover.specs.Covering.{placeAll, Covering}
+use Rattle.cover.proofs.PlacedHalves.{marks, names-placed, length-all, unspoked-marks}
 
 -- a table that is written over as a whole
 put-all : {A : Type 0} (xs w : List A) → length xs ≡ length w → put 0 xs w ≡ xs
@@ -43,6 +43,7 @@ module _ {m : ℕ} {t u : Tables} {z walks : ℕ} (g : Graph m (t .verts) (t .ro
   abbrev halves : List ℕ
   halves = drop z (u .stack)
 
+  -- spokes left out, the halves are the strings that their marks name
   in-order : unspoked (2 * m) (along m t halves) ≡ map (marked turned (0, 0) (strings m t)) (marks m halves)
   in-order = unspoked-marks m (t .verts) (g .verts-low) halves
 
@@ -73,6 +74,7 @@ module _ {m : ℕ} {t u : Tables} {z walks : ℕ} (g : Graph m (t .verts) (t .ro
         d .high,
       )
 
+  -- so the stack starts within the first 2m entries
   pub start-low : z ≤ 2 * m
   start-low = omega (arith, odd-count)
 
@@ -80,6 +82,7 @@ module _ {m : ℕ} {t u : Tables} {z walks : ℕ} (g : Graph m (t .verts) (t .ro
   paths-counted : (2 * m - z) / 2 + walks ≡ least (strings m t)
   paths-counted = omega (arith, odd-count, toured-answer (hub-fresh m t g) (d .toured))
 
+  -- and there are at most m paths
   pub paths-low : (2 * m - z) / 2 + walks ≤ m
   paths-low =
       omega (

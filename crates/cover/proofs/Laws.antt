@@ -22,7 +22,8 @@ use Rattle.collection.proofs.Verdicts.{settled}
 
 -- ─── the strings ─────────────────────────────────────────────────────────────
 
-strings-count : (k before : ℕ) (letters ends weights : List ℕ) → length (stringsFrom k before letters ends weights) ≡ length ends
+-- there are m strings
+pub strings-count : (k before : ℕ) (letters ends weights : List ℕ) → length (stringsFrom k before letters ends weights) ≡ length ends
 unfolding stringsFrom
 strings-count k before letters [] weights = refl
 strings-count k before letters (e ∷ ends) weights = ap suc (strings-count k e (drop (e - before) letters) ends (drop (within k before e) weights))

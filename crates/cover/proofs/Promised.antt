@@ -28,15 +28,17 @@ use Rattle.vertices.proofs.EndWeights.{end-weights}
 use Rattle.vertices.proofs.Ladder.{ladder-zeros}
 use Rattle.cover.specs.declared.CoverAnswer.the-variants.{Covered, Refused}
 use Rattle.cover.specs.Cover.{coverVerdict, Fewest, PlacesAfter, CoverOf, Promise}
-use Rattle.cover.specs.Placing.{Covering}
+use Rattle.cover.specs.Covering.{Covering}
 
 -- ─── what a good verdict tells ───────────────────────────────────────────────
 
+-- what it keeps to
 pub record Roomy (k : ℕ) (letters ends weights : List ℕ) (places : List ℤ) (work : List ℕ) : Type 0 where
   pub judged : Judged k letters ends weights
   pub places-room : length ends ≤ length places
   pub work-room : 16 * length ends ≤ length work
 
+-- so it does
 pub cover-good : (k : ℕ) (letters ends weights : List ℕ) (places : List ℤ) (work : List ℕ) → coverVerdict k letters ends weights places work ≡ Good → Roomy k letters ends weights places work
 unfolding coverVerdict
 cover-good k letters ends weights places work h =
@@ -52,6 +54,7 @@ module _ {k : ℕ} {letters ends weights : List ℕ} {places : List ℤ} {work :
   counted : length weights ≡ length (kmers k ends)
   counted = r .judged .counted ∙ sym (kmers-counted (r .judged .shape))
 
+  -- what `lay_out` asks
   pub strung : Strung k ends weights
   strung = record {
     ends-long = shape-long (r .judged .shape);
@@ -60,19 +63,22 @@ module _ {k : ℕ} {letters ends weights : List ℕ} {places : List ℤ} {work :
     in-range = r .judged .all-weights;
   }
 
+  -- the end weights that are covered are those of the strings
   pub same-ends : endsFrom k 0 ends weights ≡ endWeights k letters ends weights
   same-ends = sym (end-weights k letters ends weights (r .judged .shape .long) counted)
 
-  -- the parts that are lent
+  -- the lent part of the work
   pub work-fits : (length ends ≡ 0 → ⊥) → Fits (length ends) (take (16 * length ends) work)
   work-fits h = record { some = omega arith; few = r .judged .shape .m-high; size = length-take-le (16 * length ends) work (r .work-room) }
 
+  -- and of the places
   pub places-fit : length (take (length ends) places) ≡ length ends
   places-fit = length-take-le (length ends) places (r .places-room)
 
 -- ─── the three ends of a call ────────────────────────────────────────────────
 
 module _ {verdict : Verdict} {strings : List Ends} {m : ℕ} {places : List ℤ} {work : List ℕ} where
+  -- refused
   pub cover-refused : {number place : ℕ} → verdict ≡ Bad number place → CoverOf verdict strings m places work (Refused number place) places work
   cover-refused e = record {
     answered = refused Refused _ e;
@@ -80,6 +86,7 @@ module _ {verdict : Verdict} {strings : List Ends} {m : ℕ} {places : List ℤ}
     placed = subst (λ (v : Verdict). PlacesAfter v strings places places) (sym e) refl;
   }
 
+  -- done
   pub cover-done : verdict ≡ Good → {qs places' : List ℤ} {v work' : List ℕ} {n : ℕ} → Covering strings m qs v n → places' ≡ qs ++ drop m places → work' ≡ v ++ drop (16 * m) work
       → CoverOf verdict strings m places work (Covered m n) places' work'
   cover-done e {qs} {places'} {v} {work'} {n} c p w = record {
@@ -106,6 +113,7 @@ unfolding endWeights stringsFrom
 no-ends k letters [] weights e = refl
 no-ends k letters (x ∷ ends) weights e = absurd (omega arith)
 
+-- so the promise is kept with no strings
 pub cover-none : {verdict : Verdict} (k : ℕ) (letters ends weights : List ℕ) {places : List ℤ} {work : List ℕ} → verdict ≡ Good → length ends ≡ 0
     → CoverOf verdict (endWeights k letters ends weights) (length ends) places work (Covered 0 0) places work
 cover-none {verdict} k letters ends weights {places} {work} e z =

@@ -5,7 +5,7 @@ ghost use lib.ListN.{length, drop};
 ghost use Rattle.trails.specs.Places.{signed};
 ghost use Rattle.tours.specs.Layout.{Fits, tables};
 ghost use Rattle.vertices.specs.Promises.{endsFrom, Strung};
-ghost use Rattle.cover.specs.Placing.{counted, placedBy, placeAll, Covering};
+ghost use Rattle.cover.specs.Covering.{counted, placedBy, placeAll, Covering};
 
 // A number as an index.
 fn wide(x: u32) -> usize

@@ -1,10 +1,10 @@
--- `write_places` meets its contract: each turn is one half (proofs/Placing).
+-- `write_places` meets its contract: each turn is one half (proofs/PlacedHalves).
 use mathlib.Core.Path.{refl, _∙_}
 use Prim.Native.Nat.{_-_, _*_}
 use native.Mathlib.Omega.{arith}
 use Rattle.tours.specs.Layout.{tables}
 use Rattle.tours.proofs.Regions.{stack-at, stack-size}
-use Rattle.cover.proofs.Placing.{Standing, standing-on, standing-end}
+use Rattle.cover.proofs.PlacedHalves.{Standing, standing-on, standing-end}
 use borrow.Author.Needs.{needs}
 use Rattle.cover.proofs.covering.write_places.Statement.{statement}
 use Rattle.cover.proofs.covering.write_places.Tie as tie

@@ -22,17 +22,20 @@ use Rattle.trails.proofs.Counting.{agree-same, agree-other, Agreeing, agree-cas
 use Rattle.tours.specs.Halves.{near, other, gone, numbered}
 use Rattle.tours.specs.States.{numbers}
 use Rattle.tours.proofs.Halves.{near-string, near-hub}
-use Rattle.cover.specs.Placing.{counted, placedBy, placeAll}
+use Rattle.cover.specs.Covering.{counted, placedBy, placeAll}
 
 -- ─── one half ────────────────────────────────────────────────────────────────
 
 module _ (m n c : ℕ) (ps : List ℤ) where
+  -- a half of a string gives it its place
   pub string-placed : c < 2 * m → placedBy m n c ps ≡ set ps (c / 2) (signed (n + 1) (eqb (c % 2) 1))
   string-placed l = rw (lt-ltb c (2 * m) l)
 
+  -- a spoke gives none
   pub spoke-placed : 2 * m ≤ c → placedBy m n c ps ≡ ps
   spoke-placed l = rw (le-ltb c (2 * m) l)
 
+  -- there are as many places as before
   pub length-placed : length (placedBy m n c ps) ≡ length ps
   length-placed = go (decLt c (2 * m))
     where
@@ -40,12 +43,15 @@ module _ (m n c : ℕ) (ps : List ℤ) where
       go (yes l) = ap length (string-placed l) ∙ simp length-set
       go (no l) = ap length (spoke-placed (omega arith))
 
+-- one string more has its place
 pub string-counted : (m n c : ℕ) → c < 2 * m → counted m n c ≡ n + 1
 string-counted m n c l = rw (lt-ltb c (2 * m) l)
 
+-- or none
 pub spoke-counted : (m n c : ℕ) → 2 * m ≤ c → counted m n c ≡ n
 spoke-counted m n c l = rw (le-ltb c (2 * m) l)
 
+-- at most one more
 pub counted-le : (m n c : ℕ) → counted m n c ≤ n + 1
 counted-le m n c = go (decLt c (2 * m))
   where
@@ -55,6 +61,7 @@ counted-le m n c = go (decLt c (2 * m))
 
 -- ─── all halves ──────────────────────────────────────────────────────────────
 
+-- there are as many places as before
 pub length-all : (m n : ℕ) (cs : List ℕ) (ps : List ℤ) → length (placeAll m n cs ps) ≡ length ps
 unfolding placeAll
 length-all m n [] ps = refl
@@ -185,7 +192,7 @@ module _ (h : ℕ) (s : Ends) (L : List Ends) where
   unfolding unspoked
   unspoked-off a b = rw (a, b) refl
 
--- Without the spokes, the halves are the strings that the marks name.
+-- Strings do not touch the hub, and spokes do.
 module _ (m : ℕ) (verts : List ℕ) (low : (c : ℕ) → c < 2 * m → getD verts c 0 < 2 * m) where
   string-off : (c : ℕ) → c < 2 * m → agree (2 * m) (near m verts c) ≡ 0
   string-off c l = agree-other (2 * m) (near m verts c) (λ e. omega (arith, near-string m verts c l, low c l))
@@ -193,6 +200,7 @@ module _ (m : ℕ) (verts : List ℕ) (low : (c : ℕ) → c < 2 * m → getD ve
   hub-on : (c : ℕ) → 2 * m ≤ c → c % 2 ≡ 0 → agree (2 * m) (near m verts c) ≡ 1
   hub-on c l e = agree-same (2 * m) (near m verts c) (sym (near-hub m verts c l e))
 
+  -- spokes left out, the halves by their vertices are the strings that the marks name
   pub unspoked-marks : (cs : List ℕ) → unspoked (2 * m) (map (gone (near m verts)) cs) ≡ map (marked turned (0, 0) (numbered (near m verts) 0 m)) (marks m cs)
   unspoked-marks [] = unfold unspoked marks in refl
   unspoked-marks (c ∷ cs) = go (decLt c (2 * m)) (ℕ-discrete (c % 2) 0) (unspoked-marks cs)
@@ -222,6 +230,7 @@ pub record Standing (m start : ℕ) (stack : List ℕ) (ps₀ ps : List ℤ) (n 
   pub rest : placeAll m n (drop p stack) ps ≡ placeAll m 0 (drop start stack) ps₀
 
 module _ {m start : ℕ} {stack : List ℕ} {ps₀ ps : List ℤ} {n p : ℕ} (g : Standing m start stack ps₀ ps n p) (k : length stack ≡ 3 * m) where
+  -- the next half gives its place
   pub standing-on : p < 3 * m → (c : ℕ) → c ≡ getD stack p 0 → {qs : List ℤ} {i : ℕ} → qs ≡ placedBy m n c ps → i ≡ counted m n c → Standing m start stack ps₀ qs i (p + 1)
   unfolding placeAll
   standing-on l c is {qs} {i} a b = record {
@@ -233,6 +242,7 @@ module _ {m start : ℕ} {stack : List ℕ} {ps₀ ps : List ℤ} {n p : ℕ} (g
         ∙ (sym (ap (λ (cs : List ℕ). placeAll m n cs ps) (drop-next stack p 0 (omega arith) ∙ ap (λ (x : ℕ). x ∷ drop (p + 1) stack) (sym is))) ∙ g .rest);
   }
 
+  -- all halves have
   pub standing-end : 3 * m ≤ p → ps ≡ placeAll m 0 (drop start stack) ps₀
   unfolding placeAll
   standing-end h = let l : length stack ≤ p = omega arith in sym (ap (λ (cs : List ℕ). placeAll m n cs ps) (drop-of-length-le stack l)) ∙ g .rest
