@@ -1,13 +1,10 @@
 -- Strings of weights one after the other: a string more is its own runs more, less one where it joins the next. So all runs and the number of
 -- strings are the runs inside the strings and the paths of their end weights. Assumes nothing.
-use mathlib.Core.Path.{_≡_, refl, sym, ap, ap₂, _∙_, subst}
-use mathlib.Core.Bool.{Bool}
-use mathlib.Core.List.{List, [], _∷_, _++_, map, reverse, append-nil}
-use Prim.Native.Nat.{ℕ, zero, suc, _+_, _-_, _≤_, _<_}
+use mathlib.Core.Path.{_≡_, refl, sym, ap, ap₂, _∙_}
+use mathlib.Core.List.{List, [], _∷_, _++_, map, append-nil}
+use Prim.Native.Nat.{ℕ, suc, _+_, _-_, _≤_}
 use native.Mathlib.Omega.{arith}
-use lib.Dec.{eqb}
 use lib.ListN.{length, getD}
-use Rattle.lists.specs.Choose.{choose}
 use Rattle.lists.specs.Count.{sum}
 use Rattle.lists.specs.Every.{All}
 use Rattle.collection.specs.Strings.{Str, weightsIn}
@@ -18,9 +15,10 @@ use Rattle.trails.specs.Counting.{agree}
 use Rattle.trails.specs.Paths.{pathCount}
 use Rattle.trails.specs.Strings.{Ends, front, back}
 use Rattle.trails.proofs.Counting.{agree-le}
-use Rattle.trails.proofs.Paths.{paths-next, paths-none, paths-breaks}
+use Rattle.trails.proofs.Paths.{paths-next, paths-none}
 use Rattle.vertices.specs.EndWeights.{endsOf}
 
+-- runs and paths go on by the same test
 goes-agree : (a b : ℕ) → goesOn a b ≡ agree a b
 unfolding goesOn agree
 goes-agree a b = refl
@@ -41,6 +39,7 @@ inside ss = sum (map (λ s. runCount (s .weights)) ss)
 abbrev pub HasWeight : Str → Type 0
 HasWeight s = 1 ≤ length (s .weights)
 
+-- one string is one path
 one-path : (e : Ends) → pathCount (e ∷ []) ≡ 1
 unfolding Rattle.trails.specs.Paths.paths Rattle.trails.specs.Paths.pathsFrom
 one-path e = refl
