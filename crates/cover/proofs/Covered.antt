@@ -6,8 +6,8 @@ use mathlib.Core.List.{List, _++_, map, append-nil}
 use Prim.Native.Nat.{ℕ, suc, _+_, _-_, _*_, _/_, _<_, _≤_}
 use native.Mathlib.Omega.{arith}
 use lib.IntN.{ℤ, pos}
-use lib.ListN.{length, getD, drop, length-map, length-drop, drop-of-length-le}
-use Rattle.lists.specs.Fill.{put}
+use lib.ListN.{length, getD, drop, replicate, length-map, length-drop, length-replicate, drop-of-length-le}
+use Rattle.lists.specs.Fill.{fill}
 use Rattle.trails.specs.Groups.{oddWeights, least}
 use Rattle.trails.specs.Paths.{pathCount}
 use Rattle.trails.specs.Places.{signed, SignedPermutation, arranged}
@@ -26,15 +26,13 @@ use Rattle.tours.specs.States.{along, strings, Done}
 use Rattle.tours.proofs.Halves.{length-numbered}
 use Rattle.tours.proofs.Tours.{hub-fresh}
 use Rattle.cover.specs.Cover.{Fewest}
-use Rattle.vertices.specs.Ladder.{ladder}
-use Rattle.vertices.proofs.Ladder.{length-ladder}
 use Rattle.cover.specs.Covering.{placeAll, Covering}
 use Rattle.cover.proofs.PlacedHalves.{marks, names-placed, length-all, unspoked-marks}
 
 -- a table that is written over as a whole
-put-all : {A : Type 0} (xs w : List A) → length xs ≡ length w → put 0 xs w ≡ xs
-put-all xs w e =
-    let l : length w ≤ 0 + length xs = omega arith in
+fill-all : {A : Type 0} (xs w : List A) → length xs ≡ length w → fill xs w ≡ xs
+fill-all xs w e =
+    let l : length w ≤ length xs = omega arith in
     ap (λ (L : List _). xs ++ L) (drop-of-length-le w l) ∙ append-nil xs
 
 -- ─── the places ──────────────────────────────────────────────────────────────
@@ -130,11 +128,11 @@ module _ {m : ℕ} {t u : Tables} {z walks : ℕ} (g : Graph m (t .verts) (t .ro
       covered-paths = paths-counted ∙ renamed-least r
 
       -- what the call leaves: qs are the places, v the table of zeros
-      pub covering : {qs : List ℤ} (w : List ℕ) {v : List ℕ} → qs ≡ placeAll m 0 halves ps → v ≡ put 0 (ladder 0 0 (16 * m)) w → length w ≡ 16 * m
+      pub covering : {qs : List ℤ} (w : List ℕ) {v : List ℕ} → qs ≡ placeAll m 0 halves ps → v ≡ fill (replicate (16 * m) 0) w → length w ≡ 16 * m
           → Covering L m qs v ((2 * m - z) / 2 + walks)
       covering {qs} w {v} e f s = record {
         paths = covered-paths;
         places-fewest = subst (Fewest L) (sym e) covered-fewest;
         places-size = ap length e ∙ places-size;
-        work-zero = f ∙ put-all (ladder 0 0 (16 * m)) w (length-ladder 0 0 (16 * m) ∙ sym s);
+        work-zero = f ∙ fill-all (replicate (16 * m) 0) w (length-replicate (16 * m) 0 ∙ sym s);
       }

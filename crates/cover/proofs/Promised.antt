@@ -22,23 +22,21 @@ use Rattle.trails.proofs.Bounds.{no-strings}
 use Rattle.trails.proofs.Paths.{paths-none}
 use Rattle.tours.specs.Layout.{Fits}
 use Rattle.vertices.specs.EndWeights.{endWeights}
-use Rattle.vertices.specs.Ladder.{ladder}
 use Rattle.vertices.specs.Promises.{endsFrom, Strung}
 use Rattle.vertices.proofs.EndWeights.{end-weights}
-use Rattle.vertices.proofs.Ladder.{ladder-zeros}
 use Rattle.cover.specs.declared.CoverAnswer.the-variants.{Covered, Refused}
 use Rattle.cover.specs.Cover.{coverVerdict, Fewest, PlacesAfter, CoverOf, Promise}
 use Rattle.cover.specs.Covering.{Covering}
 
 -- ─── what a good verdict tells ───────────────────────────────────────────────
 
--- what it keeps to
+-- the collection passes, and there is room for the places and the work
 pub record Roomy (k : ℕ) (letters ends weights : List ℕ) (places : List ℤ) (work : List ℕ) : Type 0 where
   pub judged : Judged k letters ends weights
   pub places-room : length ends ≤ length places
   pub work-room : 16 * length ends ≤ length work
 
--- so it does
+-- which a good verdict tells
 pub cover-good : (k : ℕ) (letters ends weights : List ℕ) (places : List ℤ) (work : List ℕ) → coverVerdict k letters ends weights places work ≡ Good → Roomy k letters ends weights places work
 unfolding coverVerdict
 cover-good k letters ends weights places work h =
@@ -97,7 +95,7 @@ module _ {verdict : Verdict} {strings : List Ends} {m : ℕ} {places : List ℤ}
     where
       zeros : v ++ drop (16 * m) work ≡ fill (replicate (16 * m) 0) work
       zeros =
-          ap (λ (x : List ℕ). x ++ drop (16 * m) work) (c .work-zero ∙ ladder-zeros (16 * m))
+          ap (λ (x : List ℕ). x ++ drop (16 * m) work) (c .work-zero)
           ∙ ap (λ (i : ℕ). replicate (16 * m) 0 ++ drop i work) (sym (length-replicate (16 * m) 0))
 
 -- no strings: nothing to fill
@@ -119,10 +117,7 @@ pub cover-none : {verdict : Verdict} (k : ℕ) (letters ends weights : List ℕ)
 cover-none {verdict} k letters ends weights {places} {work} e z =
     subst (λ (m : ℕ). CoverOf verdict (endWeights k letters ends weights) m places work (Covered 0 0) places work) (sym z)
     (subst (λ (L : List Ends). CoverOf verdict L 0 places work (Covered 0 0) places work) (sym (no-ends k letters ends weights z))
-    (cover-done e (record { paths = sym (no-strings .2); places-fewest = fewest-none; places-size = refl; work-zero = nil }) refl refl))
-  where
-    nil : [] ≡ ladder 0 0 (16 * 0)
-    nil = unfold ladder in refl
+    (cover-done e (record { paths = sym (no-strings .2); places-fewest = fewest-none; places-size = refl; work-zero = refl }) refl refl))
 
 -- all strings covered, in parts of the lent tables
 pub cover-all : (k : ℕ) (letters ends weights : List ℕ) (places : List ℤ) (work : List ℕ) → coverVerdict k letters ends weights places work ≡ Good

@@ -4,12 +4,11 @@ use mathlib.Core.List.{List, [], _∷_}
 use Prim.Native.Nat.{ℕ, _+_, _*_, _/_, _%_}
 use lib.Dec.{eqb, ltb}
 use lib.IntN.{ℤ}
-use lib.ListN.{length, set}
+use lib.ListN.{length, set, replicate}
 use Rattle.lists.specs.Choose.{choose}
 use Rattle.trails.specs.Groups.{least}
 use Rattle.trails.specs.Places.{signed}
 use Rattle.trails.specs.Strings.{Ends}
-use Rattle.vertices.specs.Ladder.{ladder}
 use Rattle.cover.specs.Cover.{Fewest}
 
 -- n strings have their places, and half c comes next: a half of a string gives it the next place, turned if it is gone along from its back; a spoke gives none.
@@ -31,4 +30,4 @@ pub record Covering (strings : List Ends) (m : ℕ) (places : List ℤ) (work : 
   pub paths : r ≡ least strings
   pub places-fewest : Fewest strings places
   pub places-size : length places ≡ m
-  pub work-zero : work ≡ ladder 0 0 (16 * m)
+  pub work-zero : work ≡ replicate (16 * m) 0

@@ -68,6 +68,7 @@ pub(crate) fn cover_strings(
     let tour = tours::inner::walk_all(work, m);
     let start = tour.start;
     write_places(work, m, start, places);
-    vertices::inner::write_ladder(work, 0, 16 * m, 0, 0);
+    collection::inner::zero_first(work, 16 * m);
+    // The stack holds m strings and O spokes from `start` on, so 2m - start is O; and each later walk is the path of an even group.
     (2 * m - start) / 2 + tour.walks
 }

@@ -83,8 +83,8 @@ module _ (k : ℕ) (letters positions : List ℕ) (n : ℕ) (w u t v : List ℕ)
       inside : (i : ℕ) → i < n → idAt n v i < n
       inside i l =
           subst (λ (x : ℕ). x < n) (part-at (n + n) n v i 0 l)
-          (all-at (λ x. x < n) (part (n + n) n v) (sorted-all key (n + n) (n + n + n) n t v s (λ x. x < n) (numbers-inside n ids)) i 0
-          (omega (arith, sorted-length key (n + n) (n + n + n) n t v s fits)))
+          (all-at (λ x. x < n) (part (n + n) n v) (sorted-all key s (λ x. x < n) (numbers-inside n ids)) i 0
+          (omega (arith, sorted-length key s fits)))
 
       rises : Pairs (λ x y. x < y) (part (n + n) n t)
       rises = subst (Pairs (λ x y. x < y)) (sym ids) (count-rises 0 n)
@@ -92,7 +92,7 @@ module _ (k : ℕ) (letters positions : List ℕ) (n : ℕ) (w u t v : List ℕ)
       -- every k-mer has a place in the order
       place : (x : ℕ) → x < n → (i : ℕ) × (i < n) × (idAt n v i ≡ x)
       place x l =
-          let p = sorted-place key (n + n) (n + n + n) n t v s fits x l in
+          let p = sorted-place key s fits x l in
           (p .0, p .1, p .2 ∙ (sym (part-at (n + n) n t x 0 l) ∙ (ap (λ (xs : List ℕ). getD xs x 0) ids ∙ (count-at 0 n x l ∙ zero-add x))))
 
       behind : (i : ℕ) → Off ((0, 4 * n) ∷ []) i → 4 * n ≤ i
@@ -108,11 +108,11 @@ module _ (k : ℕ) (letters positions : List ℕ) (n : ℕ) (w u t v : List ℕ)
                 λ i j h l.
                 let a = key-held (idAt n v i) (inside i (omega arith)) in
                 let b = key-held (idAt n v j) (inside j l) in
-                let d = sorted-at key (n + n) (n + n + n) n t v s fits i j h l in
+                let d = sorted-at key s fits i j h l in
                 subst (λ (x : ℕ). x ≤ heldAt n v (idAt n v j)) a (subst (λ (y : ℕ). key (idAt n v i) ≤ y) b d);
             rise =
                 λ i j h l e.
-                sorted-rise key (n + n) (n + n + n) n t v s fits rises i j h l (key-held (idAt n v i) (inside i (omega arith)) ∙ (e ∙ sym (key-held (idAt n v j) (inside j l))));
+                sorted-rise key s fits rises i j h l (key-held (idAt n v i) (inside i (omega arith)) ∙ (e ∙ sym (key-held (idAt n v j) (inside j l))));
             place = place;
             rest =
                 among-trans _ w u v (among-wider _ _ w u (c .rest) (λ i o. let b = behind i o in (inr (omega arith), (inr (omega arith), tt))))

@@ -4,7 +4,7 @@ use mathlib.Core.List.{List, [], _∷_}
 use Prim.Native.Nat.{ℕ, zero, suc, _+_, _-_, _*_, _^_, _<_, _≤_}
 use native.Mathlib.Nat.{suc-mul, zero-mul}
 use native.Mathlib.Omega.{arith}
-use lib.ListN.{length, getD, set, replicate}
+use lib.ListN.{length, getD, set}
 use Rattle.lists.specs.Fill.{put}
 use Rattle.lists.specs.Regions.{part, Apart}
 use Rattle.lists.proofs.Puts.{put-part, put-other}
@@ -23,12 +23,6 @@ unfolding ladder
 ladder-at x step zero i h = absurd (omega arith)
 ladder-at x step (suc n) zero h = omega (arith, zero-mul step)
 ladder-at x step (suc n) (suc i) h = omega (arith, ladder-at (x + step) step n i (omega arith), suc-mul i step)
-
--- steps of 0 from 0 are zeros
-pub ladder-zeros : (n : ℕ) → ladder 0 0 n ≡ replicate n 0
-unfolding ladder
-ladder-zeros zero = refl
-ladder-zeros (suc n) = ap (λ (l : List ℕ). 0 ∷ l) (ladder-zeros n)
 
 -- the rest after i of n: one more
 module _ (x step n i : ℕ) (h : i < n) where

@@ -15,7 +15,7 @@ use Rattle.lists.specs.Fill.{put}
 use Rattle.lists.specs.Pick.{sortBy}
 use Rattle.lists.specs.Regions.{part}
 use Rattle.lists.proofs.Count.{length-count, count-at, all-count}
-use Rattle.lists.proofs.Every.{and-right, all-at}
+use Rattle.lists.proofs.Every.{and-right, all-at, all-map}
 use Rattle.lists.proofs.Puts.{put-part}
 use Rattle.lists.proofs.Sorts.{sortBy-at, sortBy-place, all-sortBy, length-sortBy}
 use Rattle.collection.specs.Judge.{isWeight}
@@ -23,6 +23,7 @@ use Rattle.collection.specs.Kmers.{within}
 use Rattle.sorting.specs.Keys.{keyAt}
 use Rattle.sorting.specs.Layout.{Laid}
 use Rattle.sorting.specs.Promises.{Sorted}
+use Rattle.sorting.proofs.Digits.{all-low}
 use Rattle.sorting.proofs.Laws.{sorted-part}
 use Rattle.tours.specs.Layout.{Fits}
 use Rattle.trails.specs.Strings.{weights}
@@ -33,9 +34,8 @@ use Rattle.vertices.proofs.Ladder.{ladder-part, ladder-other}
 -- ─── the end weights fit 24 bits ─────────────────────────────────────────────
 
 weight-low : (ws : List ℕ) → All (λ w. isWeight w ≡ true) ws → (i : ℕ) → getD ws i 0 < 16777216
-weight-low [] h i = omega arith
-weight-low (w ∷ ws) h zero = omega (arith, leb-true w 16777215 (and-right (leb 1 w) (leb w 16777215) (h .0)))
-weight-low (w ∷ ws) h (suc i) = weight-low ws (h .1) i
+weight-low ws h =
+    all-low 16777216 ws (omega arith) (all-map (λ w g. omega (arith, leb-true w 16777215 (and-right (leb 1 w) (leb w 16777215) g))) ws h)
 
 ends-low : (k before : ℕ) (ends ws : List ℕ) → ((i : ℕ) → getD ws i 0 < 16777216) → All (λ w. w < 16777216) (weights (endsFrom k before ends ws))
 unfolding endsFrom weights
@@ -76,7 +76,7 @@ module _ {m : ℕ} (keys : List ℕ) {w₀ w₁ w₂ : List ℕ} (f : Fits m w�
   pub ordered : {w₃ : List ℕ} → length w₂ ≡ length w₀ → Sorted (keyAt (keysIn m w₂)) (5 * m) (9 * m) (2 * m) w₂ w₃ → Ordered m keys w₃
   ordered {w₃} s₂ s = record {
     keys-are =
-        sorted-part (keyAt (keysIn m w₂)) (5 * m) (9 * m) (2 * m) w₂ w₃ s (12 * m) (2 * m) (inr (omega arith), (inr (omega arith), tt)) (omega (arith, f .size, s₂))
+        sorted-part (keyAt (keysIn m w₂)) s (12 * m) (2 * m) (inr (omega arith), (inr (omega arith), tt)) (omega (arith, f .size, s₂))
         ∙ keys-then;
     order-is = s .arranged ∙ ap₂ (λ (K I : List ℕ). sortBy (keyAt K) I) keys-then ids-then;
   }
