@@ -52,10 +52,13 @@ module _ (m : ℕ) (keys verts flags stack : List ℕ) (some : 1 ≤ m)
     (named : (q : ℕ) → q < 2 * m → getD verts (getD (inOrder m keys) q 0) 0 ≡ firstOf (keyed keys (inOrder m keys)) q)
     (lv : length verts ≡ 2 * m) (lf : length flags ≡ 2 * m) (ls : length stack ≡ 3 * m)
     (odd : (x : ℕ) → x < 2 * m → (getD flags x 0 + occurs x verts) % 2 ≡ 1) (low : (x : ℕ) → x < 2 * m → getD flags x 0 ≤ 1) where
+  abbrev laid : Tables
+  laid = laid-tables m keys verts flags stack
+
   graph : Graph m verts (inOrder m keys ++ ladder (2 * m) 2 (2 * m))
   graph = laid-graph m keys verts named
 
-  string-ends : weights (strings m (laid-tables m keys verts flags stack)) ≡ verts
+  string-ends : weights (strings m laid) ≡ verts
   string-ends = weights-numbered (near m verts) m verts lv (λ c l. near-string m verts c l)
 
   used-size : length (ladder 0 0 m ++ flags) ≡ 3 * m
@@ -76,7 +79,7 @@ module _ (m : ℕ) (keys verts flags stack : List ℕ) (some : 1 ≤ m)
       go (no p) (no d) = let l : length (ladder 0 0 m ++ flags) ≤ e = omega (arith, used-size) in rw (List·getD-eq-default (ladder 0 0 m ++ flags) 0 l) (omega arith)
 
   -- what is unused: the strings, and the spokes to odd vertices
-  left-is : left m (laid-tables m keys verts flags stack) ≡ strings m (laid-tables m keys verts flags stack) ++ spokesTo (2 * m) (zeros 0 flags)
+  left-is : left m laid ≡ strings m laid ++ spokesTo (2 * m) (zeros 0 flags)
   left-is =
       unused-append (near m verts) 0 (ladder 0 0 m) flags
       ∙ ap₂ (λ (A B : List Ends). A ++ B) (unused-none (near m verts) 0 m) (ap (λ (e : ℕ). unused (near m verts) e flags) here ∙ unused-spokes m verts 0 flags)
@@ -84,22 +87,22 @@ module _ (m : ℕ) (keys verts flags stack : List ℕ) (some : 1 ≤ m)
       here : 0 + length (ladder 0 0 m) ≡ m + 0
       here = omega (arith, length-ladder 0 0 m)
 
-  odd-listed : (x : ℕ) → occurs x (zeros 0 flags) ≡ oddly (weights (strings m (laid-tables m keys verts flags stack))) x
+  odd-listed : (x : ℕ) → occurs x (zeros 0 flags) ≡ oddly (weights (strings m laid)) x
   odd-listed x =
       zeros-odd (2 * m) verts flags lf odd low (λ y l. occurs-beyond (2 * m) y verts all-below l) x ∙ ap (λ (ws : List ℕ). oddly ws x) (sym string-ends)
     where
       all-below : AllBelow (2 * m) verts
       all-below = at-all (λ v. v < 2 * m) 0 verts (λ c l. graph .verts-low c (omega (arith, lv)))
 
-  spokes-are : Reordered (spoked (2 * m) (strings m (laid-tables m keys verts flags stack))) (left m (laid-tables m keys verts flags stack))
+  spokes-are : Reordered (spoked (2 * m) (strings m laid)) (left m laid)
   spokes-are =
-      subst (Reordered (spoked (2 * m) (strings m (laid-tables m keys verts flags stack)))) (sym left-is)
-      (both (spoked-listed (2 * m) (strings m (laid-tables m keys verts flags stack)) (zeros 0 flags) odd-listed) (swapped (spokesTo (2 * m) (zeros 0 flags)) (strings m (laid-tables m keys verts flags stack))))
+      subst (Reordered (spoked (2 * m) (strings m laid))) (sym left-is)
+      (both (spoked-listed (2 * m) (strings m laid) (zeros 0 flags) odd-listed) (swapped (spokesTo (2 * m) (zeros 0 flags)) (strings m laid)))
 
-  all-even : AllEven (left m (laid-tables m keys verts flags stack))
-  all-even v = omega (arith, occurs-reordered spokes-are v, spoked-even (2 * m) (strings m (laid-tables m keys verts flags stack)) (hub-fresh m (laid-tables m keys verts flags stack) graph) v)
+  all-even : AllEven (left m laid)
+  all-even v = omega (arith, occurs-reordered spokes-are v, spoked-even (2 * m) (strings m laid) (hub-fresh m laid graph) v)
 
-  at-starts : Cursors m (laid-tables m keys verts flags stack)
+  at-starts : Cursors m laid
   at-starts v l =
       let e : getD (ladder 0 1 (3 * m)) v 0 ≡ v = ladder-at 0 1 (3 * m) v (omega arith) ∙ omega arith in
       rw e (record { low = omega arith; high = omega arith; passed = record { all-used = λ q a b z. omega arith } })
