@@ -3,5 +3,7 @@ pub mod Regions
 pub mod Halves
 pub mod Entries
 pub mod Rows
-pub mod Steps
+pub mod Going
+pub mod Taking
+pub mod GivingBack
 pub mod Tours
