@@ -1,14 +1,14 @@
 -- Reordering keeps the runs inside the strings, so the runs of the reordered weights are R - m + paths, and their fewest are R - m + E + O/2.
 -- Assumes nothing.
-use mathlib.Core.Path.{_≡_, refl, sym, ap, ap₂, _∙_, subst}
-use mathlib.Core.List.{List, [], _∷_, _++_, reverse, reverse-cons, reverse-reverse}
+use mathlib.Core.Path.{_≡_, refl, sym, ap, subst}
+use mathlib.Core.List.{List, [], _∷_, reverse}
 use Prim.Native.Nat.{ℕ, _+_, _-_, _≤_}
 use native.Mathlib.Omega.{arith}
 use lib.IntN.{ℤ}
-use lib.ListN.{length, getD, length-append, length-reverse}
-use lib.Seq.{getD-append-seam}
+use lib.ListN.{length, getD, length-reverse}
 use Rattle.lists.specs.Count.{sum}
 use Rattle.lists.specs.Every.{All}
+use Rattle.lists.proofs.Cuts.{reverse-at}
 use Rattle.lists.proofs.Every.{all-map}
 use Rattle.collection.specs.Judge.{Passes}
 use Rattle.collection.specs.Strings.{Str, strings, stringsFrom, weightsIn}
@@ -34,14 +34,12 @@ use Rattle.fewest.proofs.RunsPaths.{inside, HasWeight, runs-paths}
 -- the last of weights the other way round is their first
 last-reversed : (ws : List ℕ) → getD (reverse ws) (length (reverse ws) - 1) 0 ≡ getD ws 0 0
 last-reversed [] = refl
-last-reversed (w ∷ ws) =
-    let e : reverse (w ∷ ws) ≡ reverse ws ++ (w ∷ []) = reverse-cons w ws in
-    let n : length (reverse (w ∷ ws)) - 1 ≡ length (reverse ws) = omega (arith, ap length e, length-append (reverse ws) (w ∷ [])) in
-    ap₂ (λ (l : List ℕ) (i : ℕ). getD l i 0) e n ∙ getD-append-seam (reverse ws) w [] 0
+last-reversed (w ∷ ws) = reverse-at (w ∷ ws) 0 (length (reverse (w ∷ ws)) - 1) (omega (arith, length-reverse (w ∷ ws)))
 
 -- and their first is the last
 first-reversed : (ws : List ℕ) → getD (reverse ws) 0 0 ≡ getD ws (length ws - 1) 0
-first-reversed ws = sym (last-reversed (reverse ws)) ∙ ap (λ (l : List ℕ). getD l (length l - 1) 0) (reverse-reverse ws)
+first-reversed [] = refl
+first-reversed (w ∷ ws) = reverse-at (w ∷ ws) (length (w ∷ ws) - 1) 0 (omega arith)
 
 -- a string turned has its end weights turned
 ends-turned : (s : Str) → endsOf (turnStr s) ≡ turned (endsOf s)
