@@ -27,7 +27,7 @@ use Rattle.tours.proofs.Halves.{length-numbered}
 use Rattle.tours.proofs.Tours.{hub-fresh}
 use Rattle.cover.specs.Cover.{Fewest}
 use Rattle.cover.specs.Covering.{placeAll, Covering}
-use Rattle.cover.proofs.PlacedHalves.{marks, names-placed, length-all, unspoked-marks}
+use Rattle.cover.proofs.PlacedHalves.{marks, marks-placed, length-all, unspoked-marks}
 
 -- a table that is written over as a whole
 fill-all : {A : Type 0} (xs w : List A) → length xs ≡ length w → fill xs w ≡ xs
@@ -96,7 +96,7 @@ module _ {m : ℕ} {t u : Tables} {z walks : ℕ} (g : Graph m (t .verts) (t .ro
     each-placed : (n : ℕ) → n < m
         → (getD (marks m halves) n (0, false) .0 < m) × (getD (placeAll m 0 halves ps) (getD (marks m halves) n (0, false) .0) (pos 0) ≡ signed (suc n) (getD (marks m halves) n (0, false) .1))
     each-placed n b =
-        let r = names-placed m 0 halves ps l (λ e h. omega (arith, d .once e h)) n (omega (arith, count-marks)) in
+        let r = marks-placed m 0 halves ps l (λ e h. omega (arith, d .once e h)) n (omega (arith, count-marks)) in
         let q : 0 + suc n ≡ suc n = omega arith in
         (r .0, r .1 ∙ ap (λ (i : ℕ). signed i (getD (marks m halves) n (0, false) .1)) q)
 
