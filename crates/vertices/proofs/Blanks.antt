@@ -28,6 +28,7 @@ module _ {m : ℕ} {w a b c d : List ℕ} (f : Fits m w)
       ladder-other (3 * m) (2 * m) 1 0 c ed (omega (arith, f .size)) i n g (omega (arith, f .size))
       ∙ ladder-other (2 * m) m 0 0 b ec (omega (arith, f .size)) i n h (omega (arith, f .size))
 
+  -- so the regions are as walks want them, but for the spokes to odd vertices
   pub blanked : Blank m w d
   blanked = record {
     verts =
