@@ -47,7 +47,7 @@ module _ (m n c : ℕ) (ps : List ℤ) where
 pub string-counted : (m n c : ℕ) → c < 2 * m → counted m n c ≡ n + 1
 string-counted m n c l = rw (lt-ltb c (2 * m) l)
 
--- or none
+-- a spoke gives no place
 pub spoke-counted : (m n c : ℕ) → 2 * m ≤ c → counted m n c ≡ n
 spoke-counted m n c l = rw (le-ltb c (2 * m) l)
 
@@ -242,7 +242,7 @@ module _ {m start : ℕ} {stack : List ℕ} {ps₀ ps : List ℤ} {n p : ℕ} (g
         ∙ (sym (ap (λ (cs : List ℕ). placeAll m n cs ps) (drop-next stack p 0 (omega arith) ∙ ap (λ (x : ℕ). x ∷ drop (p + 1) stack) (sym is))) ∙ g .rest);
   }
 
-  -- all halves have
+  -- all halves have given theirs
   pub giving-end : 3 * m ≤ p → ps ≡ placeAll m 0 (drop start stack) ps₀
   unfolding placeAll
   giving-end h = let l : length stack ≤ p = omega arith in sym (ap (λ (cs : List ℕ). placeAll m n cs ps) (drop-of-length-le stack l)) ∙ g .rest

@@ -69,14 +69,14 @@ module _ {k : ℕ} {letters ends weights : List ℕ} {places : List ℤ} {work :
   pub work-fits : (length ends ≡ 0 → ⊥) → Fits (length ends) (take (16 * length ends) work)
   work-fits h = record { some = omega arith; few = r .judged .shape .m-high; size = length-take-le (16 * length ends) work (r .work-room) }
 
-  -- and of the places
+  -- the lent part of the places
   pub places-fit : length (take (length ends) places) ≡ length ends
   places-fit = length-take-le (length ends) places (r .places-room)
 
 -- ─── the three ends of a call ────────────────────────────────────────────────
 
 module _ {verdict : Verdict} {strings : List Ends} {m : ℕ} {places : List ℤ} {work : List ℕ} where
-  -- refused
+  -- where it is refused
   pub cover-refused : {number place : ℕ} → verdict ≡ Bad number place → CoverOf verdict strings m places work (Refused number place) places work
   cover-refused e = record {
     answered = refused Refused _ e;
@@ -84,7 +84,7 @@ module _ {verdict : Verdict} {strings : List Ends} {m : ℕ} {places : List ℤ}
     placed = subst (λ (v : Verdict). PlacesAfter v strings places places) (sym e) refl;
   }
 
-  -- done
+  -- where all strings are covered
   pub cover-done : verdict ≡ Good → {qs places' : List ℤ} {v work' : List ℕ} {n : ℕ} → Covering strings m qs v n → places' ≡ qs ++ drop m places → work' ≡ v ++ drop (16 * m) work
       → CoverOf verdict strings m places work (Covered m n) places' work'
   cover-done e {qs} {places'} {v} {work'} {n} c p w = record {

@@ -31,7 +31,7 @@ module _ (n : ℕ) (h : n ≤ 1048576) where
   pub negative-fits : SFits w32 (pos 0 -ℤ toZ w32 n)
   negative-fits = rw less (record { sfits = negative-mag n h })
 
-  -- and is that
+  -- and is the negative number
   pub as-negative : toZ w32 (ofZ w32 (pos 0 -ℤ toZ w32 n)) ≡ signed n true
   as-negative = toZ-ofZ w32 _ negative-fits ∙ less
 

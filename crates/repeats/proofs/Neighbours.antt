@@ -18,7 +18,7 @@ module _ (key order : ℕ → ℕ) (n : ℕ) where
   pub least-begin : Least key order n 1 n
   least-begin = record { lowest = λ j l. absurd (omega arith); found = inl refl }
 
-  -- behind the last place
+  -- behind the last place it is the least of all
   pub least-end : (i r : ℕ) → n ≤ i → Least key order n i r → Least key order n n r
   least-end i r l s = record { lowest = λ j h. s .lowest j (omega arith); found = s .found }
 

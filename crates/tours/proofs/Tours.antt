@@ -123,7 +123,7 @@ visits-more {u = u} {i = i} v h e l q = go (ℕ-discrete e i)
     go (yes p) = v .is-used (rw p at q)
     go (no p) = h e (omega arith) (v .grown e q)
 
--- over two steps
+-- over two steps they are the same
 pub same-trans : {t u v : Tables} → Same t u → Same u v → Same t v
 same-trans p q = record { verts = q .verts ∙ p .verts; rows = q .rows ∙ p .rows }
 

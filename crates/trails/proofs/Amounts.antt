@@ -28,7 +28,7 @@ length-spokes h ws (suc n) = go (ℕ-discrete (oddly ws n) 0) (length-spokes h w
     go (yes e) ih = rw e (omega (arith, ih))
     go (no q) ih = let e : oddly ws n ≡ 1 = omega (arith, oddly-le ws n) in rw e (omega (arith, ih))
 
--- with the strings
+-- with them there are O strings more
 pub length-spoked : (h : ℕ) (L : List Ends) → length (spoked h L) ≡ oddWeights L + length L
 unfolding oddWeights countOdd
 length-spoked h L = omega (arith, length-append (spokes h (weights L) (limit L)) L, length-spokes h (weights L) (limit L))

@@ -162,7 +162,7 @@ module _ {A : Type 0} (turn : A → A) (d : A) (m : ℕ) (places : List ℤ) (xs
         ap₂ (λ (L M : List A). L ++ M) (arranged-to-is n (omega arith)) (one-standing (u .0) n (u .1) (u .2) k ∙ ap (λ (x : A). x ∷ []) (sym (u .3)))
         ∙ sym (take-suc order n d (omega arith))
 
-    -- so the two are one
+    -- the new order is that order
     pub arranged-by-place : arranged turn places xs ≡ order
     arranged-by-place = arranged-to-is (length places) (omega (arith, s .number)) ∙ take-all (length places) order (omega (arith, s .number))
 
@@ -240,6 +240,6 @@ module _ {A B : Type 0} (turnA : A → A) (turnB : B → B) (f : A → B) (h : (
       map-append f (arrangedTo turnA n places xs) (standing turnA (suc n) places xs)
       ∙ ap₂ (λ (L M : List B). L ++ M) (map-arranged-to n places xs) (map-standing (suc n) places xs)
 
-  -- of all strings
+  -- so it may be done before or after the strings are arranged
   pub map-arranged : (places : List ℤ) (xs : List A) → map f (arranged turnA places xs) ≡ arranged turnB places (map f xs)
   map-arranged places xs = map-arranged-to (length places) places xs

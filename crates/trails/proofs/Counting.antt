@@ -21,7 +21,7 @@ pub agree-same : (a b : ℕ) → a ≡ b → agree a b ≡ 1
 unfolding agree
 agree-same a b e = rw (eq-eqb a b e)
 
--- others do not
+-- different ones do not
 pub agree-other : (a b : ℕ) → (a ≡ b → ⊥) → agree a b ≡ 0
 unfolding agree
 agree-other a b h = rw (ne-eqb a b h)
@@ -30,7 +30,7 @@ agree-other a b h = rw (ne-eqb a b h)
 abbrev pub Agreeing : ℕ → ℕ → Type 0
 Agreeing a b = ((a ≡ b) × (agree a b ≡ 1)) ⊎ ((a ≡ b → ⊥) × (agree a b ≡ 0))
 
--- one of the two holds
+-- two numbers agree, or they do not
 pub agree-cases : (a b : ℕ) → Agreeing a b
 agree-cases a b = go (ℕ-discrete a b)
   where
@@ -67,7 +67,7 @@ module _ (f : ℕ → ℕ) where
       go (no q) ih = omega (arith, ih (omega arith))
 
 module _ (f g : ℕ → ℕ) where
-  -- no part above, no sum above
+  -- where no part is above, the sum is not
   pub sum-mono : (n : ℕ) → ((w : ℕ) → w < n → f w ≤ g w) → sumBelow n f ≤ sumBelow n g
   unfolding sumBelow
   sum-mono zero h = omega arith
@@ -159,7 +159,7 @@ occurs-map-not c l (x ∷ xs) h =
 
 -- ─── odd or even ─────────────────────────────────────────────────────────────
 
--- odd counts at most 1
+-- odd counts 1, even 0
 pub oddly-le : (ws : List ℕ) (w : ℕ) → oddly ws w ≤ 1
 unfolding oddly
 oddly-le ws w = omega arith

@@ -25,7 +25,7 @@ even-not zero o h = refl
 even-not (suc m) zero h = omega arith
 even-not (suc m) (suc o) h = refl
 
--- members more do not make it uneven
+-- it counts at least as much as one that has members only where it has
 pub even-mono : (m n o : ℕ) → (1 ≤ m → 1 ≤ n) → allEven m o ≤ allEven n o
 even-mono zero n o h = omega arith
 even-mono (suc m) zero o h = omega (arith, h (omega arith))
@@ -40,7 +40,7 @@ even-is (suc m) (suc o) h k = absurd (omega arith)
 
 -- ─── a group that is counted ─────────────────────────────────────────────────
 
--- and only such a one
+-- and only such a one does
 even-members : (m o : ℕ) → allEven m o ≡ 1 → (1 ≤ m) × (o ≡ 0)
 even-members zero o e = absurd (omega arith)
 even-members (suc m) zero e = (omega arith, refl)

@@ -42,7 +42,7 @@ swapped (s ∷ A) B = both (keep (swapped A B)) (move-in s B A)
 
 -- ─── what is kept ────────────────────────────────────────────────────────────
 
--- as many strings
+-- there are as many strings
 pub length-reordered : {L M : List Ends} → Reordered L M → length L ≡ length M
 length-reordered empty = refl
 length-reordered (keep r) = ap suc (length-reordered r)
@@ -81,7 +81,7 @@ all-reordered P t (turn {a = a} {b = b} r) h = (t (a, b) (h .0), all-reordered P
 all-reordered P t exchange h = (h .1 .0, (h .0, h .1 .1))
 all-reordered P t (both r q) h = all-reordered P t q (all-reordered P t r h)
 
--- the way back
+-- the first list has the strings of the second, too
 pub reordered-back : {L M : List Ends} → Reordered L M → Reordered M L
 reordered-back empty = empty
 reordered-back (keep r) = keep (reordered-back r)
@@ -91,7 +91,7 @@ reordered-back (both r q) = both (reordered-back q) (reordered-back r)
 
 -- ─── end weights of two lists, and of a string ───────────────────────────────
 
--- a weight occurs in both together as often as in each
+-- a weight occurs in A ++ B as often as in A and in B together
 pub occurs-both : (w : ℕ) (A B : List Ends) → occurs w (weights (A ++ B)) ≡ occurs w (weights A) + occurs w (weights B)
 unfolding weights occurs
 occurs-both w [] B = omega arith
@@ -103,7 +103,7 @@ unfolding weights occurs
 names-both c l [] B = omega arith
 names-both c l (s ∷ A) B = omega (arith, names-both c l A B)
 
--- two end weights a string
+-- each string has two end weights
 pub length-weights : (L : List Ends) → length (weights L) ≡ 2 * length L
 unfolding weights
 length-weights [] = refl

@@ -26,7 +26,7 @@ unspoked-append h (s ∷ A) B = go (agree h (front s)) (agree h (back s)) (unspo
     go zero (suc j) ih = ih
     go (suc i) j ih = ih
 
--- another order is one without the spokes, too
+-- another order stays one without the spokes
 pub unspoked-reordered : (h : ℕ) {L M : List Ends} → Reordered L M → Reordered (unspoked h L) (unspoked h M)
 unfolding unspoked
 unspoked-reordered h empty = empty

@@ -23,7 +23,7 @@ pub data Found (w : ℕ) (U : List Ends) : Type 0 where
   absent : occurs w (weights U) ≡ 0 → Found w U
   found : (b : ℕ) (R : List Ends) → Reordered U ((w, b) ∷ R) → Found w U
 
--- which of the two it is
+-- there is none, or one is found
 pub find : (w : ℕ) (U : List Ends) → Found w U
 unfolding occurs weights
 find w [] = absent refl

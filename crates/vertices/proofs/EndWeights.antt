@@ -49,13 +49,13 @@ pub end-weights : (k : ℕ) (letters ends ws : List ℕ) → firstShort k 0 0 en
 unfolding endWeights
 end-weights k letters ends ws h l = ends-from k 0 0 letters ends ws h l
 
--- of each string
+-- a pair for each string
 pub length-ends : (k before : ℕ) (ends ws : List ℕ) → length (endsFrom k before ends ws) ≡ length ends
 unfolding endsFrom
 length-ends k before [] ws = refl
 length-ends k before (e ∷ ends) ws = ap suc (length-ends k e ends (drop (within k before e) ws))
 
--- two of each string
+-- that is, two weights for each string
 pub length-keys : (k : ℕ) (ends ws : List ℕ) → length (weights (endsFrom k 0 ends ws)) ≡ 2 * length ends
 length-keys k ends ws = omega (arith, length-weights (endsFrom k 0 ends ws), length-ends k 0 ends ws)
 
@@ -145,6 +145,6 @@ module _ {k at : ℕ} {ends ws w₀ w : List ℕ} {before passed i : ℕ} (g : W
           storing = rw q (store (store next-two));
         }
 
-  -- behind the last string all are
+  -- behind the last string all end weights are stored
   pub writing-end : length ends ≤ i → w ≡ put at (weights (endsFrom k 0 ends ws)) w₀
   writing-end h = stored (restated (ends-end k before ends (drop passed ws) i h) (g .storing))

@@ -17,7 +17,7 @@ unfolding ladder
 length-ladder x step zero = refl
 length-ladder x step (suc n) = ap suc (length-ladder (x + step) step n)
 
--- number i
+-- number i is i steps up
 pub ladder-at : (x step n i : ℕ) → i < n → getD (ladder x step n) i 0 ≡ x + i * step
 unfolding ladder
 ladder-at x step zero i h = absurd (omega arith)
@@ -33,7 +33,7 @@ module _ (x step n i : ℕ) (h : i < n) where
   pub step-next : (n - i) * step ≡ step + (n - (i + 1)) * step
   step-next = let e : n - i ≡ suc (n - (i + 1)) = omega arith in rw e (omega (arith, suc-mul (n - (i + 1)) step))
 
--- no rest
+-- nothing is left to store
 pub ladder-end : (x step n i : ℕ) → n ≤ i → ladder x step (n - i) ≡ []
 unfolding ladder
 ladder-end x step n i h = let e : n - i ≡ 0 = omega arith in ap (ladder x step) e
@@ -76,7 +76,7 @@ module _ {at n first step : ℕ} {w₀ w : List ℕ} {x i : ℕ} (c : Climbing a
         let e : at + (i + 1) ≡ at + i + 1 = omega arith in
         record { inside = omega arith; bound = omega (arith, c .bound, step-next x step n i h); storing = rw e (store next-stored) }
 
-  -- all are
+  -- all numbers are stored
   pub climb-end : n ≤ i → w ≡ put at (ladder first step n) w₀
   climb-end h = stored (restated (ladder-end x step n i h) (c .storing))
 

@@ -38,7 +38,7 @@ use Rattle.vertices.proofs.Spokes.{unused-append, unused-none, unused-f
 
 -- The regions hold these lists: the vertices, the flags of strings and of spokes, the rows, and the cursors at the starts of the rows.
 module _ (m : ℕ) (keys verts flags stack : List ℕ) where
-  -- such tables
+  -- the tables with these regions
   abbrev pub laid-tables : Tables
   laid-tables = record {
     verts = verts;

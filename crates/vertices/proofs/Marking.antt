@@ -53,7 +53,7 @@ module _ {m : ℕ} {w₀ w : List ℕ} {i : ℕ} (f : Fits m w₀) (low : All (�
   pub vertex-read : getD w i 0 ≡ getD (vertsIn m w₀) i 0
   vertex-read = let e : 0 + i ≡ i = omega arith in rw e at (only-at (3 * m) (2 * m) w₀ w (g .rest) 0 (2 * m) (inl (omega arith)) i 0 l)
 
-  -- is below 2m
+  -- that vertex is below 2m
   pub vertex-low : getD w i 0 < 2 * m
   vertex-low = rw vertex-read (all-at (λ x. x < 2 * m) (vertsIn m w₀) low i 0 (omega (arith, verts-length)))
 
@@ -104,7 +104,7 @@ module _ {m : ℕ} {w₀ w : List ℕ} {i : ℕ} (f : Fits m w₀) (low : All (�
       flags = λ x b. rw (part-set (3 * m) (2 * m) w v (1 - getD w (3 * m + v) 0) v-low) (flag-turned x b (ℕ-discrete x v) .1);
     }
 
--- all ends have
+-- all ends have turned their flags
 pub marking-end : {m : ℕ} {w₀ w : List ℕ} {i : ℕ} → Fits m w₀ → Marking m w₀ w i → 2 * m ≤ i → Marked m w₀ w
 marking-end {m} {w₀} {w} {i} f g h = record {
   odd = λ x l. rw (take-all i (vertsIn m w₀) (omega (arith, part-length 0 (2 * m) w₀ (omega (arith, f .size))))) at (g .odd x l);

@@ -42,7 +42,7 @@ unfolding endsFrom weights
 ends-low k before [] ws h = tt
 ends-low k before (e ∷ ends) ws h = (h 0, (h (within k before e - 1), ends-low k e ends (drop (within k before e) ws) (λ i. rw getD-drop (h (within k before e + i)))))
 
--- and so do those that are written
+-- so do the end weights of all strings
 pub keys-low : (k : ℕ) (ends ws : List ℕ) → Strung k ends ws → All (λ w. w < 16777216) (weights (endsFrom k 0 ends ws))
 keys-low k ends ws s = ends-low k 0 ends ws (weight-low ws (s .in-range))
 
@@ -68,7 +68,7 @@ module _ {m : ℕ} (keys : List ℕ) {w₀ w₁ w₂ : List ℕ} (f : Fits m w�
   pub ids-then : orderIn m w₂ ≡ countFrom 0 (2 * m)
   ids-then = ladder-part (5 * m) (2 * m) 0 1 w₁ b (omega (arith, f .size, s₁)) ∙ ladder-count 0 (2 * m)
 
-  -- which are below 2m
+  -- these numbers are below 2m
   pub ids-low : All (λ x. x < 2 * m) (orderIn m w₂)
   ids-low = subst (All (λ x. x < 2 * m)) (sym ids-then) (all-count (λ x. x < 2 * m) 0 (2 * m) (λ j u v. omega arith))
 
@@ -100,7 +100,7 @@ module _ (m : ℕ) (keys : List ℕ) where
   abbrev pub inOrder : List ℕ
   inOrder = sortBy (keyAt keys) (countFrom 0 (2 * m))
 
-  -- all of them
+  -- there are 2m of them
   pub order-length : length inOrder ≡ 2 * m
   order-length = length-sortBy (keyAt keys) (countFrom 0 (2 * m)) ∙ length-count 0 (2 * m)
 

@@ -27,7 +27,7 @@ module _ (f : ℕ → ℕ) where
       let q : suc e + length A ≡ e + suc (length A) = omega arith in
       unused-append (suc e) A B ∙ ap (λ (n : ℕ). unused f (suc e) A ++ unused f n B) q
 
-  -- where no flag is set, all are
+  -- where no flag is set, all are unused
   pub unused-none : (e n : ℕ) → unused f e (ladder 0 0 n) ≡ numbered f e n
   unfolding unused ladder numbered
   unused-none e zero = refl
@@ -48,7 +48,7 @@ zeros v [] = []
 zeros v (zero ∷ flags) = v ∷ zeros (suc v) flags
 zeros v (suc n ∷ flags) = zeros (suc v) flags
 
--- the spokes that are, by their vertices
+-- the unused spokes, by their vertices
 pub unused-spokes : (m : ℕ) (verts : List ℕ) (v : ℕ) (flags : List ℕ) → unused (near m verts) (m + v) flags ≡ spokesTo (2 * m) (zeros v flags)
 unfolding unused zeros
 unused-spokes m verts v [] = refl
