@@ -8,15 +8,15 @@ use lib.ListN.{length, length-append}
 use Rattle.trails.specs.Counting.{oddly, sumBelow}
 use Rattle.trails.specs.Groups.{countOdd, oddWeights}
 use Rattle.trails.specs.Paths.{pathCount}
-use Rattle.trails.specs.Strings.{Ends, front, back, weights}
+use Rattle.trails.specs.Strings.{Ends, weights}
 use Rattle.trails.specs.Hub.{spokes, spoked, limit}
 use Rattle.trails.proofs.Counting.{oddly-le}
-use Rattle.trails.proofs.Paths.{paths-none, paths-append, chain-one-path}
+use Rattle.trails.proofs.Paths.{paths-none, paths-one, paths-append}
 
 -- there are not more paths than strings
 pub paths-few : (L : List Ends) → pathCount L ≤ length L
 paths-few [] = omega (arith, paths-none)
-paths-few (s ∷ L) = omega (arith, paths-append (s ∷ []) L, chain-one-path (front s) (s ∷ []) (back s) (refl, refl), paths-few L)
+paths-few (s ∷ L) = omega (arith, paths-append (s ∷ []) L, paths-one s, paths-few L)
 
 -- there are O spokes
 length-spokes : (h : ℕ) (ws : List ℕ) (n : ℕ) → length (spokes h ws n) ≡ sumBelow n (oddly ws)

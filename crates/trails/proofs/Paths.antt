@@ -40,6 +40,11 @@ paths-next s t order =
     let b : breaks s (t ∷ order) ≡ (1 - agree (back s) (front t)) + breaks t order = unfold breaks in refl in
     omega (arith, paths-breaks s (t ∷ order), paths-breaks t order)
 
+-- one string is one path
+pub paths-one : (s : Ends) → pathCount (s ∷ []) ≡ 1
+unfolding paths pathsFrom
+paths-one s = refl
+
 -- no strings, no paths
 pub paths-none : pathCount [] ≡ 0
 unfolding paths
