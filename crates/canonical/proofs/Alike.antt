@@ -22,15 +22,18 @@ least-cases a b =
 abbrev pub Alike : List ℕ → List ℕ → Type 0
 Alike u v = (u ≡ v) ⊎ (u ≡ turn v)
 
+-- the other way round
 pub alike-swap : (u v : List ℕ) → Letters v → Alike u v → Alike v u
 alike-swap u v h a = ⊎-elim (λ (e : u ≡ v). inl (sym e)) (λ (e : u ≡ turn v). inr (sym (ap turn e ∙ turn-turn v h))) a
 
+-- words that are equal, turned or not, have one canonical code
 pub alike-canonical : (u v : List ℕ) → Letters v → Alike u v → canonical u ≡ canonical v
 alike-canonical u v h a =
     ⊎-elim (λ (e : u ≡ v). ap canonical e)
     (λ (e : u ≡ turn v). ap canonical e ∙ (ap (λ (w : List ℕ). min (code (turn v)) (code w)) (turn-turn v h) ∙ min-comm (code (turn v)) (code v)))
     a
 
+-- and words of one canonical code are equal, turned or not
 pub canonical-alike : (u v : List ℕ) → length u ≡ length v → Letters u → Letters v → canonical u ≡ canonical v → Alike u v
 canonical-alike u v l g h e =
     ⊎-elim

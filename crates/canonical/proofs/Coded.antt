@@ -18,6 +18,7 @@ use Rattle.words.specs.Word.{wordAt}
 use Rattle.canonical.specs.Codes.{canonical, heldAt, Coded}
 
 module _ (k : ℕ) (letters : List ℕ) (n : ℕ) where
+  -- no k-mer: the table is as it was
   pub coded-none : (p : ℕ) (w : List ℕ) → Coded k letters n p [] w w
   coded-none p w = record { held = λ j l. absurd (omega arith); rest = among-refl _ w }
 
@@ -96,9 +97,11 @@ module _ (k : ℕ) (letters : List ℕ) (n : ℕ) where
 -- ─── two codes by their halves ───────────────────────────────────────────────
 
 module _ (a b c d : ℕ) where
+  -- where the lower halves differ, the codes do
   pub lower-differs : b < 2 ^ 32 → d < 2 ^ 32 → (b ≡ d → ⊥) → false ≡ eqb (a * 2 ^ 32 + b) (c * 2 ^ 32 + d)
   lower-differs h g e = sym (ne-eqb (a * 2 ^ 32 + b) (c * 2 ^ 32 + d) (λ q. e (omega arith)))
 
+  -- where they are equal, the upper halves decide
   pub upper-decides : b ≡ d → eqb a c ≡ eqb (a * 2 ^ 32 + b) (c * 2 ^ 32 + d)
   upper-decides e = go (eqb a c) refl
     where

@@ -19,16 +19,18 @@ pub record Coding (k : ℕ) (letters ends : List ℕ) (n i before passed : ℕ) 
   pub coded : Coded k letters n 0 done u v
 
 module _ (k : ℕ) (letters ends : List ℕ) (n : ℕ) (u : List ℕ) where
+  -- before the first string
   pub coding-begin : Coding k letters ends n 0 0 0 u u
   coding-begin = record { done = []; counted = refl; split = refl; coded = coded-none k letters n 0 u }
 
   module _ {i before passed : ℕ} {v : List ℕ} (s : Coding k letters ends n i before passed u v) where
+    -- behind the last one all codes are stored
     pub coding-end : length ends ≤ i → Coded k letters n 0 (kmers k ends) u v
     coding-end l =
         subst (λ (xs : List ℕ). Coded k letters n 0 xs u v)
         (sym (append-nil (s .done)) ∙ (ap (λ (xs : List ℕ). s .done ++ xs) (sym (kmers-end k before ends i l)) ∙ s .split)) (s .coded)
 
-    -- the next string, that ends at e
+    -- the next string, with a row of k-mers
     module _ (all : n ≡ length (kmers k ends)) (l : i < length ends) where
       abbrev pub row : List ℕ
       row = countFrom before (within k before (getD ends i 0))
@@ -41,9 +43,11 @@ module _ (k : ℕ) (letters ends : List ℕ) (n : ℕ) (u : List ℕ) where
       size : length (s .done ++ row) ≡ passed + within k before (getD ends i 0)
       size = omega (arith, length-append (s .done) row, length-count before (within k before (getD ends i 0)), s .counted)
 
+      -- its codes have room
       pub coding-room : passed + within k before (getD ends i 0) ≤ n
       coding-room = omega (arith, size, length-append (s .done ++ row) (kmersFrom k (getD ends i 0) (drop (i + 1) ends)), ap length longer)
 
+      -- and are stored behind those before
       pub coding-on : {w : List ℕ} → Coded k letters n passed row v w → Coding k letters ends n (i + 1) (getD ends i 0) (passed + within k before (getD ends i 0)) u w
       coding-on {w} t =
           let p : passed ≡ 0 + length (s .done) = omega (arith, s .counted) in

@@ -65,9 +65,11 @@ module _ (k : ℕ) (letters : List ℕ) (k-low : 1 ≤ k) (k-high : k ≤ 31) (g
         let g : turnedCode (k - 1) c * 4 < 4 ^ suc (k - 1) = omega (arith, first-turned) in
         subst (λ (n : ℕ). turnedCode (k - 1) c * 4 < 4 ^ n) q g
 
+    -- it fits 64 bits
     pub first-fits : turnedCode (k - 1) c * 4 < 18446744073709551616
     first-fits = lt-of-lt-of-le (lt-of-lt-of-le first-small (pow-le-pow-right (lit< tt) k-high)) (lit≤ {m = 4 ^ 31} {n = 18446744073709551616} tt)
 
+    -- before the first k-mer
     pub turns-begin : (t : ℕ) → t ≡ turnedCode (k - 1) c * 4 → Turns k letters (at + 0) c t
     turns-begin t h =
         let z : at + 0 ≡ at = add-zero at in

@@ -1,5 +1,5 @@
--- One code for a word and its reverse complement, and how a table holds the codes of n k-mers: the upper halves in its first n entries, then the lower halves.
--- K-mers are counted from 0 here.
+-- Inner: one code for a word and its reverse complement, and how a table holds the codes of n k-mers: the upper halves in its first n entries, then the lower
+-- halves. K-mers are counted from 0 here. CHECK's promise speaks of words alone and cites none of this.
 use mathlib.Core.Path.{_≡_}
 use mathlib.Core.List.{List, [], _∷_}
 use Prim.Native.Nat.{ℕ, _+_, _*_, _^_, _<_, min}
@@ -11,7 +11,7 @@ use Rattle.words.specs.Word.{code, turn, wordAt}
 abbrev pub canonical : List ℕ → ℕ
 canonical w = min (code w) (code (turn w))
 
--- the code of k-mer x, in two halves of 32 bits
+-- the code that the table w holds for k-mer x, in two halves of 32 bits
 abbrev pub heldAt : ℕ → List ℕ → ℕ → ℕ
 heldAt n w x = getD w x 0 * 2 ^ 32 + getD w (n + x) 0
 

@@ -6,16 +6,16 @@ use mathlib.Core.List.{List, _++_, map, append-nil}
 use Prim.Native.Nat.{ℕ, suc, _+_, _-_, _*_, _/_, _<_, _≤_}
 use native.Mathlib.Omega.{arith}
 use lib.IntN.{ℤ, pos}
-use lib.ListN.{length, getD, drop, length-map, length-drop, drop-of-length-le}
-use Rattle.lists.specs.Fill.{put}
+use lib.ListN.{length, getD, drop, replicate, length-map, length-drop, length-replicate, drop-of-length-le}
+use Rattle.lists.specs.Fill.{fill}
 use Rattle.trails.specs.Groups.{oddWeights, least}
 use Rattle.trails.specs.Paths.{pathCount}
 use Rattle.trails.specs.Places.{signed, SignedPermutation, arranged}
 use Rattle.trails.specs.Renamed.{Renamed}
 use Rattle.trails.specs.Strings.{Ends, turned}
+use Rattle.trails.specs.Hub.{unspoked}
 use Rattle.trails.proofs.Arranged.{marked, marked-permutation, marked-arranged}
 use Rattle.trails.proofs.Amounts.{paths-few, length-spoked}
-use Rattle.trails.proofs.Hub.{unspoked}
 use Rattle.trails.proofs.Orders.{length-reordered}
 use Rattle.trails.proofs.Renamed.{renamed-length, renamed-paths, renamed-least}
 use Rattle.trails.proofs.Upper.{toured-reordered, toured-answer, toured-least}
@@ -26,15 +26,13 @@ use Rattle.tours.specs.States.{along, strings, Done}
 use Rattle.tours.proofs.Halves.{length-numbered}
 use Rattle.tours.proofs.Tours.{hub-fresh}
 use Rattle.cover.specs.Cover.{Fewest}
-use Rattle.vertices.specs.Ladder.{ladder}
-use Rattle.vertices.proofs.Ladder.{length-ladder}
-use Rattle.cover.specs.Placing.{placeAll, Covering}
-use Rattle.cover.proofs.Placing.{marks, names-placed, length-all, unspoked-marks}
+use Rattle.cover.specs.Covering.{placeAll, Covering}
+use Rattle.cover.proofs.PlacedHalves.{marks, marks-placed, length-all, unspoked-marks}
 
 -- a table that is written over as a whole
-put-all : {A : Type 0} (xs w : List A) → length xs ≡ length w → put 0 xs w ≡ xs
-put-all xs w e =
-    let l : length w ≤ 0 + length xs = omega arith in
+fill-all : {A : Type 0} (xs w : List A) → length xs ≡ length w → fill xs w ≡ xs
+fill-all xs w e =
+    let l : length w ≤ length xs = omega arith in
     ap (λ (L : List _). xs ++ L) (drop-of-length-le w l) ∙ append-nil xs
 
 -- ─── the places ──────────────────────────────────────────────────────────────
@@ -43,6 +41,7 @@ module _ {m : ℕ} {t u : Tables} {z walks : ℕ} (g : Graph m (t .verts) (t .ro
   abbrev halves : List ℕ
   halves = drop z (u .stack)
 
+  -- spokes left out, the halves are the strings that their marks name
   in-order : unspoked (2 * m) (along m t halves) ≡ map (marked turned (0, 0) (strings m t)) (marks m halves)
   in-order = unspoked-marks m (t .verts) (g .verts-low) halves
 
@@ -73,6 +72,7 @@ module _ {m : ℕ} {t u : Tables} {z walks : ℕ} (g : Graph m (t .verts) (t .ro
         d .high,
       )
 
+  -- so the stack starts within the first 2m entries
   pub start-low : z ≤ 2 * m
   start-low = omega (arith, odd-count)
 
@@ -80,6 +80,7 @@ module _ {m : ℕ} {t u : Tables} {z walks : ℕ} (g : Graph m (t .verts) (t .ro
   paths-counted : (2 * m - z) / 2 + walks ≡ least (strings m t)
   paths-counted = omega (arith, odd-count, toured-answer (hub-fresh m t g) (d .toured))
 
+  -- and there are at most m paths
   pub paths-low : (2 * m - z) / 2 + walks ≤ m
   paths-low =
       omega (
@@ -95,7 +96,7 @@ module _ {m : ℕ} {t u : Tables} {z walks : ℕ} (g : Graph m (t .verts) (t .ro
     each-placed : (n : ℕ) → n < m
         → (getD (marks m halves) n (0, false) .0 < m) × (getD (placeAll m 0 halves ps) (getD (marks m halves) n (0, false) .0) (pos 0) ≡ signed (suc n) (getD (marks m halves) n (0, false) .1))
     each-placed n b =
-        let r = names-placed m 0 halves ps l (λ e h. omega (arith, d .once e h)) n (omega (arith, count-marks)) in
+        let r = marks-placed m 0 halves ps l (λ e h. omega (arith, d .once e h)) n (omega (arith, count-marks)) in
         let q : 0 + suc n ≡ suc n = omega arith in
         (r .0, r .1 ∙ ap (λ (i : ℕ). signed i (getD (marks m halves) n (0, false) .1)) q)
 
@@ -127,11 +128,11 @@ module _ {m : ℕ} {t u : Tables} {z walks : ℕ} (g : Graph m (t .verts) (t .ro
       covered-paths = paths-counted ∙ renamed-least r
 
       -- what the call leaves: qs are the places, v the table of zeros
-      pub covering : {qs : List ℤ} (w : List ℕ) {v : List ℕ} → qs ≡ placeAll m 0 halves ps → v ≡ put 0 (ladder 0 0 (16 * m)) w → length w ≡ 16 * m
+      pub covering : {qs : List ℤ} (w : List ℕ) {v : List ℕ} → qs ≡ placeAll m 0 halves ps → v ≡ fill (replicate (16 * m) 0) w → length w ≡ 16 * m
           → Covering L m qs v ((2 * m - z) / 2 + walks)
       covering {qs} w {v} e f s = record {
         paths = covered-paths;
         places-fewest = subst (Fewest L) (sym e) covered-fewest;
         places-size = ap length e ∙ places-size;
-        work-zero = f ∙ put-all (ladder 0 0 (16 * m)) w (length-ladder 0 0 (16 * m) ∙ sym s);
+        work-zero = f ∙ fill-all (replicate (16 * m) 0) w (length-replicate (16 * m) 0 ∙ sym s);
       }

@@ -6,7 +6,7 @@ use lib.IntN.{ℤ}
 use lib.ListN.{length, drop, length-map}
 use Rattle.lists.specs.Fill.{fill}
 use Rattle.collection.specs.declared.Verdict.{Verdict}
-use Rattle.collection.specs.declared.Verdict.the-variants.{Good, Bad}
+use Rattle.collection.specs.declared.Verdict.the-variants.{Good}
 use Rattle.collection.specs.Kmers.{within}
 use Rattle.collection.specs.Strings.{stringsFrom, strings}
 use Rattle.trails.specs.Groups.{evenGroups, oddWeights, least}
@@ -22,7 +22,8 @@ use Rattle.collection.proofs.Verdicts.{settled}
 
 -- ─── the strings ─────────────────────────────────────────────────────────────
 
-strings-count : (k before : ℕ) (letters ends weights : List ℕ) → length (stringsFrom k before letters ends weights) ≡ length ends
+-- there are m strings
+pub strings-count : (k before : ℕ) (letters ends weights : List ℕ) → length (stringsFrom k before letters ends weights) ≡ length ends
 unfolding stringsFrom
 strings-count k before letters [] weights = refl
 strings-count k before letters (e ∷ ends) weights = ap suc (strings-count k e (drop (e - before) letters) ends (drop (within k before e) weights))
@@ -55,10 +56,6 @@ module _ (k : ℕ) (letters ends weights : List ℕ) (places : List ℤ) (work :
   cover-fills e =
       let u = subst (λ (v : Verdict). PlacesAfter v (endWeights k letters ends weights) places places') e (p .placed) in
       (u .0, u .1, subst (λ (m : ℕ). SignedPermutation m (u .0)) (ends-count k letters ends weights) (u .2 .permutation), u .2)
-
-  -- refused, the places are as they were
-  pub cover-keeps : {number place : ℕ} → coverVerdict k letters ends weights places work ≡ Bad number place → places' ≡ places
-  cover-keeps e = subst (λ (v : Verdict). PlacesAfter v (endWeights k letters ends weights) places places') e (p .placed)
 
   -- no second answer, and no second table of work, meets the promise
   pub cover-only : {answer₂ : CoverAnswer} {places₂ : List ℤ} {work₂ : List ℕ} → Promise k letters ends weights places work answer₂ places₂ work₂ → (answer ≡ answer₂) × (work' ≡ work₂)

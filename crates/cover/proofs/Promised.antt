@@ -21,22 +21,22 @@ use Rattle.trails.specs.Places.{SignedPermutation, arrangedTo}
 use Rattle.trails.proofs.Bounds.{no-strings}
 use Rattle.trails.proofs.Paths.{paths-none}
 use Rattle.tours.specs.Layout.{Fits}
-use Rattle.vertices.specs.EndWeights.{endWeights, endsFrom}
-use Rattle.vertices.specs.Ladder.{ladder}
-use Rattle.vertices.specs.Promises.{Strung}
+use Rattle.vertices.specs.EndWeights.{endWeights}
+use Rattle.vertices.specs.Promises.{endsFrom, Strung}
 use Rattle.vertices.proofs.EndWeights.{end-weights}
-use Rattle.vertices.proofs.Ladder.{ladder-zeros}
 use Rattle.cover.specs.declared.CoverAnswer.the-variants.{Covered, Refused}
 use Rattle.cover.specs.Cover.{coverVerdict, Fewest, PlacesAfter, CoverOf, Promise}
-use Rattle.cover.specs.Placing.{Covering}
+use Rattle.cover.specs.Covering.{Covering}
 
 -- ─── what a good verdict tells ───────────────────────────────────────────────
 
+-- the collection passes, and there is room for the places and the work
 pub record Roomy (k : ℕ) (letters ends weights : List ℕ) (places : List ℤ) (work : List ℕ) : Type 0 where
   pub judged : Judged k letters ends weights
   pub places-room : length ends ≤ length places
   pub work-room : 16 * length ends ≤ length work
 
+-- which a good verdict tells
 pub cover-good : (k : ℕ) (letters ends weights : List ℕ) (places : List ℤ) (work : List ℕ) → coverVerdict k letters ends weights places work ≡ Good → Roomy k letters ends weights places work
 unfolding coverVerdict
 cover-good k letters ends weights places work h =
@@ -52,6 +52,7 @@ module _ {k : ℕ} {letters ends weights : List ℕ} {places : List ℤ} {work :
   counted : length weights ≡ length (kmers k ends)
   counted = r .judged .counted ∙ sym (kmers-counted (r .judged .shape))
 
+  -- what `lay_out` asks
   pub strung : Strung k ends weights
   strung = record {
     ends-long = shape-long (r .judged .shape);
@@ -60,19 +61,22 @@ module _ {k : ℕ} {letters ends weights : List ℕ} {places : List ℤ} {work :
     in-range = r .judged .all-weights;
   }
 
+  -- the end weights that are covered are those of the strings
   pub same-ends : endsFrom k 0 ends weights ≡ endWeights k letters ends weights
   same-ends = sym (end-weights k letters ends weights (r .judged .shape .long) counted)
 
-  -- the parts that are lent
+  -- the lent part of the work
   pub work-fits : (length ends ≡ 0 → ⊥) → Fits (length ends) (take (16 * length ends) work)
   work-fits h = record { some = omega arith; few = r .judged .shape .m-high; size = length-take-le (16 * length ends) work (r .work-room) }
 
+  -- the lent part of the places
   pub places-fit : length (take (length ends) places) ≡ length ends
   places-fit = length-take-le (length ends) places (r .places-room)
 
 -- ─── the three ends of a call ────────────────────────────────────────────────
 
 module _ {verdict : Verdict} {strings : List Ends} {m : ℕ} {places : List ℤ} {work : List ℕ} where
+  -- where it is refused
   pub cover-refused : {number place : ℕ} → verdict ≡ Bad number place → CoverOf verdict strings m places work (Refused number place) places work
   cover-refused e = record {
     answered = refused Refused _ e;
@@ -80,6 +84,7 @@ module _ {verdict : Verdict} {strings : List Ends} {m : ℕ} {places : List ℤ}
     placed = subst (λ (v : Verdict). PlacesAfter v strings places places) (sym e) refl;
   }
 
+  -- where all strings are covered
   pub cover-done : verdict ≡ Good → {qs places' : List ℤ} {v work' : List ℕ} {n : ℕ} → Covering strings m qs v n → places' ≡ qs ++ drop m places → work' ≡ v ++ drop (16 * m) work
       → CoverOf verdict strings m places work (Covered m n) places' work'
   cover-done e {qs} {places'} {v} {work'} {n} c p w = record {
@@ -90,7 +95,7 @@ module _ {verdict : Verdict} {strings : List Ends} {m : ℕ} {places : List ℤ}
     where
       zeros : v ++ drop (16 * m) work ≡ fill (replicate (16 * m) 0) work
       zeros =
-          ap (λ (x : List ℕ). x ++ drop (16 * m) work) (c .work-zero ∙ ladder-zeros (16 * m))
+          ap (λ (x : List ℕ). x ++ drop (16 * m) work) (c .work-zero)
           ∙ ap (λ (i : ℕ). replicate (16 * m) 0 ++ drop i work) (sym (length-replicate (16 * m) 0))
 
 -- no strings: nothing to fill
@@ -106,15 +111,13 @@ unfolding endWeights stringsFrom
 no-ends k letters [] weights e = refl
 no-ends k letters (x ∷ ends) weights e = absurd (omega arith)
 
+-- so the promise is kept with no strings
 pub cover-none : {verdict : Verdict} (k : ℕ) (letters ends weights : List ℕ) {places : List ℤ} {work : List ℕ} → verdict ≡ Good → length ends ≡ 0
     → CoverOf verdict (endWeights k letters ends weights) (length ends) places work (Covered 0 0) places work
 cover-none {verdict} k letters ends weights {places} {work} e z =
     subst (λ (m : ℕ). CoverOf verdict (endWeights k letters ends weights) m places work (Covered 0 0) places work) (sym z)
     (subst (λ (L : List Ends). CoverOf verdict L 0 places work (Covered 0 0) places work) (sym (no-ends k letters ends weights z))
-    (cover-done e (record { paths = sym (no-strings .2); places-fewest = fewest-none; places-size = refl; work-zero = nil }) refl refl))
-  where
-    nil : [] ≡ ladder 0 0 (16 * 0)
-    nil = unfold ladder in refl
+    (cover-done e (record { paths = sym (no-strings .2); places-fewest = fewest-none; places-size = refl; work-zero = refl }) refl refl))
 
 -- all strings covered, in parts of the lent tables
 pub cover-all : (k : ℕ) (letters ends weights : List ℕ) (places : List ℤ) (work : List ℕ) → coverVerdict k letters ends weights places work ≡ Good

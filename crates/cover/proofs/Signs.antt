@@ -20,15 +20,18 @@ zero-less zero = ap pos (zero-add 0)
 zero-less (suc n) = +ℤ-idl (negℤ (pos (suc n)))
 
 module _ (n : ℕ) (h : n ≤ 1048576) where
+  -- a number that fits is itself, as a signed one
   pub as-positive : toZ w32 n ≡ signed n false
   as-positive = toZ-pos w32 n (omega arith)
 
   less : pos 0 -ℤ toZ w32 n ≡ signed n true
   less = ap (λ (x : ℤ). pos 0 -ℤ x) as-positive ∙ zero-less n
 
+  -- it fits with the other sign, too
   pub negative-fits : SFits w32 (pos 0 -ℤ toZ w32 n)
   negative-fits = rw less (record { sfits = negative-mag n h })
 
+  -- and is the negative number
   pub as-negative : toZ w32 (ofZ w32 (pos 0 -ℤ toZ w32 n)) ≡ signed n true
   as-negative = toZ-ofZ w32 _ negative-fits ∙ less
 

@@ -1,3 +1,3 @@
--- What COVER promises.
+-- What COVER promises. `Covering` is inner: what its private functions promise each other.
 pub mod Cover
-pub mod Placing
+pub mod Covering

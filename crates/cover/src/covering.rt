@@ -4,9 +4,8 @@ ghost use Prim.Native.Nat.{_+_, _*_, _≤_, _<_};
 ghost use lib.ListN.{length, drop};
 ghost use Rattle.trails.specs.Places.{signed};
 ghost use Rattle.tours.specs.Layout.{Fits, tables};
-ghost use Rattle.vertices.specs.EndWeights.{endsFrom};
-ghost use Rattle.vertices.specs.Promises.{Strung};
-ghost use Rattle.cover.specs.Placing.{counted, placedBy, placeAll, Covering};
+ghost use Rattle.vertices.specs.Promises.{endsFrom, Strung};
+ghost use Rattle.cover.specs.Covering.{counted, placedBy, placeAll, Covering};
 
 // A number as an index.
 fn wide(x: u32) -> usize
@@ -69,6 +68,7 @@ pub(crate) fn cover_strings(
     let tour = tours::inner::walk_all(work, m);
     let start = tour.start;
     write_places(work, m, start, places);
-    vertices::inner::write_ladder(work, 0, 16 * m, 0, 0);
+    collection::inner::zero_first(work, 16 * m);
+    // The stack holds m strings and O spokes from `start` on, so 2m - start is O; and each later walk is the path of an even group.
     (2 * m - start) / 2 + tour.walks
 }

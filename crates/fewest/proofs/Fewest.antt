@@ -1,19 +1,19 @@
 -- Reordering keeps the runs inside the strings, so the runs of the reordered weights are R - m + paths, and their fewest are R - m + E + O/2.
 -- Assumes nothing.
-use mathlib.Core.Path.{_≡_, refl, sym, ap, ap₂, _∙_, subst}
-use mathlib.Core.List.{List, [], _∷_, _++_, reverse, reverse-cons, reverse-reverse}
+use mathlib.Core.Path.{_≡_, refl, sym, ap, subst}
+use mathlib.Core.List.{List, [], _∷_, reverse}
 use Prim.Native.Nat.{ℕ, _+_, _-_, _≤_}
 use native.Mathlib.Omega.{arith}
 use lib.IntN.{ℤ}
-use lib.ListN.{length, getD, length-append, length-map, length-reverse}
-use lib.Seq.{getD-append-seam}
+use lib.ListN.{length, getD, length-reverse}
 use Rattle.lists.specs.Count.{sum}
 use Rattle.lists.specs.Every.{All}
+use Rattle.lists.proofs.Cuts.{reverse-at}
 use Rattle.lists.proofs.Every.{all-map}
 use Rattle.collection.specs.Judge.{Passes}
 use Rattle.collection.specs.Strings.{Str, strings, stringsFrom, weightsIn}
 use Rattle.collection.proofs.Judged.{Judged, collection-good}
-use Rattle.collection.proofs.Strings.{Whole, strings-whole, strings-ends, ends-length}
+use Rattle.collection.proofs.Strings.{Whole, strings-whole}
 use Rattle.runs.specs.Runs.{runCount, innerRuns}
 use Rattle.runs.proofs.Joined.{count-none, count-reverse}
 use Rattle.trails.specs.Paths.{pathCount}
@@ -24,6 +24,7 @@ use Rattle.trails.proofs.Bounds.{none-fewer, one-reaches, no-strings}
 use Rattle.trails.proofs.Kept.{all-arranged, total-arranged}
 use Rattle.vertices.specs.EndWeights.{endsOf, endWeights}
 use Rattle.cover.specs.Cover.{Fewest}
+use Rattle.cover.proofs.Laws.{strings-count, ends-count}
 use Rattle.reordering.specs.Turned.{turnStr}
 use Rattle.fewest.specs.Fewest.{runsAt, leastRuns, FewestRuns}
 use Rattle.fewest.proofs.RunsPaths.{inside, HasWeight, runs-paths}
@@ -33,14 +34,12 @@ use Rattle.fewest.proofs.RunsPaths.{inside, HasWeight, runs-paths}
 -- the last of weights the other way round is their first
 last-reversed : (ws : List ℕ) → getD (reverse ws) (length (reverse ws) - 1) 0 ≡ getD ws 0 0
 last-reversed [] = refl
-last-reversed (w ∷ ws) =
-    let e : reverse (w ∷ ws) ≡ reverse ws ++ (w ∷ []) = reverse-cons w ws in
-    let n : length (reverse (w ∷ ws)) - 1 ≡ length (reverse ws) = omega (arith, ap length e, length-append (reverse ws) (w ∷ [])) in
-    ap₂ (λ (l : List ℕ) (i : ℕ). getD l i 0) e n ∙ getD-append-seam (reverse ws) w [] 0
+last-reversed (w ∷ ws) = reverse-at (w ∷ ws) 0 (length (reverse (w ∷ ws)) - 1) (omega (arith, length-reverse (w ∷ ws)))
 
 -- and their first is the last
 first-reversed : (ws : List ℕ) → getD (reverse ws) 0 0 ≡ getD ws (length ws - 1) 0
-first-reversed ws = sym (last-reversed (reverse ws)) ∙ ap (λ (l : List ℕ). getD l (length l - 1) 0) (reverse-reverse ws)
+first-reversed [] = refl
+first-reversed (w ∷ ws) = reverse-at (w ∷ ws) (length (w ∷ ws) - 1) 0 (omega arith)
 
 -- a string turned has its end weights turned
 ends-turned : (s : Str) → endsOf (turnStr s) ≡ turned (endsOf s)
@@ -48,11 +47,13 @@ ends-turned s = λ i. (first-reversed (s .weights) i, last-reversed (s .weights)
 
 -- ─── runs of the reordered weights ───────────────────────────────────────────
 
+-- weights have a run
 has-run : (ws : List ℕ) → 1 ≤ length ws → 1 ≤ runCount ws
 unfolding Rattle.runs.specs.Runs.runs
 has-run [] h = absurd (omega arith)
 has-run (w ∷ ws) h = omega arith
 
+-- strings with weights have as many runs inside them as there are strings
 inside-enough : (ss : List Str) → All HasWeight ss → length ss ≤ inside ss
 unfolding sum
 inside-enough [] h = omega arith
@@ -74,12 +75,12 @@ module _ (k : ℕ) (letters ends weights : List ℕ) (passes : Passes k letters 
 
   string-count : length ss ≡ length ends
   unfolding ss
-  string-count = sym (ends-length 0 (strings k letters ends weights)) ∙ ap length (strings-ends weights (j .shape) (j .counted))
+  string-count = strings-count k 0 letters ends weights
 
   end-count : length (endWeights k letters ends weights) ≡ length ends
-  unfolding endWeights ss
-  end-count = length-map (strings k letters ends weights) endsOf ∙ string-count
+  end-count = ends-count k letters ends weights
 
+  -- R is at least m, so that R - m loses nothing
   enough : length ends ≤ innerRuns k letters ends weights
   unfolding innerRuns ss
   enough = subst (λ (n : ℕ). n ≤ inside (strings k letters ends weights)) string-count (inside-enough (strings k letters ends weights) some-weights)

@@ -12,9 +12,9 @@ use Rattle.runs.specs.Joins.{lastWeight}
 use Rattle.runs.specs.Runs.{runCount}
 use Rattle.runs.proofs.Joined.{count-none, count-append}
 use Rattle.trails.specs.Paths.{pathCount}
-use Rattle.trails.specs.Strings.{Ends, front, back}
+use Rattle.trails.specs.Strings.{front, back}
 use Rattle.lists.proofs.Agree.{agree-le}
-use Rattle.trails.proofs.Paths.{paths-next, paths-none}
+use Rattle.trails.proofs.Paths.{paths-next, paths-none, paths-one}
 use Rattle.vertices.specs.EndWeights.{endsOf}
 
 -- the last weight, by its place
@@ -33,15 +33,11 @@ inside ss = sum (map (λ s. runCount (s .weights)) ss)
 abbrev pub HasWeight : Str → Type 0
 HasWeight s = 1 ≤ length (s .weights)
 
-one-path : (e : Ends) → pathCount (e ∷ []) ≡ 1
-unfolding Rattle.trails.specs.Paths.paths Rattle.trails.specs.Paths.pathsFrom
-one-path e = refl
-
 -- runs of the whole and number of strings = runs inside and paths
 pub runs-paths : (ss : List Str) → All HasWeight ss → runCount (weightsIn ss) + length ss ≡ inside ss + pathCount (map endsOf ss)
 unfolding weightsIn sum
 runs-paths [] h = omega (arith, count-none, paths-none)
-runs-paths (s ∷ []) h = omega (arith, ap runCount (append-nil (s .weights)), one-path (endsOf s))
+runs-paths (s ∷ []) h = omega (arith, ap runCount (append-nil (s .weights)), paths-one (endsOf s))
 runs-paths (s ∷ (t ∷ ss)) h = go (s .weights) refl (t .weights) refl (h .0) (h .1 .0) (runs-paths (t ∷ ss) (h .1))
   where
     go : (ws : List ℕ) → s .weights ≡ ws → (vs : List ℕ) → t .weights ≡ vs → 1 ≤ length (s .weights) → 1 ≤ length (t .weights)

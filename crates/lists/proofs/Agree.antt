@@ -10,10 +10,12 @@ use borrow.Author.Tests.{eq-eqb, ne-eqb}
 use Rattle.lists.specs.Choose.{choose}
 use Rattle.lists.specs.Count.{agree}
 
+-- equal numbers agree
 pub agree-same : (a b : ℕ) → a ≡ b → agree a b ≡ 1
 unfolding agree
 agree-same a b e = rw (eq-eqb a b e)
 
+-- different ones do not
 pub agree-other : (a b : ℕ) → (a ≡ b → ⊥) → agree a b ≡ 0
 unfolding agree
 agree-other a b h = rw (ne-eqb a b h)
@@ -22,6 +24,7 @@ agree-other a b h = rw (ne-eqb a b h)
 abbrev pub Agreeing : ℕ → ℕ → Type 0
 Agreeing a b = ((a ≡ b) × (agree a b ≡ 1)) ⊎ ((a ≡ b → ⊥) × (agree a b ≡ 0))
 
+-- two numbers agree, or they do not
 pub agree-cases : (a b : ℕ) → Agreeing a b
 agree-cases a b = go (ℕ-discrete a b)
   where
@@ -29,6 +32,7 @@ agree-cases a b = go (ℕ-discrete a b)
     go (yes e) = inl (e, agree-same a b e)
     go (no h) = inr (h, agree-other a b h)
 
+-- agreeing counts at most 1
 pub agree-le : (a b : ℕ) → agree a b ≤ 1
 unfolding agree
 agree-le a b = go (eqb a b)

@@ -1,7 +1,7 @@
 -- What the table holds after the sort, from what its steps leave: codes, then the numbers of the k-mers, then the sort by code. Each step leaves what the
 -- others wrote. Assumes nothing.
 use mathlib.Core.Path.{_≡_, sym, ap, ap₂, subst, _∙_}
-use mathlib.Core.Logic.{_⊎_, inl, inr, ⊎-elim}
+use mathlib.Core.Logic.{inl, inr, ⊎-elim}
 use mathlib.Core.List.{List, [], _∷_}
 use Prim.Native.Nat.{ℕ, _+_, _*_, _^_, _<_, _≤_}
 use native.Mathlib.Nat.{zero-add}
@@ -61,12 +61,14 @@ module _ (k : ℕ) (letters positions : List ℕ) (n : ℕ) (w u t v : List ℕ)
     key = codeAt (part 0 n t) (part n n t)
 
     module _ (s : Sorted key (n + n) (n + n + n) n t v) where
+      -- the sort's key of a k-mer is the code that the table holds
       key-held : (x : ℕ) → x < n → key x ≡ heldAt n v x
       key-held x l =
           ap₂ (λ (a b : ℕ). a * 2 ^ 32 + b)
           (part-at 0 n t x 0 l ∙ (ap (λ (j : ℕ). getD t j 0) (zero-add x) ∙ sym (s .rest .rest x 0 (inl (omega arith), (inl (omega arith), tt)))))
           (part-at n n t x 0 l ∙ sym (s .rest .rest (n + x) 0 (inl (omega arith), (inl (omega arith), tt))))
 
+      -- which is its canonical code
       codes : (x : ℕ) → x < n → heldAt n v x ≡ canonical (wordAt k letters (getD positions x 0))
       codes x l =
           let z : 0 + x ≡ x = zero-add x in
@@ -81,20 +83,22 @@ module _ (k : ℕ) (letters positions : List ℕ) (n : ℕ) (w u t v : List ℕ)
       inside : (i : ℕ) → i < n → idAt n v i < n
       inside i l =
           subst (λ (x : ℕ). x < n) (part-at (n + n) n v i 0 l)
-          (all-at (λ x. x < n) (part (n + n) n v) (sorted-all key (n + n) (n + n + n) n t v s (λ x. x < n) (numbers-inside n ids)) i 0
-          (omega (arith, sorted-length key (n + n) (n + n + n) n t v s fits)))
+          (all-at (λ x. x < n) (part (n + n) n v) (sorted-all key s (λ x. x < n) (numbers-inside n ids)) i 0
+          (omega (arith, sorted-length key s fits)))
 
       rises : Pairs (λ x y. x < y) (part (n + n) n t)
       rises = subst (Pairs (λ x y. x < y)) (sym ids) (count-rises 0 n)
 
+      -- every k-mer has a place in the order
       place : (x : ℕ) → x < n → (i : ℕ) × (i < n) × (idAt n v i ≡ x)
       place x l =
-          let p = sorted-place key (n + n) (n + n + n) n t v s fits x l in
+          let p = sorted-place key s fits x l in
           (p .0, p .1, p .2 ∙ (sym (part-at (n + n) n t x 0 l) ∙ (ap (λ (xs : List ℕ). getD xs x 0) ids ∙ (count-at 0 n x l ∙ zero-add x))))
 
       behind : (i : ℕ) → Off ((0, 4 * n) ∷ []) i → 4 * n ≤ i
       behind i o = ⊎-elim (λ (h : i < 0). absurd (let z : ⊥ = omega arith in z)) (λ (h : 0 + 4 * n ≤ i). omega arith) (o .0)
 
+      -- so the k-mers stand in the order of their codes
       pub arranged : Ordered k letters positions n w v
       arranged =
           record {
@@ -104,11 +108,11 @@ module _ (k : ℕ) (letters positions : List ℕ) (n : ℕ) (w u t v : List ℕ)
                 λ i j h l.
                 let a = key-held (idAt n v i) (inside i (omega arith)) in
                 let b = key-held (idAt n v j) (inside j l) in
-                let d = sorted-at key (n + n) (n + n + n) n t v s fits i j h l in
+                let d = sorted-at key s fits i j h l in
                 subst (λ (x : ℕ). x ≤ heldAt n v (idAt n v j)) a (subst (λ (y : ℕ). key (idAt n v i) ≤ y) b d);
             rise =
                 λ i j h l e.
-                sorted-rise key (n + n) (n + n + n) n t v s fits rises i j h l (key-held (idAt n v i) (inside i (omega arith)) ∙ (e ∙ sym (key-held (idAt n v j) (inside j l))));
+                sorted-rise key s fits rises i j h l (key-held (idAt n v i) (inside i (omega arith)) ∙ (e ∙ sym (key-held (idAt n v j) (inside j l))));
             place = place;
             rest =
                 among-trans _ w u v (among-wider _ _ w u (c .rest) (λ i o. let b = behind i o in (inr (omega arith), (inr (omega arith), tt))))

@@ -47,6 +47,7 @@ module _ (k : ℕ) (letters ends weights : List ℕ) where
     pub each : length weights ≡ length (kmers k ends)
     pub ready : Ready k letters ends
 
+  -- a good verdict tells all of this
   pub check-started : (room : ℕ) → checkVerdict k letters ends weights room ≡ Good → Started room
   unfolding checkVerdict
   check-started room e =
@@ -67,6 +68,7 @@ module _ (k : ℕ) (letters ends weights : List ℕ) where
   -- ─── success ───────────────────────────────────────────────────────────────
 
   module _ (work : List ℕ) where
+    -- an answer of success says that the collection is accepted
     pub check-distinct : (m : ℕ) → checkOf k letters ends weights work .answer ≡ Checked m → Accepted k letters ends weights (length work) × (m ≡ n)
     unfolding checkOf
     check-distinct m e =
@@ -75,6 +77,7 @@ module _ (k : ℕ) (letters ends weights : List ℕ) where
         let s = check-started (length work) (a .0) in
         (record { passes = s .passes; enough = s .enough; distinct = none-distinct k letters ends (s .ready) (b .0) }, b .1)
 
+    -- and an accepted collection is answered with success
     pub distinct-check : Accepted k letters ends weights (length work) → checkOf k letters ends weights work .answer ≡ Checked n
     unfolding checkOf
     distinct-check s =

@@ -14,9 +14,11 @@ use Rattle.repeats.specs.Order.{Least}
 module _ (key order : ℕ → ℕ) (n : ℕ) where
   -- ─── as a loop goes over the places ────────────────────────────────────────
 
+  -- the first place has no neighbour before it
   pub least-begin : Least key order n 1 n
   least-begin = record { lowest = λ j l. absurd (omega arith); found = inl refl }
 
+  -- behind the last place it is the least of all
   pub least-end : (i r : ℕ) → n ≤ i → Least key order n i r → Least key order n n r
   least-end i r l s = record { lowest = λ j h. s .lowest j (omega arith); found = s .found }
 
@@ -25,6 +27,7 @@ module _ (key order : ℕ → ℕ) (n : ℕ) where
     abbrev pub better : Bool
     better = ltb (order i) r && eqb (key (order (i - 1))) (key (order i))
 
+    -- where the test holds, that one is the least so far
     pub least-take : better ≡ true → Least key order n (i + 1) (order i)
     least-take e =
         let a : order i < r = ltb-true (order i) r (and-left (ltb (order i) r) _ e) in
@@ -34,6 +37,7 @@ module _ (key order : ℕ → ℕ) (n : ℕ) where
           found = inr (i - 1, omega arith, eqb-true _ _ (and-right (ltb (order i) r) _ e) ∙ ap (λ (m : ℕ). key (order m)) (sym q), ap order q);
         }
 
+    -- where it does not, the least stays
     pub least-keep : better ≡ false → Least key order n (i + 1) r
     least-keep e =
         record {

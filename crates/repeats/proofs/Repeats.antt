@@ -2,7 +2,7 @@
 -- earlier one is the first repeat, and there is none exactly if no k-mer equals another's word or reverse complement. Assumes nothing.
 use mathlib.Core.Path.{_≡_, refl, sym, ap, ap₂, _∙_}
 use mathlib.Core.Bool.{Bool, true, false, _||_, true≢false}
-use mathlib.Core.Logic.{_⊎_, inl, inr, ⊎-elim}
+use mathlib.Core.Logic.{inl, inr, ⊎-elim}
 use mathlib.Core.List.{List, [], _∷_}
 use Prim.Native.Nat.{ℕ, zero, suc, _+_, _-_, _<_, _≤_}
 use native.Mathlib.Nat.{not-suc-le-zero}
@@ -96,12 +96,14 @@ module _ (k : ℕ) (letters ends : List ℕ) where
 
   -- ─── the first repeat ──────────────────────────────────────────────────────
 
+  -- the first k-mer that equals an earlier one is the first repeat
   pub first-again : (x : ℕ) → x < n → Again x → ((y : ℕ) → y < x → Again y → ⊥) → firstRepeat k letters ends ≡ suc x
   unfolding firstRepeat
   first-again x l a h =
       first-at (repeated k letters ends) 0 (countFrom 1 n) x (omega (arith, length-count 1 n)) (ap (repeated k letters ends) (count-at 1 n x l) ∙ again-repeated x a)
       (λ y g. ap (repeated k letters ends) (count-at 1 n y (omega arith)) ∙ not-again y (h y g))
 
+  -- where none does, there is no repeat
   pub none-again : ((x : ℕ) → x < n → Again x → ⊥) → firstRepeat k letters ends ≡ 0
   unfolding firstRepeat
   none-again h =
@@ -109,6 +111,7 @@ module _ (k : ℕ) (letters ends : List ℕ) where
       (at-all (λ j. repeated k letters ends j ≡ false) 0 (countFrom 1 n)
       (λ x l. let g : x < n = omega (arith, length-count 1 n) in ap (repeated k letters ends) (count-at 1 n x g) ∙ not-again x (h x g)))
 
+  -- and where there is no repeat, none does
   again-none : firstRepeat k letters ends ≡ 0 → (x : ℕ) → x < n → Again x → ⊥
   unfolding firstRepeat
   again-none e x l a =
@@ -128,6 +131,7 @@ module _ (k : ℕ) (letters ends : List ℕ) where
     again-twin key h x l a =
         (a .0, a .1, h (a .0) (omega (arith, a .1)) ∙ (sym (alike-canonical (word x) (word (a .0)) (spelt (a .0)) (a .2)) ∙ sym (h x l)))
 
+    -- and equal canonical codes are equal words, turned or not
     twin-again : (key : ℕ → ℕ) → ((x : ℕ) → x < n → key x ≡ canonical (word x)) → (x : ℕ) → x < n → Twin key x → Again x
     twin-again key h x l t =
         let g : t .0 < n = omega (arith, t .1) in (
@@ -136,7 +140,7 @@ module _ (k : ℕ) (letters ends : List ℕ) where
           canonical-alike (word x) (word (t .0)) (word-length r _ (fits x l) ∙ sym (word-length r _ (fits (t .0) g))) (spelt x) (spelt (t .0)) (sym (h x l) ∙ (sym (t .2) ∙ h (t .0) g)),
         )
 
-    -- the least that stands behind a neighbour of its own code, in the order of codes, is the first repeat
+    -- The least that stands behind a neighbour of its own code, in the order of codes, is the first repeat.
     module _ (m : ℕ) (all : m ≡ n) (w v : List ℕ) (o : Ordered k letters (kmers k ends) m w v) (least : ℕ) (s : Least (heldAt m v) (idAt m v) m m least) where
       held : (x : ℕ) → x < n → heldAt m v x ≡ canonical (word x)
       held x l = o .held x (omega arith)
@@ -144,12 +148,15 @@ module _ (k : ℕ) (letters ends : List ℕ) where
       lowest : (x : ℕ) → x < n → Again x → least ≤ x
       lowest x l a = twin-least (heldAt m v) (idAt m v) m least (o .order) (o .rise) (o .place) s x (omega arith) (again-twin (heldAt m v) held x l a)
 
+      -- none stands behind such a neighbour
       pub repeat-none : least ≡ m → firstRepeat k letters ends ≡ 0
       repeat-none e = none-again (λ x l a. let z : least ≤ x = lowest x l a in omega arith)
 
+      -- else it is a k-mer
       pub repeat-inside : (least ≡ m → ⊥) → least < m
       repeat-inside h = ⊎-elim (λ (e : least ≡ m). absurd (h e)) (λ f. omega (arith, f .3, o .inside (f .0 + 1) (f .1))) (s .found)
 
+      -- and its handle is the first repeat
       pub repeat-found : (least ≡ m → ⊥) → firstRepeat k letters ends ≡ least + 1
       repeat-found h =
           let l : least < n = omega (arith, repeat-inside h) in
@@ -162,6 +169,7 @@ module _ (k : ℕ) (letters ends : List ℕ) where
     unshifted : (x : ℕ) → wordOf k letters ends (x + 1) ≡ word x
     unshifted x = let q : x + 1 - 1 ≡ x = omega arith in ap word q
 
+    -- no repeat means that no two handles have equal words, turned or not
     pub none-distinct : firstRepeat k letters ends ≡ 0 → Distinct k letters ends
     none-distinct e i j l g a =
         ⊎-elim (λ (h : i < j). absurd (again-none e j g (i, h, alike-swap (word i) (word j) (spelt j) b)))
@@ -171,6 +179,7 @@ module _ (k : ℕ) (letters ends : List ℕ) where
         b : Alike (word i) (word j)
         b = ⊎-elim (λ p. inl (sym (unshifted i) ∙ (p ∙ unshifted j))) (λ p. inr (sym (unshifted i) ∙ (p ∙ ap turn (unshifted j)))) a
 
+    -- and the other way round
     pub distinct-none : Distinct k letters ends → firstRepeat k letters ends ≡ 0
     distinct-none d =
         none-again

@@ -42,7 +42,7 @@ unfoldable pub checkVerdict : ℕ → List ℕ → List ℕ → List ℕ → ℕ
 checkVerdict k letters ends weights room =
     andThen (collectionVerdict k letters ends weights) (roomVerdict room (4 * kmerCount k (length letters) (length ends)))
 
--- what the call answers, and what the work table holds afterwards
+-- what the call answers, and what the work table holds afterwards; and both put together
 pub record Outcome : Type 0 where
   pub answer : CheckAnswer
   pub work : List ℕ

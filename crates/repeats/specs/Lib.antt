@@ -1,3 +1,3 @@
--- What CHECK answers, and how it finds a repeat.
+-- What CHECK answers. `Order` is inner: how it finds a repeat.
 pub mod Check
 pub mod Order

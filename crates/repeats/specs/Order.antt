@@ -1,4 +1,4 @@
--- The order in which CHECK looks at the k-mers. Of the 4n entries of work the first 2n hold their codes, the next n the k-mers in a new order, and the last n are a
+-- Inner: the order in which CHECK looks at the k-mers, which its promise does not cite. Of the 4n entries of work the first 2n hold their codes, the next n the k-mers in a new order, and the last n are a
 -- buffer. K-mers are counted from 0 here.
 use mathlib.Core.Path.{_≡_}
 use mathlib.Core.Logic.{_⊎_}

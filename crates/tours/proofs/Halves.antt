@@ -8,21 +8,25 @@ use borrow.Author.Tests.{lt-ltb, le-ltb, eq-eqb, ne-eqb}
 use lib.ListN.{length, getD, set}
 use Rattle.trails.specs.Counting.{occurs}
 use Rattle.trails.specs.Strings.{weights}
+use Rattle.trails.specs.Walks.{Reordered, keep, turn, exchange, both}
 use Rattle.lists.proofs.Agree.{agree-same, agree-other}
-use Rattle.trails.proofs.Orders.{Reordered, keep, turn, exchange, both, unmoved, occurs-reordered}
+use Rattle.trails.proofs.Orders.{unmoved, occurs-reordered}
 use Rattle.tours.specs.Halves.{near, other, gone, unused, numbered}
 
 -- ─── where a half starts ─────────────────────────────────────────────────────
 
 module _ (m : ℕ) (verts : List ℕ) (c : ℕ) where
+  -- an end of a string starts at its vertex
   pub near-string : c < 2 * m → near m verts c ≡ getD verts c 0
   unfolding near
   near-string h = rw (lt-ltb c (2 * m) h)
 
+  -- an even half of a spoke starts at the hub
   pub near-hub : 2 * m ≤ c → c % 2 ≡ 0 → near m verts c ≡ 2 * m
   unfolding near
   near-hub h e = rw (le-ltb c (2 * m) h, eq-eqb (c % 2) 0 e)
 
+  -- an odd one at the spoke's vertex
   pub near-spoke : 2 * m ≤ c → (c % 2 ≡ 0 → ⊥) → near m verts c ≡ c / 2 - m
   unfolding near
   near-spoke h e = rw (le-ltb c (2 * m) h, ne-eqb (c % 2) 0 e)
@@ -45,6 +49,7 @@ module _ (f : ℕ → ℕ) where
   use-at : (flags : List ℕ) (i a b : ℕ) → i < length flags → getD flags i 0 ≡ 0 → 2 * (0 + i) ≡ a → 2 * (0 + i) + 1 ≡ b → Reordered (unused f 0 flags) ((f a, f b) ∷ unused f 0 (set flags i 1))
   use-at flags i a b l z p q = rw (q, p) at (use-one 0 flags i l z)
 
+  -- the half c is used, and the others stay
   pub use-half : (flags : List ℕ) (c : ℕ) → c / 2 < length flags → getD flags (c / 2) 0 ≡ 0 → Reordered (unused f 0 flags) (gone f c ∷ unused f 0 (set flags (c / 2) 1))
   use-half flags c l z = go (ℕ-discrete (c % 2) 0)
     where
@@ -52,6 +57,7 @@ module _ (f : ℕ → ℕ) where
       go (yes p) = use-at flags (c / 2) c (other c) l z (omega arith) (omega arith)
       go (no p) = both (use-at flags (c / 2) (other c) c l z (omega arith) (omega arith)) (turn (unmoved (unused f 0 (set flags (c / 2) 1))))
 
+  -- there are n of them
   pub length-numbered : (e n : ℕ) → length (numbered f e n) ≡ n
   unfolding numbered
   length-numbered e zero = refl

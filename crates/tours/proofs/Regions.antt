@@ -11,6 +11,8 @@ use Rattle.tours.specs.States.{moved, taken, returned}
 
 -- ─── reads ───────────────────────────────────────────────────────────────────
 
+-- an entry of the table is one of its region
+
 pub vert-at : (m : ℕ) (w : List ℕ) (c : ℕ) → c < 2 * m → getD w c 0 ≡ getD (tables m w .verts) c 0
 vert-at m w c h = let e : 0 + c ≡ c = omega arith in sym (rw e at (part-at 0 (2 * m) w c 0 h))
 
@@ -38,12 +40,14 @@ module _ {m : ℕ} {w : List ℕ} (f : Fits m w) where
   pub stack-size : length (tables m w .stack) ≡ 3 * m
   stack-size = part-length (12 * m) (3 * m) w (omega (arith, f .size))
 
+  -- the regions stay while the size does
   pub fits-same : {v : List ℕ} → length v ≡ length w → Fits m v
   fits-same e = record { some = f .some; few = f .few; size = e ∙ f .size }
 
 -- ─── stores ──────────────────────────────────────────────────────────────────
 
 module _ (m : ℕ) (w : List ℕ) where
+  -- a store among the cursors
   pub tables-cursor : (v x : ℕ) → v < 3 * m → tables m (set w (9 * m + v) x) ≡ moved (tables m w) v x
   tables-cursor v x h = λ j. record {
     verts = part-set-other 0 (2 * m) (9 * m) (3 * m) w v x (inl (omega arith)) h j;
@@ -73,9 +77,11 @@ module _ (m : ℕ) (w : List ℕ) where
     stack = part-set (12 * m) (3 * m) w n x h j;
   }
 
+  -- a half copied within the stack
   pub tables-returned : (n z : ℕ) → n < 3 * m → z < 3 * m → tables m (set w (12 * m + z) (getD w (12 * m + n) 0)) ≡ returned (tables m w) n z
   tables-returned n z h g = rw (stack-at m w n h) (tables-stack z (getD (tables m w .stack) n 0) g)
 
+-- a flag set and a half put on the stack
 pub tables-taken : (m : ℕ) (w : List ℕ) (n c : ℕ) → n < 3 * m → c / 2 < 3 * m → tables m (set (set w (2 * m + c / 2) 1) (12 * m + n) c) ≡ taken (tables m w) n c
 tables-taken m w n c h g =
     tables-stack m (set w (2 * m + c / 2) 1) n c h

@@ -1,4 +1,4 @@
--- Laws of the search along a row: where it stops without an unused half, none is left; and cursors stay right.
+-- Laws of rows and cursors: every half starts at a vertex; where a search along a row stops without an unused half, none is left; and cursors stay right.
 use mathlib.Core.Path.{_≡_, refl, sym, _∙_}
 use mathlib.Core.Logic.{inl, inr}
 use mathlib.Core.List.{List}
@@ -10,9 +10,20 @@ use lib.Seq.{getD-set-same, getD-set-other}
 use Rattle.tours.specs.Layout.{Tables}
 use Rattle.tours.specs.Halves.{near}
 use Rattle.tours.specs.Rows.{InRow, Graph, Passed, Cursor, Cursors, Sought, Answer}
-use Rattle.tours.specs.States.{moved}
-use Rattle.tours.proofs.Halves.{near-spoke, none-unused}
+use Rattle.tours.specs.States.{moved, taken}
+use Rattle.tours.proofs.Entries.{still-used}
+use Rattle.tours.proofs.Halves.{near-string, near-hub, near-spoke, none-unused}
 
+-- every half starts at a vertex or at the hub
+pub near-low : {m : ℕ} {verts rows : List ℕ} → Graph m verts rows → (c : ℕ) → c < 6 * m → near m verts c ≤ 2 * m
+near-low {m} {verts} g c l = go (decLt c (2 * m)) (ℕ-discrete (c % 2) 0)
+  where
+    go : Dec (c < 2 * m) → Dec (c % 2 ≡ 0) → near m verts c ≤ 2 * m
+    go (yes p) d = rw (near-string m verts c p) (omega (arith, g .verts-low c p))
+    go (no p) (yes d) = rw (near-hub m verts c (omega arith) d) (omega arith)
+    go (no p) (no d) = rw (near-spoke m verts c (omega arith) d) (omega arith)
+
+-- a search goes on past a half that is used
 pub passed-more : {rows used : List ℕ} {p e : ℕ} → Passed rows used p e → (getD used (getD rows e 0 / 2) 0 ≡ 0 → ⊥) → Passed rows used p (e + 1)
 passed-more {rows} {used} {p} {e} h n = record { all-used = λ q k l z. go q k l z (ℕ-discrete q e) }
   where
@@ -69,3 +80,8 @@ pub own-spoke : (m : ℕ) (t : Tables) (v : ℕ) → v < 2 * m → getD (t .used
 own-spoke m t v l z =
     let a : (2 * (m + v) + 1) / 2 ≡ m + v = omega arith in
     inr (omega arith, rw a z, near-spoke m (t .verts) (2 * (m + v) + 1) (omega arith) (λ e. omega arith) ∙ omega arith)
+
+-- cursors stay right when a half is taken
+pub cursors-used : (m : ℕ) (t : Tables) (n c : ℕ) → c / 2 < length (t .used) → Cursors m t → Cursors m (taken t n c)
+cursors-used m t n c l k v b =
+    record { low = k v b .low; high = k v b .high; passed = record { all-used = λ q h e z. k v b .passed .all-used q h e (still-used (t .used) (c / 2) (getD (t .rows) q 0 / 2) l z) } }

@@ -7,8 +7,9 @@ use native.Mathlib.Decide.{ℕ-discrete, decLt}
 use lib.ListN.{length, getD, drop, drop-of-length-le}
 use Rattle.trails.specs.Counting.{occurs}
 use Rattle.trails.specs.Strings.{Ends, weights}
+use Rattle.trails.specs.Hub.{Toured}
 use Rattle.lists.proofs.Agree.{agree-other}
-use Rattle.trails.proofs.Upper.{Toured, first-walk, later-walk}
+use Rattle.trails.proofs.Upper.{first-walk, later-walk}
 use Rattle.trails.proofs.Walk.{closed-before}
 use Rattle.tours.specs.Layout.{Tables}
 use Rattle.tours.specs.Halves.{near, gone, unused, numbered}
@@ -28,6 +29,7 @@ hub-off f h e (suc n) k =
       hub-off f h (suc e) n (λ c l. k c (omega arith)),
     )
 
+-- the hub is a weight that no string has
 pub hub-fresh : (m : ℕ) (t : Tables) → Graph m (t .verts) (t .rows) → occurs (2 * m) (weights (strings m t)) ≡ 0
 hub-fresh m t g =
     hub-off (near m (t .verts)) (2 * m) 0 m (λ c l q. omega (arith, g .verts-low c (omega arith), near-string m (t .verts) c (omega arith)))
@@ -47,6 +49,7 @@ gave-along {m} {t} {u} {s} {z} {r} w =
 
 -- ─── the first walk ──────────────────────────────────────────────────────────
 
+-- the walk from the hub makes a tour with no later walks
 pub touring-first : {m : ℕ} {t u : Tables} {r : ℕ} → Begun m t → Walked m t u (2 * m) (3 * m) r → Touring m u r 0
 touring-first {m} {t} {u} {r} b w = record {
   ready = w .ready;
@@ -74,6 +77,7 @@ module _ {m : ℕ} {t : Tables} {z walks : ℕ} (k : Touring m t z walks) (i : �
 
   -- to one that is not: a later walk
   module _ (h : getD (t .used) i 0 ≡ 0) where
+    -- the walk starts at a vertex
     pub at-vertex : near m (t .verts) (2 * i) ≤ 2 * m
     at-vertex = rw (near-string m (t .verts) (2 * i) (omega arith)) (omega (arith, k .ready .between .graph .verts-low (2 * i) (omega arith)))
 
@@ -107,6 +111,7 @@ module _ {m : ℕ} {t : Tables} {z walks : ℕ} (k : Touring m t z walks) (i : �
         is-used = now-used;
       }
 
+    -- and makes one walk more
     pub visited-from : {u : Tables} {s r : ℕ} → s ≡ near m (t .verts) (2 * i) → Walked m t u s z r → Visited m t u i r (walks + 1)
     visited-from {u} {s} {r} q w = visited-walk (subst (λ (x : ℕ). Walked m t u x z r) q w)
 
@@ -118,6 +123,7 @@ visits-more {u = u} {i = i} v h e l q = go (ℕ-discrete e i)
     go (yes p) = v .is-used (rw p at q)
     go (no p) = h e (omega arith) (v .grown e q)
 
+-- over two steps they are the same
 pub same-trans : {t u v : Tables} → Same t u → Same u v → Same t v
 same-trans p q = record { verts = q .verts ∙ p .verts; rows = q .rows ∙ p .rows }
 

@@ -24,6 +24,7 @@ pub record Tables : Type 0 where
   -- halves that walks took: the walk that goes on from the left, what walks gave back from the right
   pub stack : List ℕ
 
+-- the regions of a table
 abbrev pub tables : ℕ → List ℕ → Tables
 tables m w = record {
   verts = part 0 (2 * m) w;

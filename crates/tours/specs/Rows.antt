@@ -27,12 +27,13 @@ pub record Graph (m : ℕ) (verts rows : List ℕ) : Type 0 where
 pub record Passed (rows used : List ℕ) (p e : ℕ) : Type 0 where
   pub all-used : (q : ℕ) → p ≤ q → q < e → getD used (getD rows q 0 / 2) 0 ≡ 0 → ⊥
 
--- a cursor for each vertex and the hub: what it has passed in its row is used
+-- the cursor of a vertex or of the hub: what it has passed in its row is used
 pub record Cursor (m : ℕ) (rows used : List ℕ) (v at : ℕ) : Type 0 where
   pub low : v ≤ at
   pub high : at ≤ 4 * m
   pub passed : Passed rows used v at
 
+-- all cursors are so
 abbrev pub Cursors : ℕ → Tables → Type 0
 Cursors m t = (v : ℕ) → v ≤ 2 * m → Cursor m (t .rows) (t .used) v (getD (t .cursors) v 0)
 

@@ -5,10 +5,8 @@ use Prim.Native.Nat.{ℕ, _+_, _*_, _/_, _≤_, _<_}
 use lib.ListN.{length, getD, set, drop}
 use Rattle.trails.specs.Counting.{occurs}
 use Rattle.trails.specs.Strings.{Ends}
-use Rattle.trails.proofs.Orders.{Reordered}
-use Rattle.trails.proofs.Hub.{spoked}
-use Rattle.trails.proofs.Upper.{Toured}
-use Rattle.trails.proofs.Walk.{AllEven, Closed}
+use Rattle.trails.specs.Walks.{Reordered, AllEven, Closed}
+use Rattle.trails.specs.Hub.{spoked, Toured}
 use Rattle.tours.specs.Layout.{Tables}
 use Rattle.tours.specs.Halves.{near, gone, unused, numbered}
 use Rattle.tours.specs.Rows.{Graph, Cursors, Answer}

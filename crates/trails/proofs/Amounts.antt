@@ -1,6 +1,6 @@
--- How many paths and spokes there can be; and strings that change sides.
-use mathlib.Core.Path.{_≡_, refl, sym, subst}
-use mathlib.Core.List.{List, [], _∷_, _++_, append-nil}
+-- How many paths and spokes there can be.
+use mathlib.Core.Path.{_≡_, refl}
+use mathlib.Core.List.{List, [], _∷_}
 use Prim.Native.Nat.{ℕ, zero, suc, _+_, _≤_}
 use native.Mathlib.Omega.{arith}
 use native.Mathlib.Decide.{ℕ-discrete}
@@ -8,21 +8,15 @@ use lib.ListN.{length, length-append}
 use Rattle.trails.specs.Counting.{oddly, sumBelow}
 use Rattle.trails.specs.Groups.{countOdd, oddWeights}
 use Rattle.trails.specs.Paths.{pathCount}
-use Rattle.trails.specs.Strings.{Ends, front, back, weights}
+use Rattle.trails.specs.Strings.{Ends, weights}
+use Rattle.trails.specs.Hub.{spokes, spoked, limit}
 use Rattle.trails.proofs.Counting.{oddly-le}
-use Rattle.trails.proofs.Hub.{spokes, spoked, limit}
-use Rattle.trails.proofs.Orders.{Reordered, keep, both, unmoved, move-in}
-use Rattle.trails.proofs.Paths.{paths-none, paths-append, chain-one-path}
-
--- strings behind others may come before them
-pub swapped : (A B : List Ends) → Reordered (A ++ B) (B ++ A)
-swapped [] B = subst (Reordered B) (sym (append-nil B)) (unmoved B)
-swapped (s ∷ A) B = both (keep (swapped A B)) (move-in s B A)
+use Rattle.trails.proofs.Paths.{paths-none, paths-one, paths-append}
 
 -- there are not more paths than strings
 pub paths-few : (L : List Ends) → pathCount L ≤ length L
 paths-few [] = omega (arith, paths-none)
-paths-few (s ∷ L) = omega (arith, paths-append (s ∷ []) L, chain-one-path (front s) (s ∷ []) (back s) (refl, refl), paths-few L)
+paths-few (s ∷ L) = omega (arith, paths-append (s ∷ []) L, paths-one s, paths-few L)
 
 -- there are O spokes
 length-spokes : (h : ℕ) (ws : List ℕ) (n : ℕ) → length (spokes h ws n) ≡ sumBelow n (oddly ws)
@@ -34,6 +28,7 @@ length-spokes h ws (suc n) = go (ℕ-discrete (oddly ws n) 0) (length-spokes h w
     go (yes e) ih = rw e (omega (arith, ih))
     go (no q) ih = let e : oddly ws n ≡ 1 = omega (arith, oddly-le ws n) in rw e (omega (arith, ih))
 
+-- with them there are O strings more
 pub length-spoked : (h : ℕ) (L : List Ends) → length (spoked h L) ≡ oddWeights L + length L
 unfolding oddWeights countOdd
 length-spoked h L = omega (arith, length-append (spokes h (weights L) (limit L)) L, length-spokes h (weights L) (limit L))

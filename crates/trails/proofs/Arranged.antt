@@ -18,10 +18,12 @@ use Rattle.lists.specs.Count.{agree}
 use Rattle.trails.specs.Counting.{occurs}
 use Rattle.trails.specs.Places.{isTurned, signed, SignedPermutation, turnedBy, standing, arrangedTo, arranged}
 use Rattle.lists.proofs.Agree.{agree-same, agree-other, agree-le}
-use Rattle.trails.proofs.Counting.{occurs-at, occurs-where, once-if-used, range-if-used, once-if-apart}
+use Rattle.trails.proofs.Counting.{occurs-at, occurs-where}
+use Rattle.trails.proofs.Once.{once-if-used, range-if-used, once-if-apart}
 
 -- ─── a place from its number and its sign ────────────────────────────────────
 
+-- the sign aside, it is the number
 pub size-signed : (n : ℕ) (t : Bool) → natAbs (signed n t) ≡ n
 size-signed zero true = refl
 size-signed (suc n) true = refl
@@ -60,15 +62,18 @@ module _ (m : ℕ) (places : List ℤ) (number : length places ≡ m) where
 -- ─── the strings at one place ────────────────────────────────────────────────
 
 module _ {A : Type 0} (turn : A → A) (k : ℕ) (p : ℤ) (places : List ℤ) (x : A) (xs : List A) where
+  -- a string whose place is k stands there
   pub standing-here : k ≡ natAbs p → standing turn k (p ∷ places) (x ∷ xs) ≡ turnedBy turn p x ∷ standing turn k places xs
   unfolding standing
   standing-here e = rw (eq-eqb k (natAbs p) e)
 
+  -- another does not
   pub standing-other : (k ≡ natAbs p → ⊥) → standing turn k (p ∷ places) (x ∷ xs) ≡ standing turn k places xs
   unfolding standing
   standing-other h = rw (ne-eqb k (natAbs p) h)
 
 module _ {A : Type 0} (turn : A → A) (k : ℕ) where
+  -- where no string has the place, none stands there
   standing-none : (places : List ℤ) (xs : List A) → occurs k (map natAbs places) ≡ 0 → standing turn k places xs ≡ []
   unfolding standing occurs
   standing-none [] xs h = refl
@@ -77,6 +82,7 @@ module _ {A : Type 0} (turn : A → A) (k : ℕ) where
       let off : k ≡ natAbs p → ⊥ = λ e. omega (arith, agree-same k (natAbs p) e) in
       standing-other turn k p places x xs off ∙ standing-none places xs (omega arith)
 
+  -- as many stand there as have the place
   pub length-standing : (places : List ℤ) (xs : List A) → length xs ≡ length places → length (standing turn k places xs) ≡ occurs k (map natAbs places)
   unfolding occurs standing
   length-standing [] xs l = refl
@@ -158,6 +164,7 @@ module _ {A : Type 0} (turn : A → A) (d : A) (m : ℕ) (places : List ℤ) (xs
         ap₂ (λ (L M : List A). L ++ M) (arranged-to-is n (omega arith)) (one-standing (u .0) n (u .1) (u .2) k ∙ ap (λ (x : A). x ∷ []) (sym (u .3)))
         ∙ sym (take-suc order n d (omega arith))
 
+    -- the new order is that order
     pub arranged-by-place : arranged turn places xs ≡ order
     arranged-by-place = arranged-to-is (length places) (omega (arith, s .number)) ∙ take-all (length places) order (omega (arith, s .number))
 
@@ -185,6 +192,7 @@ marked turn d xs k = choose (k .1) (turn (getD xs (k .0) d)) (getD xs (k .0) d)
 module _ {A : Type 0} (turn : A → A) (d : A) (m : ℕ) (places : List ℤ) (xs : List A) (marks : List (ℕ × Bool))
     (number : length places ≡ m) (l : length xs ≡ m) (o : length marks ≡ m)
     (placed : (n : ℕ) → n < m → (getD marks n (0, false) .0 < m) × (getD places (getD marks n (0, false) .0) (pos 0) ≡ signed (suc n) (getD marks n (0, false) .1))) where
+  -- the places are a signed permutation
   pub marked-permutation : SignedPermutation m places
   marked-permutation = permutation-if-used m places number used
     where
@@ -195,6 +203,7 @@ module _ {A : Type 0} (turn : A → A) (d : A) (m : ℕ) (places : List ℤ) (xs
           occurs-at (suc n) (map natAbs places) (getD marks n (0, false) .0) (omega (arith, u .0, length-map places natAbs))
           (map-at natAbs (pos 0) places (getD marks n (0, false) .0) ∙ ap natAbs (u .1) ∙ size-signed (suc n) (getD marks n (0, false) .1))
 
+  -- and they make the order that the marks name
   pub marked-arranged : arranged turn places xs ≡ map (marked turn d xs) marks
   marked-arranged = arranged-by-place turn d m places xs marked-permutation l (map (marked turn d xs) marks) (length-map marks (marked turn d xs) ∙ o) has
     where
@@ -233,5 +242,6 @@ module _ {A B : Type 0} (turnA : A → A) (turnB : B → B) (f : A → B) (h : (
       map-append f (arrangedTo turnA n places xs) (standing turnA (suc n) places xs)
       ∙ ap₂ (λ (L M : List B). L ++ M) (map-arranged-to n places xs) (map-standing (suc n) places xs)
 
+  -- so it may be done before or after the strings are arranged
   pub map-arranged : (places : List ℤ) (xs : List A) → map f (arranged turnA places xs) ≡ arranged turnB places (map f xs)
   map-arranged places xs = map-arranged-to (length places) places xs

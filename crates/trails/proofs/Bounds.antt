@@ -1,6 +1,6 @@
 -- E + O / 2 is the least number of paths that an order and turning of the strings can have.
 use mathlib.Core.Path.{_≡_, refl, ap, _∙_}
-use mathlib.Core.List.{List, [], _∷_}
+use mathlib.Core.List.{List, []}
 use Prim.Native.Nat.{ℕ, _*_, _/_, _≤_}
 use native.Mathlib.Omega.{arith}
 use lib.IntN.{ℤ}
@@ -10,8 +10,6 @@ use Rattle.trails.specs.Paths.{pathCount}
 use Rattle.trails.specs.Places.{SignedPermutation, arranged}
 use Rattle.trails.specs.Groups.{evenGroups, oddWeights, least}
 use Rattle.trails.specs.Bounds.{LeastPaths}
-use Rattle.trails.proofs.Orders.{Reordered, length-reordered}
-use Rattle.trails.proofs.Paths.{paths-breaks}
 use Rattle.trails.proofs.Places.{places-reordered, reordered-places}
 use Rattle.trails.proofs.Lower.{lower, no-even-groups, no-odd}
 use Rattle.trails.proofs.Hub.{odd-weights-even}
@@ -30,6 +28,7 @@ one-reaches strings =
     let p = reordered-places strings (b .0) (b .1) in
     (p .0, p .1, ap pathCount (p .2) ∙ b .2)
 
+-- so E + O / 2 is the least number of paths
 pub least-paths : (strings : List Ends) → LeastPaths strings (least strings)
 least-paths strings = record { none-fewer = none-fewer strings; reached = one-reaches strings }
 

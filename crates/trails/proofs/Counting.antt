@@ -1,13 +1,13 @@
 -- Laws of counts and of sums below a bound. Assumes nothing.
-use mathlib.Core.Path.{_≡_, refl, ap, sym, _∙_}
+use mathlib.Core.Path.{_≡_, refl, ap, sym}
 use mathlib.Core.Logic.{inl, inr}
 use mathlib.Core.List.{List, [], _∷_, _++_, map}
-use Prim.Native.Nat.{ℕ, zero, suc, _+_, _-_, _≤_, _<_}
+use Prim.Native.Nat.{ℕ, zero, suc, _+_, _≤_, _<_}
 use native.Mathlib.Omega.{arith}
 use native.Mathlib.Decide.{ℕ-discrete, decLt}
-use lib.ListN.{length, length-append, getD}
+use lib.ListN.{length, getD}
 use Rattle.lists.specs.Every.{All}
-use Rattle.lists.proofs.Agree.{Agreeing, agree-same, agree-other, agree-cases, agree-le}
+use Rattle.lists.proofs.Agree.{Agreeing, agree-same, agree-other, agree-cases}
 use Rattle.lists.proofs.Every.{all-map}
 use Rattle.lists.specs.Count.{agree}
 use Rattle.trails.specs.Counting.{occurs, oddly, sumBelow, above}
@@ -15,6 +15,7 @@ use Rattle.trails.specs.Counting.{occurs, oddly, sumBelow, above}
 -- ─── sums below a bound ──────────────────────────────────────────────────────
 
 module _ (f : ℕ → ℕ) where
+  -- a sum of zeros
   pub sum-zero : (n : ℕ) → ((w : ℕ) → w < n → f w ≡ 0) → sumBelow n f ≡ 0
   unfolding sumBelow
   sum-zero zero h = refl
@@ -31,6 +32,7 @@ module _ (f : ℕ → ℕ) where
       go (no q) ih = omega (arith, ih (omega arith))
 
 module _ (f g : ℕ → ℕ) where
+  -- where no part is above, the sum is not
   pub sum-mono : (n : ℕ) → ((w : ℕ) → w < n → f w ≤ g w) → sumBelow n f ≤ sumBelow n g
   unfolding sumBelow
   sum-mono zero h = omega arith
@@ -56,12 +58,14 @@ module _ (f g : ℕ → ℕ) where
 
 -- ─── occurrences ─────────────────────────────────────────────────────────────
 
+-- a number that stands at a place occurs
 pub occurs-at : (w : ℕ) (xs : List ℕ) (i : ℕ) → i < length xs → getD xs i 0 ≡ w → 1 ≤ occurs w xs
 unfolding occurs
 occurs-at w [] i l e = omega arith
 occurs-at w (x ∷ xs) zero l e = omega (arith, agree-same w x (sym e))
 occurs-at w (x ∷ xs) (suc i) l e = omega (arith, occurs-at w xs i (omega arith) e)
 
+-- and one that occurs stands at a place
 pub occurs-where : (w : ℕ) (xs : List ℕ) → 1 ≤ occurs w xs → (i : ℕ) × (i < length xs) × (getD xs i 0 ≡ w)
 unfolding occurs
 occurs-where w [] h = absurd (omega arith)
@@ -81,6 +85,7 @@ occurs-split w (x ∷ xs) h = go (agree-cases w x) (occurs-split w xs)
     go (inl a) ih = ([], xs, ap (λ (v : ℕ). v ∷ xs) (sym (a .0)))
     go (inr a) ih = let u = ih (omega (arith, a .1)) in (x ∷ u .0, u .1, ap (λ (ys : List ℕ). x ∷ ys) (u .2))
 
+-- one number more in the middle
 pub occurs-between : (v w : ℕ) (A B : List ℕ) → occurs v (A ++ (w ∷ B)) ≡ agree v w + occurs v (A ++ B)
 unfolding occurs
 occurs-between v w [] B = refl
@@ -119,6 +124,7 @@ occurs-map-not c l (x ∷ xs) h =
 
 -- ─── odd or even ─────────────────────────────────────────────────────────────
 
+-- odd counts 1, even 0
 pub oddly-le : (ws : List ℕ) (w : ℕ) → oddly ws w ≤ 1
 unfolding oddly
 oddly-le ws w = omega arith
@@ -134,105 +140,18 @@ oddly-other ws x w h = omega (arith, agree-other w x h)
 
 -- ─── a bound ─────────────────────────────────────────────────────────────────
 
+-- all are below n
 abbrev pub AllBelow : ℕ → List ℕ → Type 0
 AllBelow n ws = All (λ w. w < n) ws
 
+-- the bound is above all
 pub above-all : (ws : List ℕ) → AllBelow (above ws) ws
 unfolding above
 above-all [] = tt
 above-all (w ∷ ws) = (omega arith, all-map (λ x l. omega arith) ws (above-all ws))
 
+-- a number above the bound does not occur
 pub occurs-beyond : (n v : ℕ) (ws : List ℕ) → AllBelow n ws → n ≤ v → occurs v ws ≡ 0
 unfolding occurs
 occurs-beyond n v [] h l = refl
 occurs-beyond n v (x ∷ ws) h l = omega (arith, agree-other v x (λ e. omega (arith, h .0)), occurs-beyond n v ws (h .1) l)
-
--- ─── m numbers for 1 to m ────────────────────────────────────────────────────
-
-sum-ones : (m : ℕ) → sumBelow m (λ k. 1) ≡ m
-unfolding sumBelow
-sum-ones zero = refl
-sum-ones (suc m) = omega (arith, sum-ones m)
-
--- all uses of 1 to m together: at most as many as there are numbers
-uses-le : (m : ℕ) (ks : List ℕ) → sumBelow m (λ k. occurs (suc k) ks) ≤ length ks
-unfolding occurs
-uses-le m [] = omega (arith, sum-zero (λ k. 0) m (λ k l. refl))
-uses-le m (x ∷ ks) =
-    omega (
-      arith,
-      uses-le m ks,
-      sum-off (λ k. agree (suc k) x + occurs (suc k) ks) (λ k. occurs (suc k) ks) m (x - 1) 1
-          (λ w q. omega (arith, agree-other (suc w) x (λ e. q (omega arith)))) (omega (arith, agree-le (suc (x - 1)) x)),
-    )
-
--- and as many, where all numbers are from 1 to m
-uses-ge : (m : ℕ) (ks : List ℕ) → All (λ k. (1 ≤ k) × (k ≤ m)) ks → length ks ≤ sumBelow m (λ k. occurs (suc k) ks)
-unfolding occurs
-uses-ge m [] h = omega arith
-uses-ge m (x ∷ ks) h =
-    omega (
-      arith,
-      uses-ge m ks (h .1),
-      sum-at (λ k. occurs (suc k) ks) (λ k. agree (suc k) x + occurs (suc k) ks) m (x - 1) (omega (arith, h .0)) (λ w b q. omega arith),
-      agree-same (suc (x - 1)) x (omega (arith, h .0)),
-    )
-
-module _ (m : ℕ) (ks : List ℕ) (size : length ks ≡ m) where
-  -- if each of 1 to m is used, it is used once
-  pub once-if-used : ((k : ℕ) → 1 ≤ k → k ≤ m → 1 ≤ occurs k ks) → (k : ℕ) → 1 ≤ k → k ≤ m → occurs k ks ≡ 1
-  once-if-used h zero low high = omega arith
-  once-if-used h (suc k) low high =
-      omega (
-        arith,
-        h (suc k) low high,
-        uses-le m ks,
-        sum-ones m,
-        sum-at (λ k. 1) (λ k. occurs (suc k) ks) m k (omega arith) (λ w b q. h (suc w) (omega arith) (omega arith)),
-      )
-
-  -- and no other number is there
-  pub range-if-used : ((k : ℕ) → 1 ≤ k → k ≤ m → 1 ≤ occurs k ks) → (i : ℕ) → i < length ks → (1 ≤ getD ks i 0) × (getD ks i 0 ≤ m)
-  range-if-used h i l = (go-low (decLt 0 (getD ks i 0)), go-high (decLt m (getD ks i 0)))
-    where
-      -- else the others alone would use each of 1 to m
-      other : ((w : ℕ) → w < m → suc w ≡ getD ks i 0 → ⊥) → ⊥
-      other q =
-          let u = occurs-split (getD ks i 0) ks (occurs-at (getD ks i 0) ks i l refl) in
-          let n : length ks ≡ suc (length (u .0 ++ u .1)) = ap length (u .2) ∙ simp length-append (omega arith) in
-          omega (
-            arith,
-            n,
-            size,
-            uses-le m (u .0 ++ u .1),
-            sum-ones m,
-            sum-mono (λ k. 1) (λ k. occurs (suc k) (u .0 ++ u .1)) m
-                (λ w b.
-                omega (
-                  arith,
-                  h (suc w) (omega arith) (omega arith),
-                  ap (occurs (suc w)) (u .2),
-                  occurs-between (suc w) (getD ks i 0) (u .0) (u .1),
-                  agree-other (suc w) (getD ks i 0) (q w b),
-                )),
-          )
-
-      go-low : Dec (0 < getD ks i 0) → 1 ≤ getD ks i 0
-      go-low (yes b) = b
-      go-low (no b) = absurd (other (λ w k e. omega arith))
-
-      go-high : Dec (m < getD ks i 0) → getD ks i 0 ≤ m
-      go-high (yes b) = absurd (other (λ w k e. omega arith))
-      go-high (no b) = omega arith
-
-  -- if all are from 1 to m and none is used twice, each is used once
-  pub once-if-apart : All (λ k. (1 ≤ k) × (k ≤ m)) ks → ((k : ℕ) → occurs k ks ≤ 1) → (k : ℕ) → 1 ≤ k → k ≤ m → occurs k ks ≡ 1
-  once-if-apart r h zero low high = omega arith
-  once-if-apart r h (suc k) low high =
-      omega (
-        arith,
-        h (suc k),
-        uses-ge m ks r,
-        sum-ones m,
-        sum-at (λ k. occurs (suc k) ks) (λ k. 1) m k (omega arith) (λ w b q. h (suc w)),
-      )

@@ -15,22 +15,26 @@ use Rattle.trails.proofs.Groups.{joined-same-name, same-name-joined}
 
 -- ─── is a group even? ────────────────────────────────────────────────────────
 
+-- a group counts at most 1
 pub even-le : (m o : ℕ) → allEven m o ≤ 1
 even-le zero o = omega arith
 even-le (suc m) zero = omega arith
 even-le (suc m) (suc o) = omega arith
 
+-- one with an odd member counts 0
 pub even-not : (m o : ℕ) → 1 ≤ o → allEven m o ≡ 0
 even-not zero o h = refl
 even-not (suc m) zero h = omega arith
 even-not (suc m) (suc o) h = refl
 
+-- it counts at least as much as one that has members only where it has
 pub even-mono : (m n o : ℕ) → (1 ≤ m → 1 ≤ n) → allEven m o ≤ allEven n o
 even-mono zero n o h = omega arith
 even-mono (suc m) zero o h = omega (arith, h (omega arith))
 even-mono (suc m) (suc n) zero h = omega arith
 even-mono (suc m) (suc n) (suc o) h = omega arith
 
+-- one with members, none of them odd, counts 1
 pub even-is : (m o : ℕ) → 1 ≤ m → o ≡ 0 → allEven m o ≡ 1
 even-is zero o h k = absurd (omega arith)
 even-is (suc m) zero h k = refl
@@ -38,12 +42,14 @@ even-is (suc m) (suc o) h k = absurd (omega arith)
 
 -- ─── a group that is counted ─────────────────────────────────────────────────
 
+-- and only such a one does
 even-members : (m o : ℕ) → allEven m o ≡ 1 → (1 ≤ m) × (o ≡ 0)
 even-members zero o e = absurd (omega arith)
 even-members (suc m) zero e = (omega arith, refl)
 even-members (suc m) (suc o) e = absurd (omega arith)
 
 module _ (n : ℕ) (name : ℕ → ℕ) (ws : List ℕ) (l : ℕ) where
+  -- no weight of the group is odd: there are no odd members
   pub no-odd-members : ((w : ℕ) → w < n → l ≡ name w → oddly ws w ≡ 0) → oddMembers n name ws l ≡ 0
   unfolding oddMembers
   no-odd-members h = sum-zero (λ w. agree l (name w) * oddly ws w) n (λ w b. go w b (agree-cases l (name w)))
@@ -52,6 +58,7 @@ module _ (n : ℕ) (name : ℕ → ℕ) (ws : List ℕ) (l : ℕ) where
       go w b (inl a) = rw (h w b (a .0)) (omega arith)
       go w b (inr a) = rw (a .1) (omega arith)
 
+  -- and the other way round
   no-odd-member : oddMembers n name ws l ≡ 0 → (w : ℕ) → w < n → l ≡ name w → oddly ws w ≡ 0
   unfolding oddMembers
   no-odd-member e w b q =
@@ -61,6 +68,7 @@ module _ (n : ℕ) (name : ℕ → ℕ) (ws : List ℕ) (l : ℕ) where
 
 -- Of the groups of strings: l is counted exactly if it is the name of a group with an end weight, in which all weights occur evenly often.
 module _ (strings : List Ends) where
+  -- a group that is counted has such a weight
   pub counted-group : (l : ℕ) → evenGroup (above (weights strings)) (nameOf strings) (weights strings) l ≡ 1
       → (w : ℕ) × (1 ≤ occurs w (weights strings)) × (nameOf strings w ≡ l) × ((v : ℕ) → Joined strings w v → oddly (weights strings) v ≡ 0)
   unfolding evenGroup
@@ -76,6 +84,7 @@ module _ (strings : List Ends) where
       go v z q (yes b) = no-odd-member (above (weights strings)) (nameOf strings) (weights strings) l z v b q
       go v z q (no b) = beyond v (occurs-beyond (above (weights strings)) v (weights strings) (above-all (weights strings)) (omega arith))
 
+  -- and the group of such a weight is counted
   pub group-counted : (w : ℕ) → 1 ≤ occurs w (weights strings) → ((v : ℕ) → Joined strings w v → oddly (weights strings) v ≡ 0)
       → evenGroup (above (weights strings)) (nameOf strings) (weights strings) (nameOf strings w) ≡ 1
   unfolding evenGroup

@@ -13,7 +13,8 @@ use Rattle.lists.proofs.Every.{all-map}
 use Rattle.trails.specs.Counting.{occurs}
 use Rattle.trails.specs.Strings.{Ends, front, back, weights}
 use Rattle.trails.specs.Groups.{Joined, start, ahead, behind, nameOf}
-use Rattle.trails.proofs.Orders.{Reordered, all-reordered, turn-back, all-weights, EndsBelow}
+use Rattle.trails.specs.Walks.{Reordered}
+use Rattle.trails.proofs.Orders.{all-reordered, reordered-back, all-weights, EndsBelow}
 
 -- ─── names ───────────────────────────────────────────────────────────────────
 
@@ -25,6 +26,7 @@ choose-same : (t : Bool) (a : ℕ) → choose t a a ≡ a
 choose-same true a = refl
 choose-same false a = refl
 
+-- the names are level
 pub name-level : (strings : List Ends) → Level (nameOf strings) strings
 unfolding nameOf
 name-level [] = tt
@@ -34,6 +36,7 @@ name-level (s ∷ strings) =
       all-map (λ t e. ap again e) strings (name-level strings),
     )
 
+-- and stay so in another order
 pub level-reordered : (name : ℕ → ℕ) {L M : List Ends} → Reordered L M → Level name L → Level name M
 level-reordered name = all-reordered (λ s. name (front s) ≡ name (back s)) (λ s e. sym e)
 
@@ -101,8 +104,9 @@ carried-group P (s ∷ strings) k w v h p =
     go (no a) (no b) ih = ih w v (sym (name-other s strings w a) ∙ h ∙ name-other s strings v b) p
 
 module _ (P : ℕ → Type 0) where
+  -- what is carried in one order is carried in the other
   pub carried-back : {L M : List Ends} → Reordered L M → Carried P M → Carried P L
-  carried-back r = all-reordered (Carries P) (λ s k. (k .1, k .0)) (turn-back r)
+  carried-back r = all-reordered (Carries P) (λ s k. (k .1, k .0)) (reordered-back r)
 
   -- P of all end weights, or of none of them
   pub carried-all : (L : List Ends) → ((w : ℕ) → 1 ≤ occurs w (weights L) → P w) → Carried P L

@@ -1,45 +1,23 @@
 -- The hub: one weight that no string has, with a string from it to each weight that occurs oddly often. With these spokes each weight has an even number of ends.
--- A chain that comes back to the hub, without its spokes, is cut into one path for two spokes.
 use mathlib.Core.Path.{_≡_, refl, ap, sym, _∙_, subst}
-use mathlib.Core.Logic.{inl, inr}
 use mathlib.Core.List.{List, [], _∷_, _++_, map, map-append}
-use Prim.Native.Nat.{ℕ, zero, suc, _+_, _*_, _%_, _≤_, _<_}
+use Prim.Native.Nat.{ℕ, zero, suc, _+_, _%_, _≤_, _<_}
 use native.Mathlib.Omega.{arith}
 use native.Mathlib.Decide.{ℕ-discrete, decLt}
 use lib.ListN.{length}
 use Rattle.lists.specs.Count.{agree}
-use Rattle.trails.specs.Counting.{occurs, oddly, sumBelow, above}
-use Rattle.trails.specs.Strings.{Ends, front, back, weights}
-use Rattle.trails.specs.Paths.{pathCount}
+use Rattle.trails.specs.Counting.{occurs, oddly, sumBelow}
+use Rattle.trails.specs.Strings.{Ends, weights}
 use Rattle.trails.specs.Groups.{countOdd, oddWeights}
-use Rattle.lists.proofs.Agree.{agree-same, agree-other, Agreeing, agree-cases, agree-le}
+use Rattle.trails.specs.Hub.{spokeIf, spokes, limit, spoked}
+use Rattle.trails.specs.Walks.{Reordered, empty, keep, both, AllEven}
+use Rattle.lists.proofs.Agree.{agree-same, agree-other}
 use Rattle.trails.proofs.Counting.{sum-at, oddly-le, oddly-same, oddly-other, AllBelow, above-all, occurs-beyond, occurs-split, occurs-between}
-use Rattle.trails.proofs.Orders.{Reordered, empty, keep, turn, exchange, both, unmoved, move-in, reordered-left, occurs-both, length-weights}
-use Rattle.trails.proofs.Paths.{breaks, paths-breaks, paths-none, Chain}
+use Rattle.trails.proofs.Orders.{move-in, reordered-left, occurs-both, length-weights}
 use Rattle.trails.proofs.Groups.{Carried}
 use Rattle.trails.proofs.Lower.{no-odd}
-use Rattle.trails.proofs.Walk.{AllEven}
 
--- ─── the spokes ──────────────────────────────────────────────────────────────
-
-abbrev spokeIf : ℕ → Ends → List Ends → List Ends
-spokeIf zero s L = L
-spokeIf (suc j) s L = s ∷ L
-
--- a string from the hub h to each weight below n that occurs oddly often in ws
-unfoldable pub spokes : ℕ → List ℕ → ℕ → List Ends
-spokes h ws zero = []
-spokes h ws (suc n) = spokeIf (oddly ws n) (h, n) (spokes h ws n)
-
--- a bound of the end weights
-abbrev pub limit : List Ends → ℕ
-limit strings = above (weights strings)
-
--- the strings with a spoke to each of their odd weights
-abbrev pub spoked : ℕ → List Ends → List Ends
-spoked h strings = spokes h (weights strings) (limit strings) ++ strings
-
--- ─── with them, all weights are even ─────────────────────────────────────────
+-- ─── with the spokes, all weights are even ───────────────────────────────────
 
 spoke-off : (v h n o : ℕ) (L : List Ends) → agree v h + agree v n ≡ 0 → occurs v (weights (spokeIf o (h, n) L)) ≡ occurs v (weights L)
 unfolding occurs weights
@@ -117,6 +95,7 @@ module _ (h : ℕ) (strings : List Ends) (fresh : occurs h (weights strings) ≡
   spoked-below v q l =
       omega (arith, occurs-both v (spokes h (weights strings) (limit strings)) strings, spokes-at h (weights strings) v (limit strings) q l)
 
+  -- a weight that no string has, but the hub, has no ends
   pub spoked-beyond : (v : ℕ) → (v ≡ h → ⊥) → limit strings ≤ v → occurs v (weights (spoked h strings)) ≡ 0
   spoked-beyond v q l =
       omega (
@@ -126,6 +105,7 @@ module _ (h : ℕ) (strings : List Ends) (fresh : occurs h (weights strings) ≡
         occurs-beyond (limit strings) v (weights strings) (above-all (weights strings)) l,
       )
 
+  -- so every weight has an even number of ends
   pub spoked-even : AllEven (spoked h strings)
   spoked-even v = go (ℕ-discrete v h) (decLt v (limit strings))
     where
@@ -198,17 +178,9 @@ spokes-below h ws (suc n) os odd none = go (oddly ws n) refl (oddly-le ws n) (sp
         (λ w b. omega (arith, without-one h n os (u .0) (u .1) (u .2) w, agree-other w n (λ q. omega arith), odd w (omega arith)))
         (λ w b. rest (u .0) (u .1) (u .2) (omega arith) w b (ℕ-discrete w n)))
 
-length-spokes : (h : ℕ) (ws : List ℕ) (n : ℕ) → length (spokes h ws n) ≡ sumBelow n (oddly ws)
-unfolding spokes sumBelow
-length-spokes h ws zero = refl
-length-spokes h ws (suc n) = go (oddly ws n) (oddly-le ws n) (length-spokes h ws n)
-  where
-    go : (o : ℕ) → o ≤ 1 → length (spokes h ws n) ≡ sumBelow n (oddly ws) → length (spokeIf o (h, n) (spokes h ws n)) ≡ o + sumBelow n (oddly ws)
-    go zero l ih = omega arith
-    go (suc o) l ih = omega arith
-
--- Where os has each odd weight once and no other weight, the strings from the hub to os are the spokes, and os has O of them.
+-- Where os has each odd weight once and no other weight, the strings from the hub to os are the spokes.
 module _ (h : ℕ) (strings : List Ends) (os : List ℕ) (odd : (w : ℕ) → occurs w os ≡ oddly (weights strings) w) where
+  -- the spokes, in another order
   pub spokes-listed : Reordered (spokes h (weights strings) (limit strings)) (spokesTo h os)
   spokes-listed = spokes-below h (weights strings) (limit strings) os (λ w l. odd w) (λ w l. odd w ∙ beyond w l)
     where
@@ -218,121 +190,3 @@ module _ (h : ℕ) (strings : List Ends) (os : List ℕ) (odd : (w : ℕ) → oc
   -- the strings with the spokes
   pub spoked-listed : Reordered (spoked h strings) (spokesTo h os ++ strings)
   spoked-listed = reordered-left strings spokes-listed
-
--- ─── without the spokes ──────────────────────────────────────────────────────
-
-abbrev keepIf : ℕ → ℕ → Ends → List Ends → List Ends
-keepIf zero zero s L = s ∷ L
-keepIf zero (suc j) s L = L
-keepIf (suc i) j s L = L
-
--- the strings that do not touch the hub h
-unfoldable pub unspoked : ℕ → List Ends → List Ends
-unspoked h [] = []
-unspoked h (s ∷ L) = keepIf (agree h (front s)) (agree h (back s)) s (unspoked h L)
-
-pub unspoked-append : (h : ℕ) (A B : List Ends) → unspoked h (A ++ B) ≡ unspoked h A ++ unspoked h B
-unfolding unspoked
-unspoked-append h [] B = refl
-unspoked-append h (s ∷ A) B = go (agree h (front s)) (agree h (back s)) (unspoked-append h A B)
-  where
-    go : (i j : ℕ) → unspoked h (A ++ B) ≡ unspoked h A ++ unspoked h B → keepIf i j s (unspoked h (A ++ B)) ≡ keepIf i j s (unspoked h A) ++ unspoked h B
-    go zero zero ih = ap (λ (L : List Ends). s ∷ L) ih
-    go zero (suc j) ih = ih
-    go (suc i) j ih = ih
-
-pub unspoked-reordered : (h : ℕ) {L M : List Ends} → Reordered L M → Reordered (unspoked h L) (unspoked h M)
-unfolding unspoked
-unspoked-reordered h empty = empty
-unspoked-reordered h (keep {s = s} r) = go (agree h (front s)) (agree h (back s)) (unspoked-reordered h r)
-  where
-    go : (i j : ℕ) {A B : List Ends} → Reordered A B → Reordered (keepIf i j s A) (keepIf i j s B)
-    go zero zero q = keep q
-    go zero (suc j) q = q
-    go (suc i) j q = q
-unspoked-reordered h (turn {a = x} {b = y} r) = go (agree h x) (agree h y) (unspoked-reordered h r)
-  where
-    go : (i j : ℕ) {A B : List Ends} → Reordered A B → Reordered (keepIf i j (x, y) A) (keepIf j i (y, x) B)
-    go zero zero q = turn q
-    go zero (suc j) q = q
-    go (suc i) zero q = q
-    go (suc i) (suc j) q = q
-unspoked-reordered h (exchange {s = s} {t = t} {L = L}) = go (agree h (front s)) (agree h (back s)) (agree h (front t)) (agree h (back t)) (unspoked h L)
-  where
-    go : (i j k l : ℕ) (A : List Ends) → Reordered (keepIf i j s (keepIf k l t A)) (keepIf k l t (keepIf i j s A))
-    go zero zero zero zero A = exchange
-    go zero zero zero (suc l) A = unmoved (s ∷ A)
-    go zero zero (suc k) l A = unmoved (s ∷ A)
-    go zero (suc j) k l A = unmoved (keepIf k l t A)
-    go (suc i) j k l A = unmoved (keepIf k l t A)
-unspoked-reordered h (both r q) = both (unspoked-reordered h r) (unspoked-reordered h q)
-
--- strings that do not touch the hub all stay
-pub unspoked-own : (h : ℕ) (L : List Ends) → occurs h (weights L) ≡ 0 → unspoked h L ≡ L
-unfolding unspoked occurs weights
-unspoked-own h [] e = refl
-unspoked-own h (s ∷ L) e = go (agree h (front s)) (agree h (back s)) (omega arith) (omega arith) (unspoked-own h L (omega arith))
-  where
-    go : (i j : ℕ) → i ≡ 0 → j ≡ 0 → unspoked h L ≡ L → keepIf i j s (unspoked h L) ≡ s ∷ L
-    go zero zero p q ih = ap (λ (M : List Ends). s ∷ M) ih
-    go zero (suc j) p q ih = absurd (omega arith)
-    go (suc i) j p q ih = absurd (omega arith)
-
-unspoked-spokes : (h : ℕ) (ws : List ℕ) (n : ℕ) → unspoked h (spokes h ws n) ≡ []
-unfolding unspoked spokes
-unspoked-spokes h ws zero = refl
-unspoked-spokes h ws (suc n) = go (oddly ws n) (unspoked-spokes h ws n)
-  where
-    go : (o : ℕ) → unspoked h (spokes h ws n) ≡ [] → unspoked h (spokeIf o (h, n) (spokes h ws n)) ≡ []
-    go zero ih = ih
-    go (suc o) ih = rw (agree-same h h refl) ih
-
--- the strings come back
-pub unspoked-spoked : (h : ℕ) (strings : List Ends) → occurs h (weights strings) ≡ 0 → unspoked h (spoked h strings) ≡ strings
-unspoked-spoked h strings fresh =
-    unspoked-append h (spokes h (weights strings) (limit strings)) strings
-    ∙ ap (λ (L : List Ends). L ++ unspoked h strings) (unspoked-spokes h (weights strings) (limit strings))
-    ∙ unspoked-own h strings fresh
-
--- ─── a chain cut at the hub ──────────────────────────────────────────────────
-
--- behind a string s that does not end at the hub
-cut-behind : (h : ℕ) (s : Ends) → (back s ≡ h → ⊥) → (x : ℕ) (Z : List Ends) → Chain x Z h
-    → 2 * breaks s (unspoked h Z) + 2 * agree (back s) x + agree h x ≤ occurs h (weights Z) + 1
-unfolding unspoked breaks occurs weights
-cut-behind h s q x [] c = omega (arith, agree-same h x (sym c), agree-other (back s) x (λ p. q (p ∙ c)))
-cut-behind h s q x (t ∷ Z) c = go (agree-cases h (front t)) (agree-cases h (back t)) (λ g r. cut-behind h g r (back t) Z (c .1))
-  where
-    go : Agreeing h (front t) → Agreeing h (back t)
-        → ((g : Ends) → (back g ≡ h → ⊥) → 2 * breaks g (unspoked h Z) + 2 * agree (back g) (back t) + agree h (back t) ≤ occurs h (weights Z) + 1)
-        → 2 * breaks s (keepIf (agree h (front t)) (agree h (back t)) t (unspoked h Z)) + 2 * agree (back s) x + agree h x
-        ≤ agree h (front t) + (agree h (back t) + occurs h (weights Z)) + 1
-    go (inl a) b ih =
-        rw (a .1) (omega (arith, ih s q, ap (agree h) (c .0), a .1, agree-other (back s) x (λ p. q (p ∙ c .0 ∙ sym (a .0)))))
-    go (inr a) (inl b) ih = rw (a .1, b .1) (omega (arith, ih s q, ap (agree h) (c .0), a .1, agree-le (back s) x, b .1))
-    go (inr a) (inr b) ih =
-        rw (a .1, b .1)
-        (omega (
-          arith,
-          ih t (λ p. b .0 (sym p)),
-          ap (agree h) (c .0),
-          ap (agree (back s)) (c .0),
-          a .1,
-          agree-same (back t) (back t) refl,
-          agree-le (back s) (front t),
-        ))
-
--- A chain to the hub, without its spokes: two spokes for each path, but for a part at the start that the hub does not open.
-pub cut-chain : (h x : ℕ) (Z : List Ends) → Chain x Z h → 2 * pathCount (unspoked h Z) + agree h x ≤ occurs h (weights Z) + 1
-unfolding unspoked occurs weights
-cut-chain h x [] c = omega (arith, agree-le h x, paths-none)
-cut-chain h x (t ∷ Z) c = go (agree-cases h (front t)) (agree-cases h (back t)) (cut-chain h (back t) Z (c .1)) (λ r. cut-behind h t r (back t) Z (c .1))
-  where
-    go : Agreeing h (front t) → Agreeing h (back t) → 2 * pathCount (unspoked h Z) + agree h (back t) ≤ occurs h (weights Z) + 1
-        → ((back t ≡ h → ⊥) → 2 * breaks t (unspoked h Z) + 2 * agree (back t) (back t) + agree h (back t) ≤ occurs h (weights Z) + 1)
-        → 2 * pathCount (keepIf (agree h (front t)) (agree h (back t)) t (unspoked h Z)) + agree h x ≤ agree h (front t) + (agree h (back t) + occurs h (weights Z)) + 1
-    go (inl a) b ih k = rw (a .1) (omega (arith, ap (agree h) (c .0), a .1))
-    go (inr a) (inl b) ih k = rw (a .1, b .1) (omega (arith, ap (agree h) (c .0), a .1))
-    go (inr a) (inr b) ih k =
-        rw (a .1, b .1)
-        (omega (arith, k (λ p. b .0 (sym p)), ap (agree h) (c .0), a .1, agree-same (back t) (back t) refl, paths-breaks t (unspoked h Z)))

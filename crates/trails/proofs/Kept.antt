@@ -36,6 +36,7 @@ module _ {A : Type 0} (turn : A → A) (P : A → Type 0) (h : (x : A) → P x �
   all-arranged-to zero places xs a = tt
   all-arranged-to (suc n) places xs a = all-append P (arrangedTo turn n places xs) (standing turn (suc n) places xs) (all-arranged-to n places xs a) (all-standing (suc n) places xs a)
 
+  -- what holds of each string, turned or not, holds in the new order
   pub all-arranged : (places : List ℤ) (xs : List A) → All P xs → All P (arranged turn places xs)
   all-arranged places xs a = all-arranged-to (length places) places xs a
 

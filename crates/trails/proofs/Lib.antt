@@ -1,5 +1,6 @@
 -- The laws of `specs/`, one file a topic.
 pub mod Counting
+pub mod Once
 pub mod Orders
 pub mod Paths
 pub mod Arranged
@@ -9,6 +10,7 @@ pub mod EvenGroups
 pub mod Lower
 pub mod Walk
 pub mod Hub
+pub mod Unspoked
 pub mod Upper
 pub mod Bounds
 pub mod Renamed

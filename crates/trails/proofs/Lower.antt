@@ -13,9 +13,10 @@ use Rattle.trails.specs.Counting.{occurs, oddly, sumBelow, above}
 use Rattle.trails.specs.Strings.{Ends, front, back, weights}
 use Rattle.trails.specs.Paths.{pathCount}
 use Rattle.trails.specs.Groups.{nameOf, allEven, oddMembers, evenGroup, countEvenGroups, countOdd, evenGroups, oddWeights, least}
+use Rattle.trails.specs.Walks.{Reordered}
 use Rattle.lists.proofs.Agree.{agree-same, agree-other, Agreeing, agree-cases}
 use Rattle.trails.proofs.Counting.{sum-zero, sum-part, sum-mono, sum-at, sum-off, oddly-le, oddly-same, oddly-other, AllBelow, above-all}
-use Rattle.trails.proofs.Orders.{Reordered, names-reordered, oddly-reordered, EndsBelow, below-reordered}
+use Rattle.trails.proofs.Orders.{names-reordered, oddly-reordered, EndsBelow, below-reordered}
 use Rattle.trails.proofs.EvenGroups.{even-le, even-not, even-mono}
 use Rattle.trails.proofs.Paths.{breaks, paths-breaks, paths-none}
 use Rattle.trails.proofs.Groups.{Level, name-level, level-reordered}
@@ -81,6 +82,7 @@ pub no-odd : (n : ℕ) → countOdd n [] ≡ 0
 unfolding countOdd oddly occurs
 no-odd n = sum-zero (oddly []) n (λ w k. refl)
 
+-- each weight pays one half
 pub each-pays : (n : ℕ) (name : ℕ → ℕ) (ws : List ℕ) → AllBelow n ws → 2 * countEvenGroups n name ws + countOdd n ws ≤ length ws
 each-pays n name [] h = omega (arith, no-even-groups n name, no-odd n)
 each-pays n name (x ∷ ws) h = omega (arith, one-more n name ws x (h .0), each-pays n name ws (h .1))
@@ -93,24 +95,24 @@ cutEnds zero a b ws = a ∷ (b ∷ ws)
 cutEnds (suc j) a b ws = ws
 
 -- the ends behind the front of s
-unfoldable endsFrom : Ends → List Ends → List ℕ
+unfoldable pathEndsFrom : Ends → List Ends → List ℕ
 unfolding cutEnds
-endsFrom s [] = back s ∷ []
-endsFrom s (t ∷ order) = cutEnds (agree (back s) (front t)) (back s) (front t) (endsFrom t order)
+pathEndsFrom s [] = back s ∷ []
+pathEndsFrom s (t ∷ order) = cutEnds (agree (back s) (front t)) (back s) (front t) (pathEndsFrom t order)
 
 -- both ends of each path
 unfoldable pathEnds : List Ends → List ℕ
-unfolding endsFrom
+unfolding pathEndsFrom
 pathEnds [] = []
-pathEnds (s ∷ order) = front s ∷ endsFrom s order
+pathEnds (s ∷ order) = front s ∷ pathEndsFrom s order
 
-length-ends-from : (s : Ends) (order : List Ends) → length (endsFrom s order) ≡ 2 * breaks s order + 1
-unfolding breaks endsFrom cutEnds
+length-ends-from : (s : Ends) (order : List Ends) → length (pathEndsFrom s order) ≡ 2 * breaks s order + 1
+unfolding breaks pathEndsFrom cutEnds
 length-ends-from s [] = refl
 length-ends-from s (t ∷ order) = go (length-ends-from t order) (agree-cases (back s) (front t))
   where
-    go : length (endsFrom t order) ≡ 2 * breaks t order + 1 → Agreeing (back s) (front t)
-        → length (cutEnds (agree (back s) (front t)) (back s) (front t) (endsFrom t order)) ≡ 2 * ((1 - agree (back s) (front t)) + breaks t order) + 1
+    go : length (pathEndsFrom t order) ≡ 2 * breaks t order + 1 → Agreeing (back s) (front t)
+        → length (cutEnds (agree (back s) (front t)) (back s) (front t) (pathEndsFrom t order)) ≡ 2 * ((1 - agree (back s) (front t)) + breaks t order) + 1
     go ih (inl h) = rw (h .1) (omega arith)
     go ih (inr h) = rw (h .1) (omega arith)
 
@@ -120,13 +122,13 @@ length-path-ends [] = omega (arith, paths-none)
 length-path-ends (s ∷ order) = omega (arith, length-ends-from s order, paths-breaks s order)
 
 -- they have the parity of all end weights
-parity-from : (w : ℕ) (s : Ends) (order : List Ends) → (agree w (front s) + occurs w (endsFrom s order)) % 2 ≡ occurs w (weights (s ∷ order)) % 2
-unfolding weights occurs endsFrom cutEnds
+parity-from : (w : ℕ) (s : Ends) (order : List Ends) → (agree w (front s) + occurs w (pathEndsFrom s order)) % 2 ≡ occurs w (weights (s ∷ order)) % 2
+unfolding weights occurs pathEndsFrom cutEnds
 parity-from w s [] = omega arith
 parity-from w s (t ∷ order) = go (parity-from w t order) (agree-cases (back s) (front t))
   where
-    go : (agree w (front t) + occurs w (endsFrom t order)) % 2 ≡ occurs w (weights (t ∷ order)) % 2 → Agreeing (back s) (front t)
-        → (agree w (front s) + occurs w (cutEnds (agree (back s) (front t)) (back s) (front t) (endsFrom t order))) % 2
+    go : (agree w (front t) + occurs w (pathEndsFrom t order)) % 2 ≡ occurs w (weights (t ∷ order)) % 2 → Agreeing (back s) (front t)
+        → (agree w (front s) + occurs w (cutEnds (agree (back s) (front t)) (back s) (front t) (pathEndsFrom t order))) % 2
         ≡ (agree w (front s) + (agree w (back s) + occurs w (weights (t ∷ order)))) % 2
     go ih (inl h) = rw (h .1) (omega (arith, ap (agree w) (h .0)))
     go ih (inr h) = rw (h .1) (omega arith)
@@ -137,12 +139,12 @@ parity [] w = refl
 parity (s ∷ order) w = sym (parity-from w s order)
 
 -- and no weight that the end weights do not have
-below-from : (n : ℕ) (s : Ends) (order : List Ends) → EndsBelow n (s ∷ order) → AllBelow n (endsFrom s order)
-unfolding weights endsFrom cutEnds
+below-from : (n : ℕ) (s : Ends) (order : List Ends) → EndsBelow n (s ∷ order) → AllBelow n (pathEndsFrom s order)
+unfolding weights pathEndsFrom cutEnds
 below-from n s [] h = (h .1 .0, tt)
 below-from n s (t ∷ order) h = go (below-from n t order (h .1 .1)) (agree (back s) (front t))
   where
-    go : AllBelow n (endsFrom t order) → (d : ℕ) → AllBelow n (cutEnds d (back s) (front t) (endsFrom t order))
+    go : AllBelow n (pathEndsFrom t order) → (d : ℕ) → AllBelow n (cutEnds d (back s) (front t) (pathEndsFrom t order))
     go ih zero = (h .1 .0, (h .1 .1 .0, ih))
     go ih (suc d) = ih
 
@@ -153,17 +155,17 @@ below-path-ends n (s ∷ order) h = (h .0, below-from n s order h)
 
 -- Every group has one of them, where all strings are level.
 module _ (name : ℕ → ℕ) (l : ℕ) where
-  present-from : (s : Ends) (order : List Ends) → Level name (s ∷ order) → 1 ≤ occurs l (map name (weights (s ∷ order))) → 1 ≤ occurs l (map name (endsFrom s order))
-  unfolding weights occurs endsFrom cutEnds
+  present-from : (s : Ends) (order : List Ends) → Level name (s ∷ order) → 1 ≤ occurs l (map name (weights (s ∷ order))) → 1 ≤ occurs l (map name (pathEndsFrom s order))
+  unfolding weights occurs pathEndsFrom cutEnds
   present-from s [] h p = omega (arith, ap (agree l) (h .0))
   present-from s (t ∷ order) h p = go (present-from t order (h .1)) (agree-cases (back s) (front t))
     where
-      go : (1 ≤ occurs l (map name (weights (t ∷ order))) → 1 ≤ occurs l (map name (endsFrom t order))) → Agreeing (back s) (front t)
-          → 1 ≤ occurs l (map name (cutEnds (agree (back s) (front t)) (back s) (front t) (endsFrom t order)))
+      go : (1 ≤ occurs l (map name (weights (t ∷ order))) → 1 ≤ occurs l (map name (pathEndsFrom t order))) → Agreeing (back s) (front t)
+          → 1 ≤ occurs l (map name (cutEnds (agree (back s) (front t)) (back s) (front t) (pathEndsFrom t order)))
       go ih (inl q) = rw (q .1) (ih (omega (arith, ap (agree l) (h .0), ap (λ (v : ℕ). agree l (name v)) (q .0))))
       go ih (inr q) = rw (q .1) (more (decLt 0 (occurs l (map name (weights (t ∷ order))))))
         where
-          more : Dec (0 < occurs l (map name (weights (t ∷ order)))) → 1 ≤ agree l (name (back s)) + (agree l (name (front t)) + occurs l (map name (endsFrom t order)))
+          more : Dec (0 < occurs l (map name (weights (t ∷ order)))) → 1 ≤ agree l (name (back s)) + (agree l (name (front t)) + occurs l (map name (pathEndsFrom t order)))
           more (yes a) = omega (arith, ih a)
           more (no a) = omega (arith, ap (agree l) (h .0))
 
@@ -198,6 +200,7 @@ module _ (n : ℕ) (name : ℕ → ℕ) where
         length-path-ends order,
       )
 
+  -- a group counts the same in another order
   pub even-group-reordered : {L M : List Ends} → Reordered L M → (l : ℕ) → evenGroup n name (weights L) l ≡ evenGroup n name (weights M) l
   unfolding evenGroup oddMembers
   even-group-reordered r l =

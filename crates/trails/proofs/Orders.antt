@@ -1,25 +1,19 @@
--- Orders and turnings as a relation, and what they keep. Signed places say the same (proofs/Places); the relation is the form in which strings are moved one at a time.
-use mathlib.Core.Path.{_≡_, refl, ap, _∙_}
-use mathlib.Core.List.{List, [], _∷_, _++_, map}
+-- Orders and turnings as a relation: how strings are moved, and what is kept.
+use mathlib.Core.Path.{_≡_, refl, ap, sym, _∙_, subst}
+use mathlib.Core.List.{List, [], _∷_, _++_, map, append-nil}
 use Prim.Native.Nat.{ℕ, suc, _+_, _*_, _≤_}
 use native.Mathlib.Omega.{arith}
 use lib.ListN.{length}
 use Rattle.lists.specs.Every.{All}
 use Rattle.trails.specs.Counting.{occurs, oddly}
 use Rattle.trails.specs.Strings.{Ends, front, back, turned, weights}
+use Rattle.trails.specs.Walks.{Reordered, empty, keep, turn, exchange, both}
 use Rattle.trails.proofs.Counting.{AllBelow}
 use Rattle.lists.proofs.Agree.{agree-same}
 
--- the second list has the strings of the first in another order, some turned
-pub data Reordered : List Ends → List Ends → Type 0 where
-  empty : Reordered [] []
-  keep : {s : Ends} {L M : List Ends} → Reordered L M → Reordered (s ∷ L) (s ∷ M)
-  turn : {a b : ℕ} {L M : List Ends} → Reordered L M → Reordered ((a, b) ∷ L) ((b, a) ∷ M)
-  exchange : {s t : Ends} {L : List Ends} → Reordered (s ∷ (t ∷ L)) (t ∷ (s ∷ L))
-  both : {L M N : List Ends} → Reordered L M → Reordered M N → Reordered L N
-
 -- ─── moving strings ──────────────────────────────────────────────────────────
 
+-- all stay where they are
 pub unmoved : (L : List Ends) → Reordered L L
 unmoved [] = empty
 unmoved (s ∷ L) = keep (unmoved L)
@@ -29,6 +23,7 @@ pub move-in : (s : Ends) (A B : List Ends) → Reordered (s ∷ (A ++ B)) (A ++ 
 move-in s [] B = unmoved (s ∷ B)
 move-in s (a ∷ A) B = both exchange (keep (move-in s A B))
 
+-- the strings behind stay
 pub reordered-left : {A B : List Ends} (C : List Ends) → Reordered A B → Reordered (A ++ C) (B ++ C)
 reordered-left C empty = unmoved C
 reordered-left C (keep r) = keep (reordered-left C r)
@@ -36,12 +31,19 @@ reordered-left C (turn r) = turn (reordered-left C r)
 reordered-left C exchange = exchange
 reordered-left C (both r q) = both (reordered-left C r) (reordered-left C q)
 
+-- the strings in front stay
 pub reordered-right : (C : List Ends) {A B : List Ends} → Reordered A B → Reordered (C ++ A) (C ++ B)
 reordered-right [] r = r
 reordered-right (c ∷ C) r = keep (reordered-right C r)
 
+-- strings behind others may come before them
+pub swapped : (A B : List Ends) → Reordered (A ++ B) (B ++ A)
+swapped [] B = subst (Reordered B) (sym (append-nil B)) (unmoved B)
+swapped (s ∷ A) B = both (keep (swapped A B)) (move-in s B A)
+
 -- ─── what is kept ────────────────────────────────────────────────────────────
 
+-- there are as many strings
 pub length-reordered : {L M : List Ends} → Reordered L M → length L ≡ length M
 length-reordered empty = refl
 length-reordered (keep r) = ap suc (length-reordered r)
@@ -67,6 +69,7 @@ occurs-reordered (turn r) w = omega (arith, occurs-reordered r w)
 occurs-reordered exchange w = omega arith
 occurs-reordered (both r q) w = occurs-reordered r w ∙ occurs-reordered q w
 
+-- so it is odd or even as before
 pub oddly-reordered : {L M : List Ends} → Reordered L M → (w : ℕ) → oddly (weights L) w ≡ oddly (weights M) w
 unfolding oddly
 oddly-reordered r w = rw (occurs-reordered r w)
@@ -79,25 +82,29 @@ all-reordered P t (turn {a = a} {b = b} r) h = (t (a, b) (h .0), all-reordered P
 all-reordered P t exchange h = (h .1 .0, (h .0, h .1 .1))
 all-reordered P t (both r q) h = all-reordered P t q (all-reordered P t r h)
 
-pub turn-back : {L M : List Ends} → Reordered L M → Reordered M L
-turn-back empty = empty
-turn-back (keep r) = keep (turn-back r)
-turn-back (turn r) = turn (turn-back r)
-turn-back exchange = exchange
-turn-back (both r q) = both (turn-back q) (turn-back r)
+-- the first list has the strings of the second, too
+pub reordered-back : {L M : List Ends} → Reordered L M → Reordered M L
+reordered-back empty = empty
+reordered-back (keep r) = keep (reordered-back r)
+reordered-back (turn r) = turn (reordered-back r)
+reordered-back exchange = exchange
+reordered-back (both r q) = both (reordered-back q) (reordered-back r)
 
 -- ─── end weights of two lists, and of a string ───────────────────────────────
 
+-- a weight occurs in A ++ B as often as in A and in B together
 pub occurs-both : (w : ℕ) (A B : List Ends) → occurs w (weights (A ++ B)) ≡ occurs w (weights A) + occurs w (weights B)
 unfolding weights occurs
 occurs-both w [] B = omega arith
 occurs-both w (s ∷ A) B = omega (arith, occurs-both w A B)
 
+-- so does a name
 pub names-both : (c : ℕ → ℕ) (l : ℕ) (A B : List Ends) → occurs l (map c (weights (A ++ B))) ≡ occurs l (map c (weights A)) + occurs l (map c (weights B))
 unfolding weights occurs
 names-both c l [] B = omega arith
 names-both c l (s ∷ A) B = omega (arith, names-both c l A B)
 
+-- each string has two end weights
 pub length-weights : (L : List Ends) → length (weights L) ≡ 2 * length L
 unfolding weights
 length-weights [] = refl
@@ -107,6 +114,7 @@ length-weights (s ∷ L) = omega (arith, length-weights L)
 abbrev pub EndsBelow : ℕ → List Ends → Type 0
 EndsBelow n L = AllBelow n (weights L)
 
+-- and stay so in another order
 pub below-reordered : (n : ℕ) {L M : List Ends} → Reordered L M → EndsBelow n L → EndsBelow n M
 unfolding weights
 below-reordered n empty h = tt

@@ -10,6 +10,7 @@ use Rattle.lists.specs.Choose.{choose}
 use Rattle.lists.specs.Count.{agree}
 use Rattle.trails.specs.Strings.{Ends, front, back}
 use Rattle.trails.specs.Paths.{joins, before, pathsFrom, paths, pathCount}
+use Rattle.trails.specs.Walks.{Chain}
 use Rattle.lists.proofs.Agree.{agree-same}
 
 -- ─── the number of paths ─────────────────────────────────────────────────────
@@ -39,6 +40,12 @@ paths-next s t order =
     let b : breaks s (t ∷ order) ≡ (1 - agree (back s) (front t)) + breaks t order = unfold breaks in refl in
     omega (arith, paths-breaks s (t ∷ order), paths-breaks t order)
 
+-- one string is one path
+pub paths-one : (s : Ends) → pathCount (s ∷ []) ≡ 1
+unfolding paths pathsFrom
+paths-one s = refl
+
+-- no strings, no paths
 pub paths-none : pathCount [] ≡ 0
 unfolding paths
 paths-none = refl
@@ -60,11 +67,6 @@ paths-append (s ∷ A) B = omega (arith, breaks-append s A B, paths-breaks s A, 
 
 -- ─── chains ──────────────────────────────────────────────────────────────────
 
--- each string of L joins the one behind it; the first starts at x, and the last ends at y
-abbrev pub Chain : ℕ → List Ends → ℕ → Type 0
-Chain x [] y = x ≡ y
-Chain x (s ∷ L) y = (x ≡ front s) × Chain (back s) L y
-
 chain-breaks : (s : Ends) (L : List Ends) (y : ℕ) → Chain (back s) L y → breaks s L ≡ 0
 unfolding breaks
 chain-breaks s [] y h = refl
@@ -81,6 +83,21 @@ chain-one-path x (s ∷ L) y h = omega (arith, paths-breaks s L, chain-breaks s 
 unfoldable pub together : List (List Ends) → List Ends
 together [] = []
 together (path ∷ others) = path ++ together others
+
+-- the paths are the order, cut
+pub together-paths : (order : List Ends) → together (paths order) ≡ order
+unfolding paths together
+together-paths [] = refl
+together-paths (s ∷ order) = go s order
+  where
+    step : (j : Bool) (s : Ends) (ps : List (List Ends)) → together (before j s ps) ≡ s ∷ together ps
+    step true s [] = refl
+    step true s (p ∷ ps) = refl
+    step false s ps = refl
+
+    go : (s : Ends) (order : List Ends) → together (pathsFrom s order) ≡ s ∷ order
+    go s [] = refl
+    go s (t ∷ order) = step (joins s t) s (pathsFrom t order) ∙ ap (λ (L : List Ends). s ∷ L) (go t order)
 
 -- a path that ends at y: it has strings, and each joins the one behind it
 abbrev pub PathTo : ℕ → List Ends → Type 0

@@ -16,8 +16,9 @@ use Rattle.lists.proofs.Count.{length-count}
 use Rattle.trails.specs.Counting.{occurs}
 use Rattle.trails.specs.Strings.{Ends, turned}
 use Rattle.trails.specs.Places.{isTurned, signed, SignedPermutation, turnedBy, standing, arrangedTo, arranged}
+use Rattle.trails.specs.Walks.{Reordered, empty, keep, turn, exchange, both}
 use Rattle.trails.proofs.Counting.{occurs-at}
-use Rattle.trails.proofs.Orders.{Reordered, empty, keep, turn, exchange, both, move-in, reordered-left}
+use Rattle.trails.proofs.Orders.{move-in, reordered-left}
 use Rattle.trails.proofs.Arranged.{size-signed, turned-signed, standing-here, standing-other, arranged-by-string, permutation-if-used}
 
 -- ─── from places to an order ─────────────────────────────────────────────────
@@ -59,6 +60,7 @@ placed-to n (p ∷ places) [] l h = absurd (omega arith)
 placed-to n (p ∷ places) (x ∷ xs) l h =
     both (turned-first p x (placed-to n places xs (omega arith) (h .1))) (into-place p places x xs n (h .0 .0) (h .0 .1))
 
+-- signed places make an order and turning
 pub places-reordered : (places : List ℤ) (strings : List Ends) → SignedPermutation (length strings) places → Reordered strings (arranged turned places strings)
 places-reordered places strings s =
     rw (s .number) (placed-to (length strings) places strings (s .number) (s .range))
@@ -215,6 +217,7 @@ module _ (xs order : List Ends) (k : Located xs order) where
           let t : isTurned (getD placesOf i (pos 0)) ≡ k .turns i = unfold placeOf in (ap isTurned (place-at i l) ∙ turned-signed (suc (k .place i)) (k .turns i) (omega arith)) in
           rw (at-i, t) (k .string i l)
 
+-- and each order and turning is made by signed places
 pub reordered-places : (strings order : List Ends) → Reordered strings order
     → (places : List ℤ) × SignedPermutation (length strings) places × (arranged turned places strings ≡ order)
 reordered-places strings order r =

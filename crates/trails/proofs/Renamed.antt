@@ -30,6 +30,7 @@ module _ (g : ℕ → ℕ) (P : ℕ → Type 0) (apart : (v w : ℕ) → P v →
       go (yes e) = agree-same (g v) (g w) (ap g e) ∙ sym (agree-same v w e)
       go (no n) = agree-other (g v) (g w) (λ e. n (apart v w p q e)) ∙ sym (agree-other v w n)
 
+  -- an order has as many paths under the names
   pub paths-named : (L : List Ends) → All (λ s. P (front s) × P (back s)) L → pathCount (map (renamed g) L) ≡ pathCount L
   unfolding paths
   paths-named [] h = refl
@@ -42,9 +43,11 @@ module _ (g : ℕ → ℕ) (P : ℕ → Type 0) (apart : (v w : ℕ) → P v →
 -- ─── the least number ────────────────────────────────────────────────────────
 
 module _ {strings named : List Ends} (r : Renamed strings named) where
+  -- as many strings
   pub renamed-length : length strings ≡ length named
   renamed-length = ap length (r .is) ∙ length-map named (renamed (r .weight))
 
+  -- places make as many paths of the one as of the other
   pub renamed-paths : (places : List ℤ) → SignedPermutation (length named) places → pathCount (arranged turned places strings) ≡ pathCount (arranged turned places named)
   renamed-paths places s =
       ap (λ (L : List Ends). pathCount (arranged turned places L)) (r .is)
@@ -53,6 +56,7 @@ module _ {strings named : List Ends} (r : Renamed strings named) where
       (all-reordered (λ t. (1 ≤ occurs (front t) (weights named)) × (1 ≤ occurs (back t) (weights named))) (λ t p. (p .1, p .0)) (places-reordered places named s)
       (all-weights (λ v. 1 ≤ occurs v (weights named)) named (λ w h. h))))
 
+  -- so the least number of paths is the same
   pub renamed-least : least named ≡ least strings
   renamed-least = least-only strings (least named) (record { none-fewer = fewer; reached = reaches (one-reaches named) })
     where

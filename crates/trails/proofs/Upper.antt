@@ -4,32 +4,29 @@
 -- so each group has; and a group with an odd weight hangs on the hub, whose strings are used.
 use mathlib.Core.Path.{_≡_, refl, ap, sym, subst}
 use mathlib.Core.List.{List, [], _∷_, _++_, map, append-assoc}
-use Prim.Native.Nat.{ℕ, zero, suc, _+_, _*_, _/_, _%_, _≤_, _<_}
+use Prim.Native.Nat.{ℕ, zero, suc, _+_, _/_, _%_, _≤_, _<_}
 use native.Mathlib.Omega.{arith}
 use native.Mathlib.Decide.{ℕ-discrete, decLt}
 use lib.ListN.{length, length-append}
 use Rattle.lists.proofs.Every.{all-append, all-left, all-right}
-use Rattle.trails.specs.Counting.{occurs, oddly, sumBelow}
+use Rattle.trails.specs.Counting.{occurs, oddly}
 use Rattle.trails.specs.Strings.{Ends, front, weights}
 use Rattle.trails.specs.Paths.{pathCount}
+use Rattle.trails.specs.Hub.{reachedIf, reachedBy, groupsReached, Toured, spokes, limit, spoked, unspoked}
 use Rattle.trails.specs.Groups.{nameOf, oddMembers, evenGroup, countEvenGroups, evenGroups, oddWeights, least}
+use Rattle.trails.specs.Walks.{Reordered, both, Closed}
 use Rattle.lists.proofs.Agree.{agree-same}
 use Rattle.trails.proofs.Counting.{sum-mono, sum-at, occurs-map, occurs-map-not, oddly-le, above-all}
-use Rattle.trails.proofs.Orders.{Reordered, both, reordered-left, length-reordered, occurs-reordered, occurs-both, names-both}
+use Rattle.trails.proofs.Orders.{reordered-left, length-reordered, occurs-reordered, occurs-both, names-both}
 use Rattle.trails.proofs.Paths.{paths-append, chain-one-path}
 use Rattle.trails.proofs.Groups.{name-below, Carries, Carried, carried-group, carried-back, carried-all, carried-none}
 use Rattle.trails.proofs.EvenGroups.{even-is, no-odd-members}
 use Rattle.trails.proofs.Lower.{lower}
-use Rattle.trails.proofs.Walk.{AllEven, Closed, walked}
-use Rattle.trails.proofs.Hub.{spokes, limit, limit-fresh, spoked, odd-weights-even, spoked-hub, spoked-below, spoked-beyond, spoked-even, carried-spokes, unspoked, unspoked-append, unspoked-reordered, unspoked-own, unspoked-spoked, cut-chain}
+use Rattle.trails.proofs.Walk.{walked}
+use Rattle.trails.proofs.Hub.{limit-fresh, odd-weights-even, spoked-hub, spoked-below, spoked-beyond, spoked-even, carried-spokes}
+use Rattle.trails.proofs.Unspoked.{unspoked-append, unspoked-reordered, unspoked-own, unspoked-spoked, cut-chain}
 
 -- ─── the even groups that are reached ────────────────────────────────────────
-
--- 1 where both are positive, else 0
-abbrev pub reachedIf : ℕ → ℕ → ℕ
-reachedIf zero n = 0
-reachedIf (suc m) zero = 0
-reachedIf (suc m) (suc n) = 1
 
 reached-le : (m n : ℕ) → reachedIf m n ≤ m
 reached-le zero n = omega arith
@@ -51,28 +48,7 @@ reached-not : (m : ℕ) → reachedIf m 0 ≡ 0
 reached-not zero = refl
 reached-not (suc m) = refl
 
--- 1 for an all-even group l of the strings that has an end weight of Y, else 0
-abbrev pub reachedBy : List Ends → List Ends → ℕ → ℕ
-reachedBy strings Y l = reachedIf (evenGroup (limit strings) (nameOf strings) (weights strings) l) (occurs l (map (nameOf strings) (weights Y)))
-
--- the number of all-even groups of the strings that Y reaches
-abbrev pub groupsReached : List Ends → List Ends → ℕ
-groupsReached strings Y = sumBelow (limit strings) (reachedBy strings Y)
-
--- ─── the state between two walks ─────────────────────────────────────────────
-
--- The walk from the hub h and j later walks used the strings Y, spokes among them, and U are left.
-pub record Toured (h : ℕ) (strings : List Ends) (j : ℕ) (U Y : List Ends) : Type 0 where
-  pub all : Reordered (spoked h strings) (U ++ Y)
-  pub even : AllEven U
-  -- each weight has all of its strings used, or none
-  pub apart : (v : ℕ) → 1 ≤ occurs v (weights Y) → occurs v (weights U) ≡ 0
-  -- the spokes are used
-  pub hub-spent : occurs h (weights U) ≡ 0
-  -- O / 2 paths, and one for each later walk
-  pub few : 2 * pathCount (unspoked h Y) ≤ oddWeights strings + 2 * j
-  -- each later walk reached an all-even group of its own
-  pub own-groups : j ≤ groupsReached strings Y
+-- ─── the walks ───────────────────────────────────────────────────────────────
 
 -- the first walk, from the hub
 pub first-walk : {h : ℕ} {strings U Z : List Ends} → occurs h (weights strings) ≡ 0 → Closed h (spoked h strings) U Z → Toured h strings 0 U Z
@@ -154,6 +130,7 @@ module _ {h : ℕ} {strings : List Ends} {j : ℕ} {U Y : List Ends} (fresh : oc
   starts-new = occurs-map-not (nameOf strings) (nameOf strings s) (weights Y) (λ v l e. unspent v e (k .apart v l))
 
   module _ {R Z : List Ends} (t : Closed s U R Z) where
+    -- the walk has a string at its start
     pub walk-at-start : 1 ≤ occurs s (weights Z)
     walk-at-start = omega (arith, occurs-reordered (t .all) s, occurs-both s R Z, t .home)
 

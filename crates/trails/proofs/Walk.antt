@@ -13,9 +13,9 @@ use lib.ListN.{length}
 use Rattle.lists.specs.Count.{agree}
 use Rattle.trails.specs.Counting.{occurs}
 use Rattle.trails.specs.Strings.{Ends, front, back, weights}
+use Rattle.trails.specs.Walks.{AllEven, Closed, Reordered, keep, turn, exchange, both, Chain}
 use Rattle.lists.proofs.Agree.{agree-same, agree-other, agree-cases}
-use Rattle.trails.proofs.Orders.{Reordered, keep, turn, exchange, both, unmoved, move-in, reordered-left, reordered-right, length-reordered, occurs-reordered}
-use Rattle.trails.proofs.Paths.{Chain}
+use Rattle.trails.proofs.Orders.{unmoved, move-in, reordered-left, reordered-right, length-reordered, occurs-reordered}
 
 -- ─── a string at a weight ────────────────────────────────────────────────────
 
@@ -24,6 +24,7 @@ pub data Found (w : ℕ) (U : List Ends) : Type 0 where
   absent : occurs w (weights U) ≡ 0 → Found w U
   found : (b : ℕ) (R : List Ends) → Reordered U ((w, b) ∷ R) → Found w U
 
+-- there is none, or one is found
 pub find : (w : ℕ) (U : List Ends) → Found w U
 unfolding occurs weights
 find w [] = absent refl
@@ -42,10 +43,6 @@ abbrev pub Trail : ℕ → List Ends → ℕ → Type 0
 Trail x [] y = x ≡ y
 Trail x (s ∷ T) y = (back s ≡ y) × Trail x T (front s)
 
--- all weights have an even number of ends
-abbrev pub AllEven : List Ends → Type 0
-AllEven U = (v : ℕ) → occurs v (weights U) % 2 ≡ 0
-
 -- The walk began at s with the strings U₀ unused. Now U is unused, T leads from s to the weight w where the walk stands, and Z, given back, from z to s.
 pub record Walk (s : ℕ) (U₀ U T : List Ends) (w : ℕ) (Z : List Ends) (z : ℕ) : Type 0 where
   pub trail : Trail s T w
@@ -56,14 +53,6 @@ pub record Walk (s : ℕ) (U₀ U T : List Ends) (w : ℕ) (Z : List Ends) (z : 
   pub spent : (v : ℕ) → (v ≡ z → ⊥) → 1 ≤ occurs v (weights Z) → occurs v (weights U) ≡ 0
   -- each string is unused, in T or in Z, perhaps turned
   pub all : Reordered U₀ (U ++ (T ++ Z))
-
--- A closed walk from s: the chain Z came back to s; U is left, is even again, and touches Z nowhere.
-pub record Closed (s : ℕ) (U₀ U Z : List Ends) : Type 0 where
-  pub chain : Chain s Z s
-  pub even : AllEven U
-  pub spent : (v : ℕ) → 1 ≤ occurs v (weights Z) → occurs v (weights U) ≡ 0
-  pub home : occurs s (weights U) ≡ 0
-  pub all : Reordered U₀ (U ++ Z)
 
 -- ─── one lemma for each kind of step ─────────────────────────────────────────
 

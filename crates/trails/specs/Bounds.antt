@@ -8,7 +8,8 @@ use Rattle.trails.specs.Strings.{Ends, turned}
 use Rattle.trails.specs.Paths.{pathCount}
 use Rattle.trails.specs.Places.{SignedPermutation, arranged}
 
--- n is the least number of paths of the strings: every order and turning has at least n paths, and one has exactly n.
+-- n is the least number of paths of the strings: every order and turning has at least n paths, and one has exactly n. E + O / 2 is this number, and no other is
+-- (`least-paths`, `least-only` in proofs/Bounds).
 pub record LeastPaths (strings : List Ends) (n : ℕ) : Type 0 where
   pub none-fewer : (places : List ℤ) → SignedPermutation (length strings) places → n ≤ pathCount (arranged turned places strings)
   pub reached : (places : List ℤ) × SignedPermutation (length strings) places × (pathCount (arranged turned places strings) ≡ n)

@@ -14,7 +14,8 @@ pub data Joined (strings : List Ends) : ℕ → ℕ → Type 0 where
   behind : {w a b : ℕ} → Joined strings w b → List·Memᴰ (a, b) strings → Joined strings w a
 
 -- A name for the group of w: each string gives the group of its back the name of the group of its front.
--- Two weights have one name exactly if they are joined, and the name is itself a weight of the group (proofs/Groups).
+-- Two weights have one name exactly if they are joined (`joined-same-name`, `same-name-joined` in proofs/Groups), and the name is itself a weight of the group
+-- (`joined-name`).
 unfoldable pub nameOf : List Ends → ℕ → ℕ
 nameOf [] w = w
 nameOf (s ∷ strings) w =
@@ -48,7 +49,7 @@ unfoldable pub countOdd : ℕ → List ℕ → ℕ
 unfolding sumBelow oddly
 countOdd n ws = sumBelow n (oddly ws)
 
--- E: the groups whose weights all occur evenly often
+-- E: the groups whose weights all occur evenly often (`counted-group`, `group-counted` in proofs/EvenGroups)
 unfoldable pub evenGroups : List Ends → ℕ
 unfolding countEvenGroups above nameOf weights
 evenGroups strings = countEvenGroups (above (weights strings)) (nameOf strings) (weights strings)

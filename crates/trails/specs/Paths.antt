@@ -1,4 +1,4 @@
--- The paths of an order: the maximal chains of neighbouring strings that join at equal weights.
+-- The paths of an order: the maximal chains of neighbouring strings that join at equal weights (`together-paths`, `paths-maximal` in proofs/Paths).
 use mathlib.Core.Bool.{Bool, true, false}
 use mathlib.Core.List.{List, [], _∷_}
 use Prim.Native.Nat.{ℕ}

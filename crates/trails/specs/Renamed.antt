@@ -1,4 +1,4 @@
--- Strings whose end weights have other names.
+-- Inner: strings whose end weights have other names, as COVER's walks have vertices in place of weights.
 use mathlib.Core.Path.{_≡_}
 use mathlib.Core.List.{List, map}
 use Prim.Native.Nat.{ℕ, _≤_}

@@ -6,9 +6,11 @@ use Prim.Native.Nat.{ℕ}
 abbrev pub Ends : Type 0
 Ends = ℕ × ℕ
 
+-- the weight of the first k-mer
 abbrev pub front : Ends → ℕ
 front s = s .0
 
+-- the weight of the last k-mer
 abbrev pub back : Ends → ℕ
 back s = s .1
 

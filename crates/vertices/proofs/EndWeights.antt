@@ -15,9 +15,9 @@ use Rattle.collection.specs.Strings.{stringsFrom}
 use Rattle.collection.proofs.Judged.{long-cons}
 use Rattle.collection.proofs.Kmers.{kmers-next, Strings-left, strings-begin, Next, next-string, strings-on}
 use Rattle.trails.proofs.Orders.{length-weights}
-use Rattle.vertices.specs.Promises.{Strung}
+use Rattle.vertices.specs.Promises.{endsFrom, Strung}
 use Rattle.trails.specs.Strings.{Ends, weights}
-use Rattle.vertices.specs.EndWeights.{endsOf, endWeights, endsFrom}
+use Rattle.vertices.specs.EndWeights.{endsOf, endWeights}
 
 -- ─── from ends and weights alone ─────────────────────────────────────────────
 
@@ -44,21 +44,25 @@ ends-from k i before letters (e ∷ ends) ws h l =
     (λ j. (first-weight n ws (omega (arith, a .0)) (omega (arith, c, l)) j, last-weight n ws (omega (arith, a .0)) (omega (arith, c, l)) j))
     (ends-from k (suc i) e (drop (e - before) letters) ends (drop n ws) (a .1) (simp length-drop (omega (arith, c, l))))
 
+-- they are the end weights of the strings
 pub end-weights : (k : ℕ) (letters ends ws : List ℕ) → firstShort k 0 0 ends ≡ 0 → length ws ≡ length (kmers k ends) → endWeights k letters ends ws ≡ endsFrom k 0 ends ws
 unfolding endWeights
 end-weights k letters ends ws h l = ends-from k 0 0 letters ends ws h l
 
+-- a pair for each string
 pub length-ends : (k before : ℕ) (ends ws : List ℕ) → length (endsFrom k before ends ws) ≡ length ends
 unfolding endsFrom
 length-ends k before [] ws = refl
 length-ends k before (e ∷ ends) ws = ap suc (length-ends k e ends (drop (within k before e) ws))
 
+-- that is, two weights for each string
 pub length-keys : (k : ℕ) (ends ws : List ℕ) → length (weights (endsFrom k 0 ends ws)) ≡ 2 * length ends
 length-keys k ends ws = omega (arith, length-weights (endsFrom k 0 ends ws), length-ends k 0 ends ws)
 
 -- ─── one string more ─────────────────────────────────────────────────────────
 
 module _ (k before : ℕ) (ends ws : List ℕ) (i passed : ℕ) (l : i < length ends) where
+  -- the end weights of the next string, then those of the others
   pub ends-next : weights (endsFrom k before (drop i ends) (drop passed ws))
       ≡ getD ws passed 0 ∷ (getD ws (passed + (within k before (getD ends i 0) - 1)) 0
       ∷ weights (endsFrom k (getD ends i 0) (drop (i + 1) ends) (drop (passed + within k before (getD ends i 0)) ws)))
@@ -82,6 +86,7 @@ module _ (k before : ℕ) (ends ws : List ℕ) (i passed : ℕ) (l : i < length 
         length-count before (within k before (getD ends i 0)),
       )
 
+-- behind the last string there are none
 pub ends-end : (k before : ℕ) (ends ws : List ℕ) (i : ℕ) → length ends ≤ i → weights (endsFrom k before (drop i ends) ws) ≡ []
 unfolding endsFrom weights
 ends-end k before ends ws i l = ap (λ (L : List ℕ). weights (endsFrom k before L ws)) (drop-of-length-le ends l)
@@ -94,6 +99,7 @@ pub record Writing (k at : ℕ) (ends ws w₀ w : List ℕ) (before passed i : �
   pub left : passed + length (kmersFrom k before (drop i ends)) ≡ length ws
   pub storing : Storing (length w₀) w (put at (weights (endsFrom k 0 ends ws)) w₀) (weights (endsFrom k before (drop i ends) (drop passed ws))) (at + 2 * i)
 
+-- nothing is stored yet
 pub writing-start : (k at : ℕ) (ends ws w : List ℕ) → Strung k ends ws → at + 2 * length ends ≤ length w → Writing k at ends ws w w 0 0 0
 writing-start k at ends ws w s h =
     let e : at + 2 * 0 ≡ at = omega arith in
@@ -105,6 +111,7 @@ writing-start k at ends ws w s h =
 
 module _ {k at : ℕ} {ends ws w₀ w : List ℕ} {before passed i : ℕ} (g : Writing k at ends ws w₀ w before passed i) where
   module _ (l : i < length ends) (e : ℕ) (is : e ≡ getD ends i 0) where
+    -- the next string
     pub string-here : Next k (lastEnd 0 ends) before e
     string-here = rw is (next-string (g .walk) l)
 
@@ -121,12 +128,14 @@ module _ {k at : ℕ} {ends ws w₀ w : List ℕ} {before passed i : ℕ} (g : W
         let q : passed + within k before e - 1 ≡ passed + (within k before e - 1) = omega (arith, string-here .long) in
         rw (q, is) (restated (ends-next k before ends ws i passed l) (g .storing))
 
+    -- both entries are in the table
     pub first-inside : at + 2 * i < length w
     first-inside = inside next-two
 
     pub second-inside : at + 2 * i + 1 < length w
     second-inside = simp length-set at (inside (store next-two))
 
+    -- its end weights are stored
     pub writing-on : 1 ≤ k → Writing k at ends ws w₀ (set (set w (at + 2 * i) (getD ws passed 0)) (at + 2 * i + 1) (getD ws (passed + within k before e - 1) 0)) e (passed + within k before e) (i + 1)
     writing-on k1 =
         let q : at + 2 * (i + 1) ≡ at + 2 * i + 1 + 1 = omega arith in
@@ -136,5 +145,6 @@ module _ {k at : ℕ} {ends ws w₀ w : List ℕ} {before passed i : ℕ} (g : W
           storing = rw q (store (store next-two));
         }
 
+  -- behind the last string all end weights are stored
   pub writing-end : length ends ≤ i → w ≡ put at (weights (endsFrom k 0 ends ws)) w₀
   writing-end h = stored (restated (ends-end k before ends (drop passed ws) i h) (g .storing))

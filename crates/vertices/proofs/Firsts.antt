@@ -10,6 +10,7 @@ use Rattle.lists.specs.Choose.{choose}
 use Rattle.vertices.specs.Firsts.{firstOf}
 
 module _ (ks : ℕ → ℕ) where
+  -- it is not behind the place
   pub first-le : (q : ℕ) → firstOf ks q ≤ q
   unfolding firstOf
   first-le zero = omega arith
@@ -19,6 +20,7 @@ module _ (ks : ℕ → ℕ) where
       go true h = omega arith
       go false h = omega arith
 
+  -- it has the key
   pub first-key : (q : ℕ) → ks (firstOf ks q) ≡ ks q
   unfolding firstOf
   first-key zero = refl
@@ -28,6 +30,7 @@ module _ (ks : ℕ → ℕ) where
       go true e h = h ∙ sym (eqb-true (ks (suc q)) (ks q) e)
       go false e h = refl
 
+  -- it is the first of all places from it up to the place
   pub first-between : (q p : ℕ) → firstOf ks q ≤ p → p ≤ q → firstOf ks p ≡ firstOf ks q
   unfolding firstOf
   first-between zero p a b = let e : p ≡ 0 = omega arith in ap (firstOf ks) e
@@ -51,6 +54,7 @@ module _ (ks : ℕ → ℕ) where
         first-up p d (omega arith) (sym k)
         ∙ (sym (ap (λ (u : Bool). choose u (firstOf ks (p + d)) (suc (p + d))) (eq-eqb (ks (suc (p + d))) (ks (p + d)) (sym h ∙ sym k))) ∙ ap (firstOf ks) (sym z))
 
+    -- equal keys have one first place
     pub first-same : (p q : ℕ) → p < n → q < n → ks p ≡ ks q → firstOf ks p ≡ firstOf ks q
     first-same p q a b e = go (decLt q p)
       where

@@ -1,159 +1,44 @@
 -- The table that the stages leave is ready for the walks.
-use mathlib.Core.Path.{_≡_, refl, ap, ap₂, sym, _∙_, subst}
-use mathlib.Core.Logic.{_⊎_, inl, inr}
-use mathlib.Core.List.{List, [], _++_, map}
-use Prim.Native.Nat.{ℕ, _+_, _-_, _*_, _/_, _%_, _<_, _≤_}
+use mathlib.Core.Path.{_≡_, ap, ap₂, sym, _∙_, subst}
+use mathlib.Core.Logic.{inl, inr}
+use mathlib.Core.List.{List, [], _++_}
+use Prim.Native.Nat.{ℕ, _+_, _-_, _*_, _%_, _<_, _≤_}
 use native.Mathlib.Omega.{arith}
 use native.Mathlib.Decide.{decLt}
-use lib.ListN.{length, getD, drop, length-map, length-append, drop-of-length-le, List·getD-append, List·getD-eq-default}
-use lib.Seq.{ext-getD, getD-append-add}
+use lib.ListN.{length, getD, drop, length-append, drop-of-length-le, List·getD-append, List·getD-eq-default}
+use lib.Seq.{getD-append-add}
 use Rattle.lists.specs.Every.{All}
 use Rattle.lists.specs.Regions.{part, Apart}
 use Rattle.lists.proofs.Every.{at-all}
-use Rattle.lists.proofs.Mapped.{map-at-below}
 use Rattle.lists.proofs.Regions.{part-length, part-add, only-part}
 use Rattle.trails.specs.Counting.{occurs, oddly}
 use Rattle.trails.specs.Strings.{Ends, weights}
 use Rattle.trails.specs.Renamed.{renamed, Renamed}
-use Rattle.trails.proofs.Counting.{AllBelow, occurs-where, occurs-beyond}
-use Rattle.trails.proofs.Hub.{spokes, spoked, spokesTo, spoked-even, spoked-listed}
-use Rattle.trails.proofs.Orders.{Reordered, both, occurs-reordered}
-use Rattle.trails.proofs.Amounts.{swapped}
-use Rattle.trails.proofs.Walk.{AllEven}
+use Rattle.trails.specs.Hub.{spoked}
+use Rattle.trails.specs.Walks.{Reordered, both, AllEven}
+use Rattle.trails.proofs.Counting.{AllBelow, occurs-beyond}
+use Rattle.trails.proofs.Hub.{spokesTo, spoked-even, spoked-listed}
+use Rattle.trails.proofs.Orders.{occurs-reordered, swapped}
 use Rattle.tours.specs.Layout.{Fits, Tables, tables}
 use Rattle.tours.specs.Halves.{near, unused, numbered}
-use Rattle.tours.specs.Rows.{InRow, Graph, Cursors}
+use Rattle.tours.specs.Rows.{Graph, Cursors}
 use Rattle.tours.specs.States.{left, strings, Begun}
-use Rattle.tours.proofs.Halves.{near-string, near-hub}
+use Rattle.tours.proofs.Halves.{near-string}
 use Rattle.tours.proofs.Tours.{hub-fresh}
-use Rattle.vertices.specs.EndWeights.{endsFrom}
 use Rattle.vertices.specs.Firsts.{firstOf, keyed}
 use Rattle.vertices.specs.Ladder.{ladder}
-use Rattle.vertices.specs.Promises.{keysIn, orderIn, vertsIn, flagsIn, Rising, Ordered, Named, Blank, Marked, LaidOut}
-use Rattle.vertices.proofs.Firsts.{first-le, first-key, first-between, first-same}
+use Rattle.vertices.specs.Promises.{endsFrom, keysIn, orderIn, vertsIn, flagsIn, Rising, Ordered, Named, Blank, Marked, LaidOut}
+use Rattle.vertices.proofs.LaidRows.{vert-low, laid-graph}
+use Rattle.vertices.proofs.Names.{weights-numbered, laid-renamed}
 use Rattle.vertices.proofs.Ladder.{length-ladder, ladder-at}
-use Rattle.vertices.proofs.Ordering.{inOrder, order-length, order-rising, order-place}
-use Rattle.vertices.proofs.Spokes.{unused-append, unused-none, unused-few, weights-numbered, weights-same, weights-renamed, zeros, unused-spokes, zeros-odd}
-
--- ─── the rows ────────────────────────────────────────────────────────────────
-
--- Each end in the order has the first place with its weight as its vertex, and behind the order stands the hub's row.
-module _ (m : ℕ) (keys verts : List ℕ) (named : (q : ℕ) → q < 2 * m → getD verts (getD (inOrder m keys) q 0) 0 ≡ firstOf (keyed keys (inOrder m keys)) q) where
-  -- the key at each place
-  abbrev at-place : ℕ → ℕ
-  at-place = keyed keys (inOrder m keys)
-
-  abbrev in-rows : List ℕ
-  in-rows = inOrder m keys ++ ladder (2 * m) 2 (2 * m)
-
-  row-end : (q : ℕ) → q < 2 * m → getD in-rows q 0 ≡ getD (inOrder m keys) q 0
-  row-end q l = List·getD-append (inOrder m keys) (ladder (2 * m) 2 (2 * m)) 0 q (omega (arith, order-length m keys))
-
-  row-hub : (j : ℕ) → j < 2 * m → getD in-rows (2 * m + j) 0 ≡ 2 * m + j * 2
-  row-hub j l =
-      let q : 2 * m + j ≡ length (inOrder m keys) + j = omega (arith, order-length m keys) in
-      ap (λ (i : ℕ). getD (inOrder m keys ++ ladder (2 * m) 2 (2 * m)) i 0) q
-      ∙ (getD-append-add (inOrder m keys) (ladder (2 * m) 2 (2 * m)) j 0 ∙ ladder-at (2 * m) 2 (2 * m) j l)
-
-  -- the vertex of an end, by its place
-  pub vert-is : (c q : ℕ) → q < 2 * m → getD (inOrder m keys) q 0 ≡ c → getD verts c 0 ≡ firstOf at-place q
-  vert-is c q l e = ap (λ (x : ℕ). getD verts x 0) (sym e) ∙ named q l
-
-  pub vert-low : (c : ℕ) → c < 2 * m → getD verts c 0 < 2 * m
-  vert-low c l = let p = order-place m keys c l in omega (arith, p .1, vert-is c (p .0) (p .1) (p .2), first-le at-place (p .0))
-
-  -- an end in its row
-  end-row : (c : ℕ) → c < 2 * m → InRow (near m verts) in-rows (4 * m) c
-  end-row c l =
-      let p = order-place m keys c l in
-      let v : near m verts c ≡ firstOf at-place (p .0) = near-string m verts c l ∙ vert-is c (p .0) (p .1) (p .2) in
-      record {
-        at = p .0;
-        inside = omega (arith, p .1);
-        is = row-end (p .0) (p .1) ∙ p .2;
-        behind = omega (arith, first-le at-place (p .0));
-        one-row = λ i a b.
-            let il : i < 2 * m = omega (arith, p .1) in
-            ap (near m verts) (row-end i il)
-            ∙ (near-string m verts (getD (inOrder m keys) i 0) (order-rising m keys .low i il)
-            ∙ (vert-is (getD (inOrder m keys) i 0) i il refl ∙ (first-between at-place (p .0) i (omega (arith, a)) b ∙ sym v)));
-      }
-
-  -- a spoke in the hub's row
-  hub-row : (c : ℕ) → 2 * m ≤ c → c < 6 * m → c % 2 ≡ 0 → InRow (near m verts) in-rows (4 * m) c
-  hub-row c a b e =
-      let h = near-hub m verts c a e in
-      let q : 2 * m + (c / 2 - m) * 2 ≡ c = omega arith in
-      record {
-        at = 2 * m + (c / 2 - m);
-        inside = omega arith;
-        is = row-hub (c / 2 - m) (omega arith) ∙ q;
-        behind = omega (arith, h);
-        one-row = λ i u v. in-hub (i - 2 * m) (omega arith) i (omega (arith, u, h)) ∙ sym h;
-      }
-    where
-      in-hub : (j : ℕ) → j < 2 * m → (i : ℕ) → i ≡ 2 * m + j → near m verts (getD in-rows i 0) ≡ 2 * m
-      in-hub j l i e = ap (λ (x : ℕ). near m verts (getD in-rows x 0)) e ∙ (ap (near m verts) (row-hub j l) ∙ near-hub m verts (2 * m + j * 2) (omega arith) (omega arith))
-
-  pub laid-graph : Graph m verts (inOrder m keys ++ ladder (2 * m) 2 (2 * m))
-  laid-graph = record {
-    verts-low = vert-low;
-    rows-low = λ q l. low q l (decLt q (2 * m));
-    in-row = λ c l d. row c l d (decLt c (2 * m));
-  }
-    where
-      low : (q : ℕ) → q < 4 * m → Dec (q < 2 * m) → getD in-rows q 0 < 6 * m
-      low q l (yes p) = rw (row-end q p) (omega (arith, order-rising m keys .low q p))
-      low q l (no p) = let e : q ≡ 2 * m + (q - 2 * m) = omega arith in omega (arith, ap (λ (x : ℕ). getD in-rows x 0) e, row-hub (q - 2 * m) (omega arith))
-
-      row : (c : ℕ) → c < 6 * m → (c < 2 * m) ⊎ (c % 2 ≡ 0) → Dec (c < 2 * m) → InRow (near m verts) in-rows (4 * m) c
-      row c l d (yes p) = end-row c p
-      row c l (inl d) (no p) = absurd (p d)
-      row c l (inr d) (no p) = hub-row c (omega arith) l d
-
-  -- ─── vertices as names of weights ──────────────────────────────────────────
-
-  module _ (lk : length keys ≡ 2 * m) (lv : length verts ≡ 2 * m) where
-    keys-by-vertex : keys ≡ map at-place verts
-    keys-by-vertex =
-        ext-getD 0 keys (map at-place verts) (lk ∙ sym (length-map verts at-place ∙ lv)) (λ c b. each c (omega arith))
-      where
-        each : (c : ℕ) → c < 2 * m → getD keys c 0 ≡ getD (map at-place verts) c 0
-        each c l =
-            let p = order-place m keys c l in
-            ap (λ (x : ℕ). getD keys x 0) (sym (p .2))
-            ∙ (sym (first-key at-place (p .0))
-            ∙ (sym (ap at-place (vert-is c (p .0) (p .1) (p .2))) ∙ sym (map-at-below at-place 0 0 verts c (omega (arith, lv)))))
-
-    pub vertices-apart : (v w : ℕ) → 1 ≤ occurs v verts → 1 ≤ occurs w verts → at-place v ≡ at-place w → v ≡ w
-    vertices-apart v w a b e =
-        let c = occurs-where v verts a in
-        let d = occurs-where w verts b in
-        let p = order-place m keys (c .0) (omega (arith, c .1, lv)) in
-        let q = order-place m keys (d .0) (omega (arith, d .1, lv)) in
-        let vp : v ≡ firstOf at-place (p .0) = sym (c .2) ∙ vert-is (c .0) (p .0) (p .1) (p .2) in
-        let wq : w ≡ firstOf at-place (q .0) = sym (d .2) ∙ vert-is (d .0) (q .0) (q .1) (q .2) in
-        vp
-        ∙ (first-same at-place (2 * m) rises (p .0) (q .0) (p .1) (q .1)
-        (sym (first-key at-place (p .0)) ∙ (sym (ap at-place vp) ∙ (e ∙ (ap at-place wq ∙ first-key at-place (q .0))))) ∙ sym wq)
-      where
-        rises : (p q : ℕ) → p ≤ q → q < 2 * m → at-place p ≤ at-place q
-        rises = order-rising m keys .rises
-
-    pub laid-renamed : (L : List Ends) → weights L ≡ keys → Renamed L (numbered (near m verts) 0 m)
-    laid-renamed L e = record {
-      weight = at-place;
-      is = weights-same L (map (renamed at-place) (numbered (near m verts) 0 m)) (e ∙ (keys-by-vertex ∙ sym (weights-renamed at-place (numbered (near m verts) 0 m) ∙ ap (map at-place) ws)));
-      apart = λ v w a b q. vertices-apart v w (rw ws at a) (rw ws at b) q;
-    }
-      where
-        ws : weights (numbered (near m verts) 0 m) ≡ verts
-        ws = weights-numbered (near m verts) m verts lv (λ c l. near-string m verts c l)
+use Rattle.vertices.proofs.Ordering.{inOrder, order-rising}
+use Rattle.vertices.proofs.Spokes.{unused-append, unused-none, unused-few, zeros, unused-spokes, zeros-odd}
 
 -- ─── the table ───────────────────────────────────────────────────────────────
 
 -- The regions hold these lists: the vertices, the flags of strings and of spokes, the rows, and the cursors at the starts of the rows.
 module _ (m : ℕ) (keys verts flags stack : List ℕ) where
+  -- the tables with these regions
   abbrev pub laid-tables : Tables
   laid-tables = record {
     verts = verts;
@@ -167,10 +52,13 @@ module _ (m : ℕ) (keys verts flags stack : List ℕ) (some : 1 ≤ m)
     (named : (q : ℕ) → q < 2 * m → getD verts (getD (inOrder m keys) q 0) 0 ≡ firstOf (keyed keys (inOrder m keys)) q)
     (lv : length verts ≡ 2 * m) (lf : length flags ≡ 2 * m) (ls : length stack ≡ 3 * m)
     (odd : (x : ℕ) → x < 2 * m → (getD flags x 0 + occurs x verts) % 2 ≡ 1) (low : (x : ℕ) → x < 2 * m → getD flags x 0 ≤ 1) where
+  abbrev laid : Tables
+  laid = laid-tables m keys verts flags stack
+
   graph : Graph m verts (inOrder m keys ++ ladder (2 * m) 2 (2 * m))
   graph = laid-graph m keys verts named
 
-  string-ends : weights (strings m (laid-tables m keys verts flags stack)) ≡ verts
+  string-ends : weights (strings m laid) ≡ verts
   string-ends = weights-numbered (near m verts) m verts lv (λ c l. near-string m verts c l)
 
   used-size : length (ladder 0 0 m ++ flags) ≡ 3 * m
@@ -191,7 +79,7 @@ module _ (m : ℕ) (keys verts flags stack : List ℕ) (some : 1 ≤ m)
       go (no p) (no d) = let l : length (ladder 0 0 m ++ flags) ≤ e = omega (arith, used-size) in rw (List·getD-eq-default (ladder 0 0 m ++ flags) 0 l) (omega arith)
 
   -- what is unused: the strings, and the spokes to odd vertices
-  left-is : left m (laid-tables m keys verts flags stack) ≡ strings m (laid-tables m keys verts flags stack) ++ spokesTo (2 * m) (zeros 0 flags)
+  left-is : left m laid ≡ strings m laid ++ spokesTo (2 * m) (zeros 0 flags)
   left-is =
       unused-append (near m verts) 0 (ladder 0 0 m) flags
       ∙ ap₂ (λ (A B : List Ends). A ++ B) (unused-none (near m verts) 0 m) (ap (λ (e : ℕ). unused (near m verts) e flags) here ∙ unused-spokes m verts 0 flags)
@@ -199,26 +87,27 @@ module _ (m : ℕ) (keys verts flags stack : List ℕ) (some : 1 ≤ m)
       here : 0 + length (ladder 0 0 m) ≡ m + 0
       here = omega (arith, length-ladder 0 0 m)
 
-  odd-listed : (x : ℕ) → occurs x (zeros 0 flags) ≡ oddly (weights (strings m (laid-tables m keys verts flags stack))) x
+  odd-listed : (x : ℕ) → occurs x (zeros 0 flags) ≡ oddly (weights (strings m laid)) x
   odd-listed x =
       zeros-odd (2 * m) verts flags lf odd low (λ y l. occurs-beyond (2 * m) y verts all-below l) x ∙ ap (λ (ws : List ℕ). oddly ws x) (sym string-ends)
     where
       all-below : AllBelow (2 * m) verts
       all-below = at-all (λ v. v < 2 * m) 0 verts (λ c l. graph .verts-low c (omega (arith, lv)))
 
-  spokes-are : Reordered (spoked (2 * m) (strings m (laid-tables m keys verts flags stack))) (left m (laid-tables m keys verts flags stack))
+  spokes-are : Reordered (spoked (2 * m) (strings m laid)) (left m laid)
   spokes-are =
-      subst (Reordered (spoked (2 * m) (strings m (laid-tables m keys verts flags stack)))) (sym left-is)
-      (both (spoked-listed (2 * m) (strings m (laid-tables m keys verts flags stack)) (zeros 0 flags) odd-listed) (swapped (spokesTo (2 * m) (zeros 0 flags)) (strings m (laid-tables m keys verts flags stack))))
+      subst (Reordered (spoked (2 * m) (strings m laid))) (sym left-is)
+      (both (spoked-listed (2 * m) (strings m laid) (zeros 0 flags) odd-listed) (swapped (spokesTo (2 * m) (zeros 0 flags)) (strings m laid)))
 
-  all-even : AllEven (left m (laid-tables m keys verts flags stack))
-  all-even v = omega (arith, occurs-reordered spokes-are v, spoked-even (2 * m) (strings m (laid-tables m keys verts flags stack)) (hub-fresh m (laid-tables m keys verts flags stack) graph) v)
+  all-even : AllEven (left m laid)
+  all-even v = omega (arith, occurs-reordered spokes-are v, spoked-even (2 * m) (strings m laid) (hub-fresh m laid graph) v)
 
-  at-starts : Cursors m (laid-tables m keys verts flags stack)
+  at-starts : Cursors m laid
   at-starts v l =
       let e : getD (ladder 0 1 (3 * m)) v 0 ≡ v = ladder-at 0 1 (3 * m) v (omega arith) ∙ omega arith in
       rw e (record { low = omega arith; high = omega arith; passed = record { all-used = λ q a b z. omega arith } })
 
+  -- a walk can start
   pub laid-begun : Begun m (laid-tables m keys verts flags stack)
   laid-begun = record {
     ready = record {
@@ -312,6 +201,7 @@ module _ {m : ℕ} {keys w₁ w₂ w₃ w₄ : List ℕ} (f : Fits m w₁) (lk :
       (part-length (3 * m) (2 * m) w₄ (omega (arith, size₄))) (part-length (12 * m) (3 * m) w₄ (omega (arith, size₄)))
       (subst (λ (vs : List ℕ). (x : ℕ) → x < 2 * m → (getD (flagsIn m w₄) x 0 + occurs x vs) % 2 ≡ 1) (b .verts) (d .odd)) (d .flags))
 
+  -- what the four stages leave
   pub stages-laid : (k : ℕ) (ends ws : List ℕ) → weights (endsFrom k 0 ends ws) ≡ keys → LaidOut k m ends ws w₄
   stages-laid k ends ws e = record {
     begun = stages-begun;

@@ -7,4 +7,6 @@ pub mod Naming
 pub mod Marking
 pub mod Blanks
 pub mod Spokes
+pub mod LaidRows
+pub mod Names
 pub mod LaidOut

@@ -35,6 +35,7 @@ pub record Marking (m : ℕ) (w₀ w : List ℕ) (i : ℕ) : Type 0 where
   pub odd : (x : ℕ) → x < 2 * m → (getD (flagsIn m w) x 0 + occurs x (take i (vertsIn m w₀))) % 2 ≡ 1
   pub flags : (x : ℕ) → x < 2 * m → getD (flagsIn m w) x 0 ≤ 1
 
+-- no end has turned a flag yet
 pub marking-start : (m : ℕ) (w : List ℕ) → flagsIn m w ≡ ladder 1 0 (2 * m) → Marking m w w 0
 marking-start m w e = record {
   rest = among-refl ((3 * m, 2 * m) ∷ []) w;
@@ -50,9 +51,11 @@ module _ {m : ℕ} {w₀ w : List ℕ} {i : ℕ} (f : Fits m w₀) (low : All (�
   verts-length : length (vertsIn m w₀) ≡ 2 * m
   verts-length = part-length 0 (2 * m) w₀ (omega (arith, f .size))
 
+  -- the vertex of the next end
   pub vertex-read : getD w i 0 ≡ getD (vertsIn m w₀) i 0
   vertex-read = let e : 0 + i ≡ i = omega arith in rw e at (only-at (3 * m) (2 * m) w₀ w (g .rest) 0 (2 * m) (inl (omega arith)) i 0 l)
 
+  -- that vertex is below 2m
   pub vertex-low : getD w i 0 < 2 * m
   vertex-low = rw vertex-read (all-at (λ x. x < 2 * m) (vertsIn m w₀) low i 0 (omega (arith, verts-length)))
 
@@ -60,6 +63,7 @@ module _ {m : ℕ} {w₀ w : List ℕ} {i : ℕ} (f : Fits m w₀) (low : All (�
     v-low : v < 2 * m
     v-low = omega (arith, vertex-low)
 
+    -- its flag is 0 or 1
     pub flag-low : getD w (3 * m + v) 0 ≤ 1
     flag-low = rw (part-at (3 * m) (2 * m) w v 0 v-low) at (g .flags v v-low)
 
@@ -93,6 +97,7 @@ module _ {m : ℕ} {w₀ w : List ℕ} {i : ℕ} (f : Fits m w₀) (low : All (�
           g .flags x b,
         )
 
+    -- the next end turns it
     pub marking-on : Marking m w₀ (set w (3 * m + v) (1 - getD w (3 * m + v) 0)) (i + 1)
     marking-on = record {
       rest = only-set (3 * m) (2 * m) w₀ w (g .rest) v (1 - getD w (3 * m + v) 0) v-low;
@@ -101,6 +106,7 @@ module _ {m : ℕ} {w₀ w : List ℕ} {i : ℕ} (f : Fits m w₀) (low : All (�
       flags = λ x b. rw (part-set (3 * m) (2 * m) w v (1 - getD w (3 * m + v) 0) v-low) (flag-turned x b (ℕ-discrete x v) .1);
     }
 
+-- all ends have turned their flags
 pub marking-end : {m : ℕ} {w₀ w : List ℕ} {i : ℕ} → Fits m w₀ → Marking m w₀ w i → 2 * m ≤ i → Marked m w₀ w
 marking-end {m} {w₀} {w} {i} f g h = record {
   odd = λ x l. rw (take-all i (vertsIn m w₀) (omega (arith, part-length 0 (2 * m) w₀ (omega (arith, f .size))))) at (g .odd x l);

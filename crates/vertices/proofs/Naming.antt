@@ -30,6 +30,7 @@ pub record Naming (m : ℕ) (w₀ w : List ℕ) (v before q : ℕ) : Type 0 wher
   pub vertex : v ≡ lastFirst (keyed (keysIn m w₀) (orderIn m w₀)) q
   pub key : (p : ℕ) → q ≡ suc p → before ≡ keyed (keysIn m w₀) (orderIn m w₀) p
 
+-- no place is done yet
 pub naming-start : (m : ℕ) (w : List ℕ) → Naming m w w 0 0 0
 naming-start m w = record {
   rest = among-refl ((0, 2 * m) ∷ []) w;
@@ -49,13 +50,15 @@ first-is ks zero v before a b = go (eqb (ks 0) before)
 first-is ks (suc q) v before a b = rw (a, b q refl)
 
 module _ {m : ℕ} {w₀ w : List ℕ} {v before q : ℕ} (f : Fits m w₀) (r : Rising m (keysIn m w₀) (orderIn m w₀)) (g : Naming m w₀ w v before q) (l : q < 2 * m) where
-  -- the end at place q, and its weight
+  -- the end at place q
   pub order-read : getD w (5 * m + q) 0 ≡ getD (orderIn m w₀) q 0
   order-read = only-at 0 (2 * m) w₀ w (g .rest) (5 * m) (2 * m) (inr (omega arith)) q 0 l
 
+  -- which is one of the ends
   pub order-low : getD w (5 * m + q) 0 < 2 * m
   order-low = rw order-read (r .low q l)
 
+  -- the weight there
   pub key-read : (c : ℕ) → c ≡ getD w (5 * m + q) 0 → getD w (12 * m + c) 0 ≡ keyed (keysIn m w₀) (orderIn m w₀) q
   key-read c e =
       only-at 0 (2 * m) w₀ w (g .rest) (12 * m) (2 * m) (inr (omega arith)) c 0 (omega (arith, order-low))
@@ -71,6 +74,7 @@ module _ {m : ℕ} {w₀ w : List ℕ} {v before q : ℕ} (f : Fits m w₀) (r :
     c-low : c < 2 * m
     c-low = omega (arith, order-low)
 
+    -- the vertex is not behind the place
     pub named-low : u ≤ q
     named-low = rw now-first (first-le (keyed (keysIn m w₀) (orderIn m w₀)) q)
 
@@ -90,6 +94,7 @@ module _ {m : ℕ} {w₀ w : List ℕ} {v before q : ℕ} (f : Fits m w₀) (r :
     done-now p b (no e) (yes i) = absurd (e (ap (λ (x : ℕ). getD (orderIn m w₀) x 0) i ∙ (sym order-read ∙ sym is)))
     done-now p b (no e) (no i) = rw (stored, getD-set-other (vertsIn m w) c (getD (orderIn m w₀) p 0) u 0 e) (g .done p (omega arith))
 
+    -- the end at place q gets its vertex
     pub naming-on : Naming m w₀ (set w c u) u (getD w (12 * m + c) 0) (q + 1)
     naming-on = record {
       rest = let e : 0 + c ≡ c = omega arith in subst (λ (i : ℕ). Only 0 (2 * m) w₀ (set w i u)) e (only-set 0 (2 * m) w₀ w (g .rest) c u c-low);
@@ -99,5 +104,6 @@ module _ {m : ℕ} {w₀ w : List ℕ} {v before q : ℕ} (f : Fits m w₀) (r :
       key = λ p e. let i : q ≡ p = omega arith in key-read c is ∙ ap (keyed (keysIn m w₀) (orderIn m w₀)) i;
     }
 
+-- all ends have got it
 pub naming-end : {m : ℕ} {w₀ w : List ℕ} {v before q : ℕ} → Naming m w₀ w v before q → 2 * m ≤ q → Named m (keysIn m w₀) (orderIn m w₀) w₀ w
 naming-end g h = record { vertex = λ p l. g .done p (omega arith); rest = g .rest }

@@ -1,24 +1,22 @@
 -- What is unused before the walks: the strings, and the spokes to the vertices that are met oddly often.
-use mathlib.Core.Path.{_≡_, refl, ap, ap₂, sym, _∙_}
-use mathlib.Core.List.{List, [], _∷_, _++_, map}
+use mathlib.Core.Path.{_≡_, refl, ap, ap₂, _∙_}
+use mathlib.Core.List.{List, [], _∷_, _++_}
 use Prim.Native.Nat.{ℕ, zero, suc, _+_, _-_, _*_, _%_, _<_, _≤_}
 use native.Mathlib.Omega.{arith}
 use native.Mathlib.Decide.{decLt}
 use lib.ListN.{length, getD}
-use lib.Seq.{ext-getD}
 use Rattle.trails.specs.Counting.{occurs, oddly}
-use Rattle.trails.specs.Strings.{Ends, front, back, weights}
-use Rattle.trails.specs.Renamed.{renamed}
+use Rattle.trails.specs.Strings.{Ends}
 use Rattle.lists.proofs.Agree.{agree-same, agree-other}
 use Rattle.trails.proofs.Hub.{spokesTo}
-use Rattle.trails.proofs.Orders.{length-weights}
 use Rattle.tours.specs.Halves.{near, unused, numbered}
-use Rattle.tours.proofs.Halves.{near-hub, near-spoke, length-numbered}
+use Rattle.tours.proofs.Halves.{near-hub, near-spoke}
 use Rattle.vertices.specs.Ladder.{ladder}
 
 -- ─── the strings ─────────────────────────────────────────────────────────────
 
 module _ (f : ℕ → ℕ) where
+  -- of each part by itself
   pub unused-append : (e : ℕ) (A B : List ℕ) → unused f e (A ++ B) ≡ unused f e A ++ unused f (e + length A) B
   unfolding unused
   unused-append e [] B = let q : e ≡ e + 0 = omega arith in ap (λ (n : ℕ). unused f n B) q
@@ -29,49 +27,18 @@ module _ (f : ℕ → ℕ) where
       let q : suc e + length A ≡ e + suc (length A) = omega arith in
       unused-append (suc e) A B ∙ ap (λ (n : ℕ). unused f (suc e) A ++ unused f n B) q
 
+  -- where no flag is set, all are unused
   pub unused-none : (e n : ℕ) → unused f e (ladder 0 0 n) ≡ numbered f e n
   unfolding unused ladder numbered
   unused-none e zero = refl
   unused-none e (suc n) = ap (λ (L : List Ends). (f (2 * e), f (2 * e + 1)) ∷ L) (unused-none (suc e) n)
 
+  -- no more than there are flags
   pub unused-few : (e : ℕ) (flags : List ℕ) → length (unused f e flags) ≤ length flags
   unfolding unused
   unused-few e [] = omega arith
   unused-few e (zero ∷ flags) = omega (arith, unused-few (suc e) flags)
   unused-few e (suc n ∷ flags) = omega (arith, unused-few (suc e) flags)
-
-  weights-at : (e n i : ℕ) → i < 2 * n → getD (weights (numbered f e n)) i 0 ≡ f (2 * e + i)
-  unfolding numbered weights
-  weights-at e zero i l = absurd (omega arith)
-  weights-at e (suc n) zero l = let q : 2 * e ≡ 2 * e + 0 = omega arith in ap f q
-  weights-at e (suc n) (suc zero) l = refl
-  weights-at e (suc n) (suc (suc i)) l = let q : 2 * suc e + i ≡ 2 * e + suc (suc i) = omega arith in weights-at (suc e) n i (omega arith) ∙ ap f q
-
-  -- the ends of all strings by their vertices
-  pub weights-numbered : (n : ℕ) (vs : List ℕ) → length vs ≡ 2 * n → ((c : ℕ) → c < 2 * n → f c ≡ getD vs c 0) → weights (numbered f 0 n) ≡ vs
-  weights-numbered n vs l h =
-      ext-getD 0 (weights (numbered f 0 n)) vs (size ∙ sym l)
-      (λ i b. let q : 2 * 0 + i ≡ i = omega arith in weights-at 0 n i (omega (arith, size)) ∙ (ap f q ∙ h i (omega (arith, size))))
-    where
-      size : length (weights (numbered f 0 n)) ≡ 2 * n
-      size = omega (arith, length-weights (numbered f 0 n), length-numbered f 0 n)
-
--- strings are known by all their ends
-pub weights-same : (L M : List Ends) → weights L ≡ weights M → L ≡ M
-unfolding weights
-weights-same [] [] e = refl
-weights-same [] (s ∷ M) e = absurd (omega (arith, ap length e))
-weights-same (s ∷ L) [] e = absurd (omega (arith, ap length e))
-weights-same (s ∷ L) (t ∷ M) e =
-    let a : front s ≡ front t = cc in
-    let b : back s ≡ back t = cc in
-    let r : weights L ≡ weights M = cc in
-    ap₂ (λ (x : Ends) (X : List Ends). x ∷ X) (λ j. (a j, b j)) (weights-same L M r)
-
-pub weights-renamed : (g : ℕ → ℕ) (L : List Ends) → weights (map (renamed g) L) ≡ map g (weights L)
-unfolding weights
-weights-renamed g [] = refl
-weights-renamed g (s ∷ L) = ap (λ (X : List ℕ). g (front s) ∷ (g (back s) ∷ X)) (weights-renamed g L)
 
 -- ─── the spokes ──────────────────────────────────────────────────────────────
 
@@ -81,6 +48,7 @@ zeros v [] = []
 zeros v (zero ∷ flags) = v ∷ zeros (suc v) flags
 zeros v (suc n ∷ flags) = zeros (suc v) flags
 
+-- the unused spokes, by their vertices
 pub unused-spokes : (m : ℕ) (verts : List ℕ) (v : ℕ) (flags : List ℕ) → unused (near m verts) (m + v) flags ≡ spokesTo (2 * m) (zeros v flags)
 unfolding unused zeros
 unused-spokes m verts v [] = refl

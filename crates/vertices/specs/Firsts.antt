@@ -1,4 +1,4 @@
--- Vertices: ends of one weight stand side by side in the order of weights, and the place of the first of them is their vertex.
+-- Inner: vertices. Ends of one weight stand side by side in the order of weights, and the place of the first of them is their vertex.
 use mathlib.Core.List.{List}
 use Prim.Native.Nat.{ℕ, zero, suc}
 use lib.Dec.{eqb}

@@ -1,4 +1,4 @@
--- Numbers at equal steps.
+-- Inner: numbers at equal steps.
 use mathlib.Core.List.{List, [], _∷_}
 use Prim.Native.Nat.{ℕ, zero, suc, _+_}
 

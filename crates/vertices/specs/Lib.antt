@@ -1,4 +1,4 @@
--- What the contracts of `vertices` cite.
+-- What the contracts of `vertices` cite. `EndWeights` is what COVER's promise speaks of; the others are inner.
 pub mod EndWeights
 pub mod Ladder
 pub mod Firsts

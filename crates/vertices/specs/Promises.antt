@@ -1,24 +1,31 @@
--- What the stages ask and leave: the end weights in order, the vertices, the spokes to odd vertices.
+-- Inner: what the stages ask and leave: the end weights in order, the vertices, the spokes to odd vertices. COVER's promise cites none of this.
 use mathlib.Core.Bool.{true}
 use mathlib.Core.Path.{_≡_}
-use mathlib.Core.List.{List}
-use Prim.Native.Nat.{ℕ, _+_, _*_, _%_, _≤_, _<_}
-use lib.ListN.{length, getD}
+use mathlib.Core.List.{List, [], _∷_}
+use Prim.Native.Nat.{ℕ, _+_, _-_, _*_, _%_, _≤_, _<_}
+use lib.ListN.{length, getD, drop}
 use Rattle.lists.specs.Count.{countFrom}
 use Rattle.lists.specs.Every.{All}
 use Rattle.lists.specs.Pick.{sortBy}
 use Rattle.lists.specs.Regions.{part, Only}
 use Rattle.faults.specs.Faults.{lastEnd, isWeight}
-use Rattle.collection.specs.Kmers.{kmers}
+use Rattle.collection.specs.Kmers.{within, kmers}
 use Rattle.collection.specs.Ready.{Long}
 use Rattle.sorting.specs.Keys.{keyAt}
 use Rattle.trails.specs.Counting.{occurs}
 use Rattle.trails.specs.Renamed.{Renamed}
+use Rattle.trails.specs.Strings.{Ends}
 use Rattle.tours.specs.Layout.{tables}
 use Rattle.tours.specs.States.{strings, Begun}
-use Rattle.vertices.specs.EndWeights.{endsFrom}
 use Rattle.vertices.specs.Firsts.{firstOf, keyed}
 use Rattle.vertices.specs.Ladder.{ladder}
+
+-- ─── the end weights ─────────────────────────────────────────────────────────
+
+-- The end weights of strings from the ends and weights alone (they are `endWeights`: `end-weights` in proofs/EndWeights): the next string starts at `before`, and its weights are the first of those that are left.
+unfoldable pub endsFrom : ℕ → ℕ → List ℕ → List ℕ → List Ends
+endsFrom k before [] weights = []
+endsFrom k before (e ∷ ends) weights = (getD weights 0 0, getD weights (within k before e - 1) 0) ∷ endsFrom k e ends (drop (within k before e) weights)
 
 -- ─── the regions ─────────────────────────────────────────────────────────────
 

@@ -6,11 +6,10 @@ ghost use lib.ListN.{length};
 ghost use Rattle.lists.specs.Choose.{choose};
 ghost use Rattle.lists.specs.Every.{All};
 ghost use Rattle.lists.specs.Fill.{put};
-ghost use Rattle.trails.specs.Strings.{weights as endsIn};
+ghost use Rattle.trails.specs.Strings.{weights as allEndWeights};
 ghost use Rattle.tours.specs.Layout.{Fits};
-ghost use Rattle.vertices.specs.EndWeights.{endsFrom};
 ghost use Rattle.vertices.specs.Ladder.{ladder};
-ghost use Rattle.vertices.specs.Promises.{keysIn, orderIn, vertsIn, flagsIn, Strung, Ordered, Rising, Named, Blank, Marked, LaidOut};
+ghost use Rattle.vertices.specs.Promises.{endsFrom, keysIn, orderIn, vertsIn, flagsIn, Strung, Ordered, Rising, Named, Blank, Marked, LaidOut};
 
 // A number as an index.
 fn wide(x: u32) -> usize
@@ -36,7 +35,7 @@ pub fn write_ladder(work: &mut [u32], at: usize, n: usize, first: u32, step: u32
 // Writes the end weights of all strings, two of each, from entry `at` on.
 fn write_weights(k: usize, ends: &[u32], weights: &[u32], work: &mut [u32], at: usize)
     requires { ⌜ Strung k (now ends) (now weights) × (at + 2 * length (now ends) ≤ length (now work)) ⌝ }
-    ensures { λ _. ⌜ now (work .exit) ≡ put at (endsIn (endsFrom k 0 (now (ends .entry)) (now (weights .entry)))) (now (work .entry)) ⌝ }
+    ensures { λ _. ⌜ now (work .exit) ≡ put at (allEndWeights (endsFrom k 0 (now (ends .entry)) (now (weights .entry)))) (now (work .entry)) ⌝ }
 {
     let mut before: usize = 0;
     let mut passed: usize = 0;
@@ -55,7 +54,7 @@ fn write_weights(k: usize, ends: &[u32], weights: &[u32], work: &mut [u32], at: 
 // The end weights at 12m, and their numbers at 5m in the order of the weights.
 fn order_ends(k: usize, ends: &[u32], weights: &[u32], work: &mut [u32])
     requires { ⌜ Strung k (now ends) (now weights) × Fits (length (now ends)) (now work) ⌝ }
-    ensures { λ _. ⌜ Ordered (length (now (ends .entry))) (endsIn (endsFrom k 0 (now (ends .entry)) (now (weights .entry)))) (now (work .exit)) ⌝ }
+    ensures { λ _. ⌜ Ordered (length (now (ends .entry))) (allEndWeights (endsFrom k 0 (now (ends .entry)) (now (weights .entry)))) (now (work .exit)) ⌝ }
 {
     let m = ends.len();
     write_weights(k, ends, weights, work, 12 * m);

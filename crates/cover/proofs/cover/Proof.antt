@@ -1,10 +1,20 @@
 -- `cover` meets its contract: the verdict, then the strings covered in parts of the lent tables (proofs/Promised).
-use mathlib.Core.Path.{sym, _∙_}
+use mathlib.Core.Path.{_≡_, sym, _∙_}
 use native.Mathlib.Omega.{arith}
-use Rattle.cover.proofs.Promised.{cover-good, strung, work-fits, places-fit, cover-refused, cover-none, cover-all}
+use Rattle.collection.specs.declared.Verdict.the-variants.{Good}
+use Rattle.cover.specs.Cover.{coverVerdict}
+use Rattle.cover.proofs.Promised.{Roomy, cover-good, strung, work-fits, places-fit, cover-refused, cover-none, cover-all}
 use borrow.Author.Needs.{needs}
 use Rattle.cover.proofs.cover.Statement.{statement}
 use Rattle.cover.proofs.cover.Tie as tie
+
+-- the verdict is good
+good : (c : tie.After-enum-told) → let a = c .before .before .before .before .before .before .before .before .before .args in coverVerdict (a .k) (a .letters .now) (a .ends .now) (a .weights .now) (a .places .now) (a .work .now) ≡ Good
+good c = sym (c .before .before .judge-cover .ensures) ∙ c .enum-told .given .1
+
+-- so there is room
+roomy : (c : tie.After-enum-told) → let a = c .before .before .before .before .before .before .before .before .before .args in Roomy (a .k) (a .letters .now) (a .ends .now) (a .weights .now) (a .places .now) (a .work .now)
+roomy c = cover-good _ _ _ _ _ _ (good c)
 
 judge-cover-requires : tie.Need-judge-cover-requires
 judge-cover-requires c κs = search needs
@@ -31,26 +41,26 @@ same-length-4 : tie.Need-same-length-4
 same-length-4 c = search needs
 
 returns-2 : tie.Need-returns-2
-returns-2 c = cover-none _ _ _ _ (sym (c .before .before .before .judge-cover .ensures) ∙ c .before .enum-told .given .1) (c .if1 .taken)
+returns-2 c = cover-none _ _ _ _ (good (c .before)) (c .if1 .taken)
 
 mul-need : tie.Need-mul-need
-mul-need c = let r = cover-good _ _ _ _ _ _ (sym (c .before .before .before .judge-cover .ensures) ∙ c .before .enum-told .given .1) in omega (arith, r .judged .shape .m-high)
+mul-need c = let r = roomy (c .before) in omega (arith, r .judged .shape .m-high)
 
 slice-relend-prefix-cover-strings : tie.Need-slice-relend-prefix-cover-strings
-slice-relend-prefix-cover-strings c = cover-good _ _ _ _ _ _ (sym (c .before .before .before .judge-cover .ensures) ∙ c .before .enum-told .given .1) .places-room
+slice-relend-prefix-cover-strings c = roomy (c .before) .places-room
 
 slice-aggregate-cover-strings : tie.Need-slice-aggregate-cover-strings
-slice-aggregate-cover-strings c = sym (places-fit (cover-good _ _ _ _ _ _ (sym (c .before .before .before .before .judge-cover .ensures) ∙ c .before .before .enum-told .given .1)))
+slice-aggregate-cover-strings c = sym (places-fit (roomy (c .before .before)))
 
 slice-relend-prefix-cover-strings-2 : tie.Need-slice-relend-prefix-cover-strings-2
-slice-relend-prefix-cover-strings-2 c = cover-good _ _ _ _ _ _ (sym (c .before .before .before .before .judge-cover .ensures) ∙ c .before .before .enum-told .given .1) .work-room
+slice-relend-prefix-cover-strings-2 c = roomy (c .before .before) .work-room
 
 slice-aggregate-cover-strings-2 : tie.Need-slice-aggregate-cover-strings-2
-slice-aggregate-cover-strings-2 c = sym (work-fits (cover-good _ _ _ _ _ _ (sym (c .before .before .before .before .before .judge-cover .ensures) ∙ c .before .before .before .enum-told .given .1)) (c .before .before .if1 .left) .size)
+slice-aggregate-cover-strings-2 c = sym (work-fits (roomy (c .before .before .before)) (c .before .before .if1 .left) .size)
 
 cover-strings-requires : tie.Need-cover-strings-requires
 cover-strings-requires c κs =
-    let r = cover-good _ _ _ _ _ _ (sym (c .before .before .before .before .before .judge-cover .ensures) ∙ c .before .before .before .enum-told .given .1) in
+    let r = roomy (c .before .before .before) in
     (strung r, work-fits r (c .before .before .if1 .left), places-fit r)
 
 same-length-5 : tie.Need-same-length-5
@@ -60,7 +70,7 @@ same-length-6 : tie.Need-same-length-6
 same-length-6 c = search needs
 
 returns-3 : tie.Need-returns-3
-returns-3 c = cover-all _ _ _ _ _ _ (sym (c .before .before .before .before .before .before .before .before .before .judge-cover .ensures) ∙ c .before .before .before .before .before .before .before .enum-told .given .1) (c .before .before .before .cover-strings .ensures)
+returns-3 c = cover-all _ _ _ _ _ _ (good (c .before .before .before .before .before .before .before)) (c .before .before .before .cover-strings .ensures)
 
 pub cover-spec : {M : Type 1} → statement M
 cover-spec =

@@ -14,11 +14,11 @@ walk-all-requires c κs = search needs
 write-places-requires : tie.Need-write-places-requires
 write-places-requires c κs = search needs
 
-mul-write-ladder : tie.Need-mul-write-ladder
-mul-write-ladder c = search needs
+mul-zero-first : tie.Need-mul-zero-first
+mul-zero-first c = search needs
 
-write-ladder-requires : tie.Need-write-ladder-requires
-write-ladder-requires c κs = search needs
+zero-first-requires : tie.Need-zero-first-requires
+zero-first-requires c κs = search needs
 
 mul-result : tie.Need-mul-result
 mul-result c = search needs
@@ -38,7 +38,7 @@ same-length-2 c = search needs
 returns : tie.Need-returns
 returns c =
     let l = c .before .before .before .before .before .before .before .before .before .before .before .before .before .before .before .lay-out .ensures in
-    covering (l .begun .ready .between .graph) (c .before .before .before .before .before .before .before .before .before .before .before .walk-all .ensures) (c .before .before .before .before .before .before .before .before .before .before .before .before .before .before .before .before .before .before .before .before .args .places .now) (c .before .before .before .before .before .before .before .before .before .before .before .before .before .before .before .before .before .before .before .before .pre .2) (l .renamed) _ (c .before .before .before .before .before .before .write-places .ensures) (c .before .before .before .write-ladder .ensures) (omega (arith, c .before .before .before .before .before .before .before .before .before .before .before .before .before .before .before .before .before .before .before .before .pre .1 .size))
+    covering (l .begun .ready .between .graph) (c .before .before .before .before .before .before .before .before .before .before .before .walk-all .ensures) (c .before .before .before .before .before .before .before .before .before .before .before .before .before .before .before .before .before .before .before .before .args .places .now) (c .before .before .before .before .before .before .before .before .before .before .before .before .before .before .before .before .before .before .before .before .pre .2) (l .renamed) _ (c .before .before .before .before .before .before .write-places .ensures) (c .before .before .before .zero-first .ensures) (omega (arith, c .before .before .before .before .before .before .before .before .before .before .before .before .before .before .before .before .before .before .before .before .pre .1 .size))
 
 pub cover-strings-spec : {M : Type 1} → statement M
 cover-strings-spec =
@@ -47,8 +47,8 @@ cover-strings-spec =
     lay-out-requires
     walk-all-requires
     write-places-requires
-    mul-write-ladder
-    write-ladder-requires
+    mul-zero-first
+    zero-first-requires
     mul-result
     sub-result
     add-result

@@ -4,7 +4,7 @@ use lib.IntN.{ℤ}
 use lib.ListN.{set}
 use Prim.Native.Nat.{_/_}
 use Rattle.cover.proofs.Signs.{kept}
-use Rattle.cover.proofs.Placing.{string-placed, spoke-placed, string-counted, spoke-counted}
+use Rattle.cover.proofs.PlacedHalves.{string-placed, spoke-placed, string-counted, spoke-counted}
 use borrow.Author.Needs.{needs}
 use Rattle.cover.proofs.covering.place_one.Statement.{statement}
 use Rattle.cover.proofs.covering.place_one.Tie as tie

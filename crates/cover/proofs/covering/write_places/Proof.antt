@@ -1,16 +1,16 @@
--- `write_places` meets its contract: each turn is one half (proofs/Placing).
+-- `write_places` meets its contract: each turn is one half (proofs/PlacedHalves).
 use mathlib.Core.Path.{refl, _∙_}
 use Prim.Native.Nat.{_-_, _*_}
 use native.Mathlib.Omega.{arith}
 use Rattle.tours.specs.Layout.{tables}
 use Rattle.tours.proofs.Regions.{stack-at, stack-size}
-use Rattle.cover.proofs.Placing.{Standing, standing-on, standing-end}
+use Rattle.cover.proofs.PlacedHalves.{Giving, giving-on, giving-end}
 use borrow.Author.Needs.{needs}
 use Rattle.cover.proofs.covering.write_places.Statement.{statement}
 use Rattle.cover.proofs.covering.write_places.Tie as tie
 
 abbrev Inv-loop : tie.InvT-loop
-Inv-loop work m start places₀ n₀ p₀ places n p = Standing m start (tables m work .stack) places₀ places n p
+Inv-loop work m start places₀ n₀ p₀ places n p = Giving m start (tables m work .stack) places₀ places n p
 
 abbrev μ-loop : tie.MeasureT-loop
 μ-loop work m start places₀ n₀ p₀ places n p = 3 * m - p
@@ -46,13 +46,13 @@ loop-less : tie.Need-loop-less Inv-loop μ-loop
 loop-less c = search needs
 
 loop-again : tie.Need-loop-again Inv-loop μ-loop
-loop-again c = standing-on (c .before .before .before .before .before .before .loop .inv) (stack-size (c .before .before .before .before .before .before .before .before .pre .0)) (c .before .before .before .before .before .loop-test .taken) _ (c .before .before .before .wide .ensures ∙ stack-at _ _ _ (c .before .before .before .before .before .loop-test .taken)) (c .before .place-one .ensures .0) (c .before .place-one .ensures .1)
+loop-again c = giving-on (c .before .before .before .before .before .before .loop .inv) (stack-size (c .before .before .before .before .before .before .before .before .pre .0)) (c .before .before .before .before .before .loop-test .taken) _ (c .before .before .before .wide .ensures ∙ stack-at _ _ _ (c .before .before .before .before .before .loop-test .taken)) (c .before .place-one .ensures .0) (c .before .place-one .ensures .1)
 
 same-length : tie.Need-same-length Inv-loop μ-loop
 same-length c = omega (arith, c .before .loop .inv .size, c .before .before .before .pre .2)
 
 returns : tie.Need-returns Inv-loop μ-loop
-returns c = standing-end (c .before .loop .inv) (stack-size (c .before .before .before .pre .0)) (c .loop-test .left)
+returns c = giving-end (c .before .loop .inv) (stack-size (c .before .before .before .pre .0)) (c .loop-test .left)
 
 pub write-places-spec : {M : Type 1} → statement M
 write-places-spec =

@@ -14,27 +14,33 @@ use borrow.Author.Needs.{needs}
 use Rattle.repeats.proofs.inner.arrange.Statement.{statement}
 use Rattle.repeats.proofs.inner.arrange.Tie as tie
 
--- the table after the codes and the numbers are written
-abbrev table : tie.After-number-ids → List ℕ
-table c = let n = c .before .before .before .before .before .before .before .before .before .args .n in putMid (n + n) (n + n + n - (n + n)) (c .before .before .before .before .code-all .last .1 .1 .1 .1 .0) (c .number-ids .last .0)
+-- n, the table after the codes are written, and the table after the numbers are, too
+abbrev count : tie.After-number-ids → ℕ
+count c = c .before .before .before .before .before .before .before .before .before .args .n
 
-room : (c : tie.After-number-ids) → 4 * c .before .before .before .before .before .before .before .before .before .args .n ≤ length (c .before .before .before .before .code-all .last .1 .1 .1 .1 .0)
+abbrev coded : tie.After-number-ids → List ℕ
+coded c = c .before .before .before .before .code-all .last .1 .1 .1 .1 .0
+
+abbrev table : tie.After-number-ids → List ℕ
+table c = putMid (count c + count c) (count c + count c + count c - (count c + count c)) (coded c) (c .number-ids .last .0)
+
+room : (c : tie.After-number-ids) → 4 * count c ≤ length (coded c)
 room c = omega (arith, c .before .before .before .before .before .before .before .before .before .pre .1 .1, c .before .before .before .before .code-all .ensures .rest .size)
 
-numbers : (c : tie.After-number-ids) → c .number-ids .last .0 ≡ countFrom 0 (c .before .before .before .before .before .before .before .before .before .args .n)
+numbers : (c : tie.After-number-ids) → c .number-ids .last .0 ≡ countFrom 0 (count c)
 numbers c =
-    let n = c .before .before .before .before .before .before .before .before .before .args .n in
-    let u = c .before .before .before .before .code-all .last .1 .1 .1 .1 .0 in
-    c .number-ids .ensures ∙ ap (countFrom 0) (ap length (part-lent (n + n) n u) ∙ part-length (n + n) n u (omega (arith, room c)))
+    let n = count c in
+    c .number-ids .ensures ∙ ap (countFrom 0) (ap length (part-lent (n + n) n (coded c)) ∙ part-length (n + n) n (coded c) (omega (arith, room c)))
 
-counted : (c : tie.After-number-ids) → length (c .number-ids .last .0) ≡ c .before .before .before .before .before .before .before .before .before .args .n
-counted c = ap length (numbers c) ∙ length-count 0 (c .before .before .before .before .before .before .before .before .before .args .n)
+counted : (c : tie.After-number-ids) → length (c .number-ids .last .0) ≡ count c
+counted c = ap length (numbers c) ∙ length-count 0 (count c)
 
-only : (c : tie.After-number-ids) → let n = c .before .before .before .before .before .before .before .before .before .args .n in Only (n + n) n (c .before .before .before .before .code-all .last .1 .1 .1 .1 .0) (table c)
-only c = let n = c .before .before .before .before .before .before .before .before .before .args .n in lent-only (n + n) n (c .before .before .before .before .code-all .last .1 .1 .1 .1 .0) (c .number-ids .last .0) (counted c) (omega (arith, room c))
+-- the numbers are all that was written after the codes
+only : (c : tie.After-number-ids) → Only (count c + count c) (count c) (coded c) (table c)
+only c = lent-only (count c + count c) (count c) (coded c) (c .number-ids .last .0) (counted c) (omega (arith, room c))
 
-ids : (c : tie.After-number-ids) → let n = c .before .before .before .before .before .before .before .before .before .args .n in part (n + n) n (table c) ≡ countFrom 0 n
-ids c = let n = c .before .before .before .before .before .before .before .before .before .args .n in lent-part (n + n) n (c .before .before .before .before .code-all .last .1 .1 .1 .1 .0) (c .number-ids .last .0) (counted c) (omega (arith, room c)) ∙ numbers c
+ids : (c : tie.After-number-ids) → part (count c + count c) (count c) (table c) ≡ countFrom 0 (count c)
+ids c = lent-part (count c + count c) (count c) (coded c) (c .number-ids .last .0) (counted c) (omega (arith, room c)) ∙ numbers c
 
 few : (s : tie.Start) → s .args .n < 2 ^ 32
 few s = omega (arith, few-kmers (s .pre .0), s .pre .1 .0)
@@ -82,7 +88,7 @@ returns : tie.Need-returns
 returns c =
     let s = c .before .before .before .before .before .before .before .before .before .before .before .before .before .before .before in
     let d = c .before .before .before .before .before .before in
-    arranged _ _ _ (s .args .n) _ (c .before .before .before .before .before .before .before .before .before .before .code-all .last .1 .1 .1 .1 .0) (table d) _ (s .pre .1 .1) (sym (s .pre .1 .0)) (c .before .before .before .before .before .before .before .before .before .before .code-all .ensures) (only d) (ids d) (c .before .before .sort-by-code .ensures)
+    arranged _ _ _ (s .args .n) _ (coded d) (table d) _ (s .pre .1 .1) (sym (s .pre .1 .0)) (c .before .before .before .before .before .before .before .before .before .before .code-all .ensures) (only d) (ids d) (c .before .before .sort-by-code .ensures)
 
 pub arrange-spec : {M : Type 1} → statement M
 arrange-spec =

@@ -1,5 +1,5 @@
 -- `name_vertices` meets its contract: each turn names one end (proofs/Naming).
-use Prim.Native.Nat.{_-_, _*_}
+use Prim.Native.Nat.{_-_, _*_, _<_}
 use native.Mathlib.Omega.{arith}
 use Rattle.vertices.proofs.Naming.{Naming, naming-start, order-low, named-low, naming-on, naming-end}
 use borrow.Author.Needs.{needs}
@@ -11,6 +11,12 @@ Inv-loop work₀ m v₀ before₀ q₀ work v before q = Naming m work₀ work v
 
 abbrev μ-loop : tie.MeasureT-loop
 μ-loop work₀ m v₀ before₀ q₀ work v before q = 2 * m - q
+
+-- the end at place q is in the table
+end : (c : tie.After-wide Inv-loop μ-loop) → c .wide .result < 2 * c .before .before .before .before .before .args .m
+end c =
+    let s = c .before .before .before .before .before in
+    omega (arith, order-low (s .pre .0) (s .pre .1) (c .before .before .before .loop .inv) (c .before .before .loop-test .taken), c .wide .ensures)
 
 loop-holds : tie.Need-loop-holds Inv-loop μ-loop
 loop-holds c = naming-start _ _
@@ -37,13 +43,13 @@ mul-x : tie.Need-mul-x Inv-loop μ-loop
 mul-x c = search needs
 
 add-x : tie.Need-add-x Inv-loop μ-loop
-add-x c = omega (arith, order-low (c .before .before .before .before .before .pre .0) (c .before .before .before .before .before .pre .1) (c .before .before .before .loop .inv) (c .before .before .loop-test .taken), c .wide .ensures, c .before .before .before .before .before .pre .0 .few)
+add-x c = omega (arith, end c, c .before .before .before .before .before .pre .0 .few)
 
 mul-x-2 : tie.Need-mul-x-2 Inv-loop μ-loop
-mul-x-2 c = omega (arith, order-low (c .before .before .before .before .before .pre .0) (c .before .before .before .before .before .pre .1) (c .before .before .before .loop .inv) (c .before .before .loop-test .taken), c .wide .ensures, c .before .before .before .before .before .pre .0 .few)
+mul-x-2 c = omega (arith, end c, c .before .before .before .before .before .pre .0 .few)
 
 slice-read-x : tie.Need-slice-read-x Inv-loop μ-loop
-slice-read-x c = omega (arith, c .before .before .before .before .before .before .pre .0 .size, c .before .before .before .before .loop .inv .rest .size, order-low (c .before .before .before .before .before .before .pre .0) (c .before .before .before .before .before .before .pre .1) (c .before .before .before .before .loop .inv) (c .before .before .before .loop-test .taken), c .before .wide .ensures)
+slice-read-x c = omega (arith, end (c .before), c .before .before .before .before .before .before .pre .0 .size, c .before .before .before .before .loop .inv .rest .size)
 
 vertex-of-requires : tie.Need-vertex-of-requires Inv-loop μ-loop
 vertex-of-requires c κs = search needs
@@ -52,10 +58,10 @@ cast-work : tie.Need-cast-work Inv-loop μ-loop
 cast-work c = omega (arith, named-low (c .before .before .before .before .before .before .before .pre .0) (c .before .before .before .before .before .before .before .pre .1) (c .before .before .before .before .before .loop .inv) (c .before .before .before .before .loop-test .taken) _ (c .before .before .wide .ensures) _ (c .vertex-of .ensures), c .before .before .before .before .before .before .before .pre .0 .few, c .before .before .before .before .loop-test .taken)
 
 mul-work : tie.Need-mul-work Inv-loop μ-loop
-mul-work c = omega (arith, order-low (c .before .before .before .before .before .before .before .pre .0) (c .before .before .before .before .before .before .before .pre .1) (c .before .before .before .before .before .loop .inv) (c .before .before .before .before .loop-test .taken), c .before .before .wide .ensures, c .before .before .before .before .before .before .before .pre .0 .few)
+mul-work c = omega (arith, end (c .before .before), c .before .before .before .before .before .before .before .pre .0 .few)
 
 slice-write-work : tie.Need-slice-write-work Inv-loop μ-loop
-slice-write-work c = omega (arith, c .before .before .before .before .before .before .before .pre .0 .size, c .before .before .before .before .before .loop .inv .rest .size, order-low (c .before .before .before .before .before .before .before .pre .0) (c .before .before .before .before .before .before .before .pre .1) (c .before .before .before .before .before .loop .inv) (c .before .before .before .before .loop-test .taken), c .before .before .wide .ensures)
+slice-write-work c = omega (arith, end (c .before .before), c .before .before .before .before .before .before .before .pre .0 .size, c .before .before .before .before .before .loop .inv .rest .size)
 
 add-q : tie.Need-add-q Inv-loop μ-loop
 add-q c = search needs

@@ -4,8 +4,8 @@ use Prim.Native.Nat.{_<_}
 use native.Mathlib.Omega.{arith}
 use lib.ListN.{length}
 use Rattle.lists.specs.Every.{All}
-use Rattle.trails.specs.Strings.{weights as endsIn}
-use Rattle.vertices.specs.EndWeights.{endsFrom}
+use Rattle.trails.specs.Strings.{weights as allEndWeights}
+use Rattle.vertices.specs.Promises.{endsFrom}
 use Rattle.vertices.proofs.EndWeights.{length-keys}
 use Rattle.vertices.proofs.Ordering.{keys-low, keys-then, ids-low, ordered, laid}
 use borrow.Author.Needs.{needs}
@@ -46,8 +46,8 @@ sort-by-weight-requires c κs =
     let l = length-keys (a .k) (a .ends .now) (a .weights .now) in (
       laid (length (a .ends .now)) _ (f .few) (omega (arith, f .size)),
       (
-        ids-low (endsIn (endsFrom (a .k) 0 (a .ends .now) (a .weights .now))) f l (c .before .before .before .before .before .before .before .write-weights .ensures) (c .before .before .before .write-ladder .ensures) (omega arith),
-        subst (All (λ k. k < 16777216)) (sym (keys-then (endsIn (endsFrom (a .k) 0 (a .ends .now) (a .weights .now))) f l (c .before .before .before .before .before .before .before .write-weights .ensures) (c .before .before .before .write-ladder .ensures) (omega arith))) (keys-low (a .k) (a .ends .now) (a .weights .now) (c .before .before .before .before .before .before .before .before .before .before .before .before .pre .0)),
+        ids-low (allEndWeights (endsFrom (a .k) 0 (a .ends .now) (a .weights .now))) f l (c .before .before .before .before .before .before .before .write-weights .ensures) (c .before .before .before .write-ladder .ensures) (omega arith),
+        subst (All (λ k. k < 16777216)) (sym (keys-then (allEndWeights (endsFrom (a .k) 0 (a .ends .now) (a .weights .now))) f l (c .before .before .before .before .before .before .before .write-weights .ensures) (c .before .before .before .write-ladder .ensures) (omega arith))) (keys-low (a .k) (a .ends .now) (a .weights .now) (c .before .before .before .before .before .before .before .before .before .before .before .before .pre .0)),
       ),
     )
 

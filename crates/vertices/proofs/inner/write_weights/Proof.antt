@@ -1,7 +1,10 @@
 -- `write_weights` meets its contract. The loop's invariant: storing the end weights of the strings that are left, from entry at + 2i on, gives the promised table.
-use Prim.Native.Nat.{_-_}
+use Prim.Native.Nat.{_+_, _-_, _≤_}
 use native.Mathlib.Omega.{arith}
 use lib.ListN.{length, length-set}
+use Rattle.faults.specs.Faults.{lastEnd}
+use Rattle.collection.specs.Kmers.{within}
+use Rattle.collection.proofs.Kmers.{Next}
 use Rattle.vertices.proofs.EndWeights.{Writing, writing-start, string-here, weights-inside, first-inside, second-inside, writing-on, writing-end}
 use borrow.Author.Needs.{needs}
 use Rattle.vertices.proofs.inner.write_weights.Statement.{statement}
@@ -12,6 +15,15 @@ Inv-loop k ends weights work₀ at before₀ passed₀ i₀ work before passed i
 
 abbrev μ-loop : tie.MeasureT-loop
 μ-loop k ends weights work₀ at before₀ passed₀ i₀ work before passed i = length ends - i
+
+-- the string of this turn, and its weights
+next : (c : tie.After-wide Inv-loop μ-loop) → Next (c .before .before .before .before .before .before .before .args .k) (lastEnd 0 (c .before .before .before .before .before .before .before .args .ends .now)) (c .before .before .before .loop .before) (c .wide .result)
+next c = string-here (c .before .before .before .loop .inv) (c .before .before .loop-test .taken) _ (c .wide .ensures)
+
+inside : (c : tie.After-wide Inv-loop μ-loop)
+    → c .before .before .before .loop .passed + within (c .before .before .before .before .before .before .before .args .k) (c .before .before .before .loop .before) (c .wide .result)
+    ≤ length (c .before .before .before .before .before .before .before .args .weights .now)
+inside c = weights-inside (c .before .before .before .loop .inv) (c .before .before .loop-test .taken) _ (c .wide .ensures)
 
 loop-holds : tie.Need-loop-holds Inv-loop μ-loop
 loop-holds c = writing-start _ _ _ _ _ (c .before .before .before .pre .0) (c .before .before .before .pre .1)
@@ -26,19 +38,19 @@ wide-requires : tie.Need-wide-requires Inv-loop μ-loop
 wide-requires c κs = search needs
 
 add-n : tie.Need-add-n Inv-loop μ-loop
-add-n c = omega (arith, string-here (c .before .before .before .loop .inv) (c .before .before .loop-test .taken) _ (c .wide .ensures), c .before .before .before .before .before .before .before .pre .0 .few-letters)
+add-n c = omega (arith, next c, c .before .before .before .before .before .before .before .pre .0 .few-letters)
 
 add-n-2 : tie.Need-add-n-2 Inv-loop μ-loop
-add-n-2 c = omega (arith, string-here (c .before .before .before .loop .inv) (c .before .before .loop-test .taken) _ (c .wide .ensures), c .before .before .before .before .before .before .before .pre .0 .few-letters)
+add-n-2 c = omega (arith, next c, c .before .before .before .before .before .before .before .pre .0 .few-letters)
 
 sub-n : tie.Need-sub-n Inv-loop μ-loop
-sub-n c = omega (arith, string-here (c .before .before .before .loop .inv) (c .before .before .loop-test .taken) _ (c .wide .ensures))
+sub-n c = omega (arith, next c)
 
 mul-work : tie.Need-mul-work Inv-loop μ-loop
 mul-work c = search needs
 
 shared-slice-read-work : tie.Need-shared-slice-read-work Inv-loop μ-loop
-shared-slice-read-work c = omega (arith, string-here (c .before .before .before .before .loop .inv) (c .before .before .before .loop-test .taken) _ (c .before .wide .ensures), weights-inside (c .before .before .before .before .loop .inv) (c .before .before .before .loop-test .taken) _ (c .before .wide .ensures))
+shared-slice-read-work c = omega (arith, next (c .before), inside (c .before))
 
 mul-work-2 : tie.Need-mul-work-2 Inv-loop μ-loop
 mul-work-2 c = search needs
@@ -53,16 +65,16 @@ slice-write-work : tie.Need-slice-write-work Inv-loop μ-loop
 slice-write-work c = first-inside (c .before .before .before .before .loop .inv) (c .before .before .before .loop-test .taken) _ (c .before .wide .ensures)
 
 add-passed : tie.Need-add-passed Inv-loop μ-loop
-add-passed c = omega (arith, weights-inside (c .before .before .before .before .loop .inv) (c .before .before .before .loop-test .taken) _ (c .before .wide .ensures))
+add-passed c = omega (arith, inside (c .before))
 
 sub-work : tie.Need-sub-work Inv-loop μ-loop
-sub-work c = omega (arith, string-here (c .before .before .before .before .loop .inv) (c .before .before .before .loop-test .taken) _ (c .before .wide .ensures))
+sub-work c = omega (arith, next (c .before))
 
 mul-work-4 : tie.Need-mul-work-4 Inv-loop μ-loop
-mul-work-4 c = omega (arith, weights-inside (c .before .before .before .before .loop .inv) (c .before .before .before .loop-test .taken) _ (c .before .wide .ensures))
+mul-work-4 c = omega (arith, inside (c .before))
 
 shared-slice-read-work-2 : tie.Need-shared-slice-read-work-2 Inv-loop μ-loop
-shared-slice-read-work-2 c = omega (arith, string-here (c .before .before .before .before .before .loop .inv) (c .before .before .before .before .loop-test .taken) _ (c .before .before .wide .ensures), weights-inside (c .before .before .before .before .before .loop .inv) (c .before .before .before .before .loop-test .taken) _ (c .before .before .wide .ensures))
+shared-slice-read-work-2 c = omega (arith, next (c .before .before), inside (c .before .before))
 
 mul-work-5 : tie.Need-mul-work-5 Inv-loop μ-loop
 mul-work-5 c = search needs

@@ -17,23 +17,26 @@ use Rattle.lists.specs.Count.{agree}
 use Rattle.trails.specs.Counting.{occurs}
 use Rattle.trails.specs.Places.{signed}
 use Rattle.trails.specs.Strings.{Ends, front, back, turned}
+use Rattle.trails.specs.Hub.{unspoked}
 use Rattle.trails.proofs.Arranged.{marked}
 use Rattle.lists.proofs.Agree.{agree-same, agree-other, Agreeing, agree-cases}
-use Rattle.trails.proofs.Hub.{unspoked}
 use Rattle.tours.specs.Halves.{near, other, gone, numbered}
 use Rattle.tours.specs.States.{numbers}
 use Rattle.tours.proofs.Halves.{near-string, near-hub}
-use Rattle.cover.specs.Placing.{counted, placedBy, placeAll}
+use Rattle.cover.specs.Covering.{counted, placedBy, placeAll}
 
 -- ─── one half ────────────────────────────────────────────────────────────────
 
 module _ (m n c : ℕ) (ps : List ℤ) where
+  -- a half of a string gives it its place
   pub string-placed : c < 2 * m → placedBy m n c ps ≡ set ps (c / 2) (signed (n + 1) (eqb (c % 2) 1))
   string-placed l = rw (lt-ltb c (2 * m) l)
 
+  -- a spoke gives none
   pub spoke-placed : 2 * m ≤ c → placedBy m n c ps ≡ ps
   spoke-placed l = rw (le-ltb c (2 * m) l)
 
+  -- there are as many places as before
   pub length-placed : length (placedBy m n c ps) ≡ length ps
   length-placed = go (decLt c (2 * m))
     where
@@ -41,12 +44,15 @@ module _ (m n c : ℕ) (ps : List ℤ) where
       go (yes l) = ap length (string-placed l) ∙ simp length-set
       go (no l) = ap length (spoke-placed (omega arith))
 
+-- one string more has its place
 pub string-counted : (m n c : ℕ) → c < 2 * m → counted m n c ≡ n + 1
 string-counted m n c l = rw (lt-ltb c (2 * m) l)
 
+-- a spoke gives no place
 pub spoke-counted : (m n c : ℕ) → 2 * m ≤ c → counted m n c ≡ n
 spoke-counted m n c l = rw (le-ltb c (2 * m) l)
 
+-- at most one more
 pub counted-le : (m n c : ℕ) → counted m n c ≤ n + 1
 counted-le m n c = go (decLt c (2 * m))
   where
@@ -56,12 +62,13 @@ counted-le m n c = go (decLt c (2 * m))
 
 -- ─── all halves ──────────────────────────────────────────────────────────────
 
+-- there are as many places as before
 pub length-all : (m n : ℕ) (cs : List ℕ) (ps : List ℤ) → length (placeAll m n cs ps) ≡ length ps
 unfolding placeAll
 length-all m n [] ps = refl
 length-all m n (c ∷ cs) ps = length-all m (counted m n c) cs (placedBy m n c ps) ∙ length-placed m n c ps
 
--- the strings that the halves name, in their order, and whether they are turned
+-- a mark for each half of a string: which string it is, and whether it is turned
 unfoldable pub marks : ℕ → List ℕ → List (ℕ × Bool)
 marks m [] = []
 marks m (c ∷ cs) = choose (ltb c (2 * m)) ((c / 2, eqb (c % 2) 1) ∷ marks m cs) (marks m cs)
@@ -89,9 +96,9 @@ others-kept m n (c ∷ cs) ps i h =
     go (yes l) = ap (λ (x : List ℤ). getD x i (pos 0)) (string-placed m n c ps l) ∙ getD-set-other ps (c / 2) i (signed (n + 1) (eqb (c % 2) 1)) (pos 0) off
     go (no l) = ap (λ (x : List ℤ). getD x i (pos 0)) (spoke-placed m n c ps (omega arith))
 
--- the string of a name has the place i, turned where the name says so
-abbrev pub NamedAt : ℕ → List ℤ → ℕ → ℕ × Bool → Type 0
-NamedAt m ps i k = (k .0 < m) × (getD ps (k .0) (pos 0) ≡ signed i (k .1))
+-- the string of a mark has the place i, turned where the mark says so
+abbrev pub MarkedAt : ℕ → List ℤ → ℕ → ℕ × Bool → Type 0
+MarkedAt m ps i k = (k .0 < m) × (getD ps (k .0) (pos 0) ≡ signed i (k .1))
 
 once-later : (m c : ℕ) (cs : List ℕ) → ((e : ℕ) → e < m → occurs e (numbers (c ∷ cs)) ≤ 1) → (e : ℕ) → e < m → occurs e (numbers cs) ≤ 1
 unfolding occurs
@@ -99,10 +106,10 @@ once-later m c cs once e h = omega (arith, once e h)
 
 -- One half, where the later ones name each string at most once and place those that they name.
 module _ (m n c : ℕ) (cs : List ℕ) (ps : List ℤ) (l : length ps ≡ m) (once : (e : ℕ) → e < m → occurs e (numbers (c ∷ cs)) ≤ 1)
-    (more : (i : ℕ) (qs : List ℤ) → length qs ≡ m → (j : ℕ) → j < length (marks m cs) → NamedAt m (placeAll m i cs qs) (i + suc j) (getD (marks m cs) j (0, false))) where
-  first-named : c < 2 * m → NamedAt m (placeAll m n (c ∷ cs) ps) (n + 1) (c / 2, eqb (c % 2) 1)
+    (more : (i : ℕ) (qs : List ℤ) → length qs ≡ m → (j : ℕ) → j < length (marks m cs) → MarkedAt m (placeAll m i cs qs) (i + suc j) (getD (marks m cs) j (0, false))) where
+  first-at : c < 2 * m → MarkedAt m (placeAll m n (c ∷ cs) ps) (n + 1) (c / 2, eqb (c % 2) 1)
   unfolding placeAll occurs
-  first-named h = (
+  first-at h = (
     omega arith,
     others-kept m (counted m n c) cs (placedBy m n c ps) (c / 2) (omega (arith, once (c / 2) (omega arith), agree-same (c / 2) (c / 2) refl))
         ∙ (ap (λ (x : List ℤ). getD x (c / 2) (pos 0)) (string-placed m n c ps h) ∙ getD-set-same ps (c / 2) (signed (n + 1) (eqb (c % 2) 1)) (pos 0) (omega arith)),
@@ -116,28 +123,28 @@ module _ (m n c : ℕ) (cs : List ℕ) (ps : List ℤ) (l : length ps ≡ m) (on
   unfolding placeAll
   all-spoke h = ap₂ (λ (i : ℕ) (qs : List ℤ). placeAll m i cs qs) (spoke-counted m n c h) (spoke-placed m n c ps h)
 
-  string-named : c < 2 * m → (j : ℕ) → j < suc (length (marks m cs)) → NamedAt m (placeAll m n (c ∷ cs) ps) (n + suc j) (getD ((c / 2, eqb (c % 2) 1) ∷ marks m cs) j (0, false))
-  string-named h zero b = let e : n + 1 ≡ n + suc 0 = omega arith in subst (λ (i : ℕ). NamedAt m (placeAll m n (c ∷ cs) ps) i (c / 2, eqb (c % 2) 1)) e (first-named h)
-  string-named h (suc j) b =
+  string-at : c < 2 * m → (j : ℕ) → j < suc (length (marks m cs)) → MarkedAt m (placeAll m n (c ∷ cs) ps) (n + suc j) (getD ((c / 2, eqb (c % 2) 1) ∷ marks m cs) j (0, false))
+  string-at h zero b = let e : n + 1 ≡ n + suc 0 = omega arith in subst (λ (i : ℕ). MarkedAt m (placeAll m n (c ∷ cs) ps) i (c / 2, eqb (c % 2) 1)) e (first-at h)
+  string-at h (suc j) b =
       let e : n + 1 + suc j ≡ n + suc (suc j) = omega arith in
-      subst (λ (i : ℕ). NamedAt m (placeAll m n (c ∷ cs) ps) i (getD (marks m cs) j (0, false))) e
-      (subst (λ (qs : List ℤ). NamedAt m qs (n + 1 + suc j) (getD (marks m cs) j (0, false))) (sym (all-string h))
+      subst (λ (i : ℕ). MarkedAt m (placeAll m n (c ∷ cs) ps) i (getD (marks m cs) j (0, false))) e
+      (subst (λ (qs : List ℤ). MarkedAt m qs (n + 1 + suc j) (getD (marks m cs) j (0, false))) (sym (all-string h))
       (more (n + 1) (placedBy m n c ps) (length-placed m n c ps ∙ l) j (omega arith)))
 
-  next-named : Dec (c < 2 * m) → (j : ℕ) → j < length (marks m (c ∷ cs)) → NamedAt m (placeAll m n (c ∷ cs) ps) (n + suc j) (getD (marks m (c ∷ cs)) j (0, false))
-  next-named (yes h) j b =
-      subst (λ (ks : List (ℕ × Bool)). NamedAt m (placeAll m n (c ∷ cs) ps) (n + suc j) (getD ks j (0, false))) (sym (string-marked m c cs h))
-      (string-named h j (rw (string-marked m c cs h) at b))
-  next-named (no h) j b =
+  next-at : Dec (c < 2 * m) → (j : ℕ) → j < length (marks m (c ∷ cs)) → MarkedAt m (placeAll m n (c ∷ cs) ps) (n + suc j) (getD (marks m (c ∷ cs)) j (0, false))
+  next-at (yes h) j b =
+      subst (λ (ks : List (ℕ × Bool)). MarkedAt m (placeAll m n (c ∷ cs) ps) (n + suc j) (getD ks j (0, false))) (sym (string-marked m c cs h))
+      (string-at h j (rw (string-marked m c cs h) at b))
+  next-at (no h) j b =
       let k : 2 * m ≤ c = omega arith in
-      subst (λ (ks : List (ℕ × Bool)). NamedAt m (placeAll m n (c ∷ cs) ps) (n + suc j) (getD ks j (0, false))) (sym (spoke-marked m c cs k))
-      (subst (λ (qs : List ℤ). NamedAt m qs (n + suc j) (getD (marks m cs) j (0, false))) (sym (all-spoke k)) (more n ps l j (rw (spoke-marked m c cs k) at b)))
+      subst (λ (ks : List (ℕ × Bool)). MarkedAt m (placeAll m n (c ∷ cs) ps) (n + suc j) (getD ks j (0, false))) (sym (spoke-marked m c cs k))
+      (subst (λ (qs : List ℤ). MarkedAt m qs (n + suc j) (getD (marks m cs) j (0, false))) (sym (all-spoke k)) (more n ps l j (rw (spoke-marked m c cs k) at b)))
 
--- each named string has the place of its name
-pub names-placed : (m n : ℕ) (cs : List ℕ) (ps : List ℤ) → length ps ≡ m → ((e : ℕ) → e < m → occurs e (numbers cs) ≤ 1)
-    → (j : ℕ) → j < length (marks m cs) → NamedAt m (placeAll m n cs ps) (n + suc j) (getD (marks m cs) j (0, false))
-names-placed m n [] ps l once j b = absurd (unfold marks in (omega arith))
-names-placed m n (c ∷ cs) ps l once j b = next-named m n c cs ps l once (λ i qs e k h. names-placed m i cs qs e (once-later m c cs once) k h) (decLt c (2 * m)) j b
+-- each marked string has the place of its mark
+pub marks-placed : (m n : ℕ) (cs : List ℕ) (ps : List ℤ) → length ps ≡ m → ((e : ℕ) → e < m → occurs e (numbers cs) ≤ 1)
+    → (j : ℕ) → j < length (marks m cs) → MarkedAt m (placeAll m n cs ps) (n + suc j) (getD (marks m cs) j (0, false))
+marks-placed m n [] ps l once j b = absurd (unfold marks in (omega arith))
+marks-placed m n (c ∷ cs) ps l once j b = next-at m n c cs ps l once (λ i qs e k h. marks-placed m i cs qs e (once-later m c cs once) k h) (decLt c (2 * m)) j b
 
 -- ─── the order that they make ────────────────────────────────────────────────
 
@@ -186,7 +193,7 @@ module _ (h : ℕ) (s : Ends) (L : List Ends) where
   unfolding unspoked
   unspoked-off a b = rw (a, b) refl
 
--- Without the spokes, the halves are the strings that the marks name.
+-- Strings do not touch the hub, and spokes do.
 module _ (m : ℕ) (verts : List ℕ) (low : (c : ℕ) → c < 2 * m → getD verts c 0 < 2 * m) where
   string-off : (c : ℕ) → c < 2 * m → agree (2 * m) (near m verts c) ≡ 0
   string-off c l = agree-other (2 * m) (near m verts c) (λ e. omega (arith, near-string m verts c l, low c l))
@@ -194,6 +201,7 @@ module _ (m : ℕ) (verts : List ℕ) (low : (c : ℕ) → c < 2 * m → getD ve
   hub-on : (c : ℕ) → 2 * m ≤ c → c % 2 ≡ 0 → agree (2 * m) (near m verts c) ≡ 1
   hub-on c l e = agree-same (2 * m) (near m verts c) (sym (near-hub m verts c l e))
 
+  -- spokes left out, the halves by their vertices are the strings that the marks name
   pub unspoked-marks : (cs : List ℕ) → unspoked (2 * m) (map (gone (near m verts)) cs) ≡ map (marked turned (0, 0) (numbered (near m verts) 0 m)) (marks m cs)
   unspoked-marks [] = unfold unspoked marks in refl
   unspoked-marks (c ∷ cs) = go (decLt c (2 * m)) (ℕ-discrete (c % 2) 0) (unspoked-marks cs)
@@ -216,16 +224,17 @@ module _ (m : ℕ) (verts : List ℕ) (low : (c : ℕ) → c < 2 * m → getD ve
 -- ─── a loop that gives the places ────────────────────────────────────────────
 
 -- the halves up to entry p have given n places: the rest of them gives all
-pub record Standing (m start : ℕ) (stack : List ℕ) (ps₀ ps : List ℤ) (n p : ℕ) : Type 0 where
+pub record Giving (m start : ℕ) (stack : List ℕ) (ps₀ ps : List ℤ) (n p : ℕ) : Type 0 where
   pub inside : p ≤ 3 * m
   pub few : n ≤ p
   pub size : length ps ≡ m
   pub rest : placeAll m n (drop p stack) ps ≡ placeAll m 0 (drop start stack) ps₀
 
-module _ {m start : ℕ} {stack : List ℕ} {ps₀ ps : List ℤ} {n p : ℕ} (g : Standing m start stack ps₀ ps n p) (k : length stack ≡ 3 * m) where
-  pub standing-on : p < 3 * m → (c : ℕ) → c ≡ getD stack p 0 → {qs : List ℤ} {i : ℕ} → qs ≡ placedBy m n c ps → i ≡ counted m n c → Standing m start stack ps₀ qs i (p + 1)
+module _ {m start : ℕ} {stack : List ℕ} {ps₀ ps : List ℤ} {n p : ℕ} (g : Giving m start stack ps₀ ps n p) (k : length stack ≡ 3 * m) where
+  -- the next half gives its place
+  pub giving-on : p < 3 * m → (c : ℕ) → c ≡ getD stack p 0 → {qs : List ℤ} {i : ℕ} → qs ≡ placedBy m n c ps → i ≡ counted m n c → Giving m start stack ps₀ qs i (p + 1)
   unfolding placeAll
-  standing-on l c is {qs} {i} a b = record {
+  giving-on l c is {qs} {i} a b = record {
     inside = omega arith;
     few = rw b (omega (arith, counted-le m n c, g .few));
     size = ap length a ∙ (length-placed m n c ps ∙ g .size);
@@ -234,6 +243,7 @@ module _ {m start : ℕ} {stack : List ℕ} {ps₀ ps : List ℤ} {n p : ℕ} (g
         ∙ (sym (ap (λ (cs : List ℕ). placeAll m n cs ps) (drop-next stack p 0 (omega arith) ∙ ap (λ (x : ℕ). x ∷ drop (p + 1) stack) (sym is))) ∙ g .rest);
   }
 
-  pub standing-end : 3 * m ≤ p → ps ≡ placeAll m 0 (drop start stack) ps₀
+  -- all halves have given theirs
+  pub giving-end : 3 * m ≤ p → ps ≡ placeAll m 0 (drop start stack) ps₀
   unfolding placeAll
-  standing-end h = let l : length stack ≤ p = omega arith in sym (ap (λ (cs : List ℕ). placeAll m n cs ps) (drop-of-length-le stack l)) ∙ g .rest
+  giving-end h = let l : length stack ≤ p = omega arith in sym (ap (λ (cs : List ℕ). placeAll m n cs ps) (drop-of-length-le stack l)) ∙ g .rest
