@@ -1,4 +1,4 @@
--- What a call of INDEX that succeeds leaves: the index, in the first entries of the tables. And the promise leaves no choice. Assumes nothing.
+-- What a call of INDEX that succeeds leaves: the index, in the first entries of the tables. Assumes nothing.
 use mathlib.Core.Path.{_≡_, refl, sym, ap, _∙_}
 use mathlib.Core.List.{List, map}
 use Prim.Native.Nat.{ℕ, zero, suc, _+_, _^_}
@@ -19,7 +19,7 @@ use Rattle.repeats.specs.Check.{firstRepeat}
 use Rattle.minimizers.specs.Minimizer.{minimizerAt}
 use Rattle.stretches.specs.Index.{tables, built}
 use Rattle.stretches.specs.Stretches.{Stretch, stretches}
-use Rattle.cutting.proofs.Keys.{cut-keys-small}
+use Rattle.cutting.proofs.Keys.{keys-small}
 use Rattle.index.specs.declared.IndexAnswer.the-variants.{Indexed, Refused}
 use Rattle.index.specs.Indexing.{Lent, stretchCount, indexVerdict, Outcome, outcome, untouched, holding, firstEntries, indexWith, indexOf}
 use Rattle.index.proofs.Indexed.{index-good}
@@ -33,10 +33,6 @@ told-good Good (suc place) t u done e = let z : _≡_ {A = ℕ} 0 1 = cc in absu
 told-good (Bad number wrong) place t u done e = let z : _≡_ {A = ℕ} 0 1 = cc in absurd (let y : ⊥ = omega arith in y)
 
 module _ (k p : ℕ) (letters ends weights : List ℕ) (t : Lent) where
-  -- two outcomes that meet the promise are equal
-  pub index-only : (a b : Outcome) → a ≡ indexOf k p letters ends weights t → b ≡ indexOf k p letters ends weights t → a ≡ b
-  index-only a b e f = e ∙ sym f
-
   -- an index is made only where nothing is refused
   pub index-told : {m starts : ℕ} → indexOf k p letters ends weights t .answer ≡ Indexed m starts → (indexVerdict k p letters ends weights t ≡ Good) × (firstRepeat k letters ends ≡ 0)
   unfolding indexOf
@@ -53,7 +49,7 @@ module _ (k p : ℕ) (letters ends weights : List ℕ) (t : Lent) where
     taken : (g : Stretch → ℕ) (old : List ℕ) → take (length ss) (fill (map g arrangedBy) old) ≡ map g arrangedBy
     taken g old =
         let j = index-good k p letters ends weights t good in
-        take-fill (map g arrangedBy) old (length ss) (length-map arrangedBy g ∙ length-upTo (λ s. minimizerAt k p letters (s .at)) (4 ^ p) ss (cut-keys-small k p letters ends (j .ready) (j .p-fits)))
+        take-fill (map g arrangedBy) old (length ss) (length-map arrangedBy g ∙ length-upTo (λ s. minimizerAt k p letters (s .at)) (4 ^ p) ss (keys-small k p letters ends (j .ready) (j .p-fits)))
 
     held : (n : ℕ) → firstEntries (stretchCount k p letters ends) (4 ^ p + 1) (holding (indexWith k p letters ends) n t) ≡ indexWith k p letters ends
     unfolding built
