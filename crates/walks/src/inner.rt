@@ -3,7 +3,7 @@ use crate::Met;
 ghost use mathlib.Core.Bool.{true};
 ghost use mathlib.Core.List.{map};
 ghost use mathlib.Core.Path.{_≡_};
-ghost use Prim.Native.Nat.{ℕ, _+_, _≤_, _<_, _^_};
+ghost use Prim.Native.Nat.{_+_, _≤_, _<_, _^_};
 ghost use lib.ListN.{length, take, drop};
 ghost use Rattle.stretches.specs.Stretches.{stretch, kmersOf, walk};
 ghost use Rattle.stretches.specs.Index.{tables, stretchFits, rowFits, tablesFit, rowOf};
