@@ -1,14 +1,13 @@
--- The weight of an asked word.
-use mathlib.Core.Path.{_≡_, refl, sym, ap, _∙_}
-use mathlib.Core.List.{List, [], _∷_}
+-- The weight of an asked word. Assumes nothing.
+use mathlib.Core.Path.{_≡_, sym, ap, _∙_}
+use mathlib.Core.List.{List}
 use Prim.Native.Nat.{ℕ}
 use Rattle.runs.specs.declared.WeightAnswer.{WeightAnswer}
 use Rattle.runs.specs.Calls.{weightAnswer}
 use Rattle.collection.specs.declared.Side.{Side}
 use Rattle.questions.specs.declared.QuickAnswer.{QuickAnswer}
-use Rattle.questions.specs.declared.QuickAnswer.the-variants.{Found, Absent, Refused}
-use Rattle.questions.specs.declared.WordAnswer.{WordAnswer}
-use Rattle.questions.specs.Weighed.{weighs, unweighed, weighedOf}
+use Rattle.questions.specs.declared.QuickAnswer.the-variants.{Found}
+use Rattle.questions.specs.Weighed.{weighs, weighedOf}
 
 module _ (runWeights runFirsts : List ℕ) (n : ℕ) where
   -- a found word weighs what its handle does

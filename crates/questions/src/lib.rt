@@ -5,7 +5,6 @@ use collection::Side;
 use collection::Verdict;
 use runs::WeightAnswer;
 ghost use mathlib.Core.Path.{_≡_};
-ghost use Prim.Native.Nat.{ℕ, _≤_};
 ghost use Rattle.stretches.specs.Index.{tables};
 ghost use Rattle.questions.specs.Quick.{askVerdict, quickOf};
 ghost use Rattle.questions.specs.Weighed.{unweighed, weighedOf};
@@ -33,7 +32,7 @@ pub enum WordAnswer {
     Refused { number: u32, place: usize },
 }
 
-// A word to be asked for, by its code and its reverse complement's, with the minimizer of each, whose rows are walked.
+// A word to be asked for, by its code and its reverse complement's, and the minimizers under which they are looked for: `row` for the word, `other` for the turned one.
 pub struct Question {
     pub asked: u64,
     pub turned: u64,
