@@ -1,7 +1,7 @@
 -- The three demands hold. Assumes nothing.
-use mathlib.Core.Path.{_≡_, refl, sym, ap, _∙_, subst}
+use mathlib.Core.Path.{_≡_, sym, ap, _∙_, subst}
 use mathlib.Core.List.{List}
-use Prim.Native.Nat.{ℕ, _+_, _-_, _/_, _<_}
+use Prim.Native.Nat.{ℕ, _+_, _-_, _/_}
 use native.Mathlib.Omega.{arith}
 use lib.IntN.{ℤ, pos, natAbs}
 use lib.ListN.{length, getD, take}
@@ -17,7 +17,7 @@ use Rattle.vertices.specs.EndWeights.{endWeights}
 use Rattle.cover.specs.declared.CoverAnswer.{CoverAnswer}
 use Rattle.cover.specs.declared.CoverAnswer.the-variants as cover
 use Rattle.cover.specs.Cover.{Promise, coverVerdict}
-use Rattle.cover.proofs.Laws.{cover-answers, cover-fills, cover-number}
+use Rattle.cover.proofs.Laws.{cover-fills}
 use Rattle.placing.specs.Weighs.{none}
 use Rattle.placing.proofs.Handles.{weight-kept, weight-from}
 use Rattle.placing.proofs.Permutation.{one-string}

@@ -1,5 +1,5 @@
 -- Demand 1 holds: each call has one outcome, and a refusal leaves the outputs. Assumes nothing.
-use mathlib.Core.Path.{_≡_, refl, sym, ap, _∙_, subst}
+use mathlib.Core.Path.{_≡_, refl, sym, ap, _∙_}
 use mathlib.Core.Logic.{_⊎_, inl, inr}
 use mathlib.Core.List.{List}
 use Prim.Native.Nat.{ℕ, zero, suc, _*_}
@@ -15,15 +15,13 @@ use Rattle.sheet_text.specs.declared.ReadAnswer.{ReadAnswer}
 use Rattle.sheet_text.specs.declared.ReadAnswer.the-variants as read
 use Rattle.sheet_text.specs.declared.WriteAnswer.{WriteAnswer}
 use Rattle.sheet_text.specs.declared.WriteAnswer.the-variants as write
-use Rattle.sheet_text.specs.Read.{ReadOutcome, readOutcome, readVerdict, readOf}
-use Rattle.sheet_text.specs.Write.{WriteOutcome, writeOutcome, writeVerdict, writeOf}
+use Rattle.sheet_text.specs.Read.{ReadOutcome, readOutcome, readOf}
+use Rattle.sheet_text.specs.Write.{WriteOutcome, writeOutcome, writeOf}
 use Rattle.repeats.specs.declared.CheckAnswer.the-variants as check
 use Rattle.repeats.specs.Check as checking
 use Rattle.repeats.specs.Check.{firstRepeat, checkVerdict, checkOf}
 use Rattle.trails.specs.Strings.{Ends}
-use Rattle.trails.specs.Groups.{least}
 use Rattle.vertices.specs.EndWeights.{endWeights}
-use Rattle.cover.specs.declared.CoverAnswer.{CoverAnswer}
 use Rattle.cover.specs.declared.CoverAnswer.the-variants as cover
 use Rattle.cover.specs.Cover.{CoverOf, Promise, coverVerdict}
 use Rattle.cover.proofs.Laws.{cover-only}
@@ -36,10 +34,9 @@ use Rattle.runs.specs.declared.RunsAnswer.{RunsAnswer}
 use Rattle.runs.specs.declared.RunsAnswer.the-variants as runs
 use Rattle.runs.specs.Calls as listing
 use Rattle.runs.specs.Calls.{runsVerdict, runsOf}
-use Rattle.index.specs.declared.IndexAnswer.{IndexAnswer}
 use Rattle.index.specs.declared.IndexAnswer.the-variants as index
 use Rattle.index.specs.Indexing as indexing
-use Rattle.index.specs.Indexing.{Lent, indexVerdict, indexOf}
+use Rattle.index.specs.Indexing.{Lent, indexOf}
 use Rattle.dictionary.specs.Determined.{OneOutcome, Kept}
 
 pub one-outcome : OneOutcome

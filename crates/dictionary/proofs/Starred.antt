@@ -1,7 +1,6 @@
 -- The starred examples hold, by computing. Assumes nothing.
 use mathlib.Core.Path.{_≡_, refl, ap}
-use mathlib.Core.List.{List, [], _∷_}
-use Prim.Native.Nat.{ℕ}
+use mathlib.Core.List.{[], _∷_}
 use Rattle.lists.specs.Count.{countFrom, sum}
 use Rattle.lists.specs.Every.{every, same}
 use Rattle.lists.specs.First.{firstFrom}
@@ -26,7 +25,6 @@ use Rattle.runs.specs.RunList.{allFollow, isRunList, runListVerdict, lastAt}
 use Rattle.runs.specs.Calls.{weightAnswer}
 use Rattle.minimizers.specs.Minimizer.{sizesVerdict, smallest, minimizer}
 use Rattle.stretches.specs.Stretches.{numbered, walk, openFrom, ofString, stretchesFrom}
-use Rattle.index.specs.Indexing.{indexWith}
 use Rattle.placing.specs.Apply.{reordered}
 use Rattle.collection.specs.declared.Side.the-variants.{Turned}
 use Rattle.collection.specs.declared.Verdict.the-variants.{Good, Bad}
@@ -34,7 +32,7 @@ use Rattle.questions.specs.declared.QuickAnswer.{QuickAnswer}
 use Rattle.questions.specs.declared.QuickAnswer.the-variants.{Found, Absent}
 use Rattle.questions.specs.declared.WordAnswer.the-variants.{Weighs}
 use Rattle.runs.specs.Runs.{runWeights, runFirsts}
-use Rattle.stretches.specs.Index.{Index, built, entries, rowOf, stretchFits, rowFits, tablesFit}
+use Rattle.stretches.specs.Index.{built, entries, rowOf, stretchFits, rowFits, tablesFit}
 use Rattle.walks.specs.Walk.{isWord, seek}
 use Rattle.questions.specs.Quick.{metOr, quickFound, rowsVerdict, askVerdict, quickVerdict, quickOf}
 use Rattle.questions.specs.Weighed.{weighs, weighedOf}

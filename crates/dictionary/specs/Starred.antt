@@ -16,7 +16,7 @@ use Rattle.placing.specs.Places.{placesVerdict}
 use Rattle.runs.specs.Runs.{Run, runs, runWeights, runFirsts}
 use Rattle.fewest.specs.Fewest.{leastRuns}
 use Rattle.minimizers.specs.Minimizer.{minimizerAt}
-use Rattle.stretches.specs.Stretches.{Stretch, stretch, ofString}
+use Rattle.stretches.specs.Stretches.{stretch, ofString}
 use Rattle.index.specs.Indexing.{indexWith}
 use Rattle.questions.specs.declared.QuickAnswer.{QuickAnswer}
 use Rattle.questions.specs.declared.QuickAnswer.the-variants.{Found, Absent}
