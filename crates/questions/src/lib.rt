@@ -80,7 +80,7 @@ pub fn quick(
     inner::ask(k, q, letters, firsts, positions, numbers, before)
 }
 
-// What QUICK answered, for a word that it did not find.
+// What QUICK answered, for a word that it did not find. `weigh` takes the found case apart before it comes here.
 fn not_found(answer: QuickAnswer) -> WordAnswer
     ensures { λ r. ⌜ r ≡ unweighed answer ⌝ }
 {

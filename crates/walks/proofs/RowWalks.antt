@@ -41,7 +41,8 @@ row-short k N t v e few =
 
 -- ─── the loop ────────────────────────────────────────────────────────────────
 
--- `count` k-mers have been compared when the walk comes to stretch i, and the walk from there on gives the answer
+-- `count` k-mers have been compared when the walk comes to stretch i, and the walk from there on gives the answer. At most 2^41 were compared before the row, and
+-- at most 2^20 in each stretch.
 pub record Walking (test : ℕ → Bool) (k N : ℕ) (t : Index) (answer : Met) (e count i : ℕ) : Type 0 where
   pub inside : e ≤ length (t .firsts)
   pub fits : every (stretchFits k N) (entries t i (e - i)) ≡ true
