@@ -4,25 +4,23 @@ use mathlib.Core.Path.{_≡_, refl, sym, ap, _∙_, subst}
 use mathlib.Core.Bool.{Bool, true, _&&_}
 use mathlib.Core.Logic.{_⊎_, ⊎-elim}
 use mathlib.Core.List.{List}
-use Prim.Native.Nat.{ℕ, _^_, _<_, _≤_}
+use Prim.Native.Nat.{ℕ, _^_, _<_}
 use native.Mathlib.Omega.{arith}
 use borrow.Author.Tests.{le-leb, eq-eqb}
 use lib.Dec.{eqb}
-use lib.ListN.{length, take, drop, length-map}
+use lib.ListN.{length, take, drop}
 use Rattle.lists.specs.Choose.{choose}
 use Rattle.lists.specs.Every.{every}
-use Rattle.lists.proofs.Every.{and-both, every-all, all-every, all-take, all-drop}
-use Rattle.words.specs.Letter.{letter, isLetter}
-use Rattle.words.specs.Word.{Letters, spell, turn}
-use Rattle.words.proofs.Letters.{spell-letters}
+use Rattle.lists.proofs.Every.{and-both, all-every, all-take, all-drop}
+use Rattle.words.specs.Letter.{isLetter}
+use Rattle.words.specs.Word.{spell, turn}
 use Rattle.words.proofs.Rolling.{length-at}
-use Rattle.words.proofs.Turning.{length-turn, letters-turn}
 use Rattle.collection.specs.declared.Side.{Side}
 use Rattle.collection.specs.declared.Side.the-variants.{Asked, Turned}
 use Rattle.collection.specs.declared.Verdict.the-variants.{Good, Bad}
 use Rattle.collection.specs.Judge.{Passes, sizeVerdict, wordVerdict}
 use Rattle.collection.specs.Kmers.{positionOf, Distinct}
-use Rattle.collection.proofs.Judged.{Judged, collection-good, word-good}
+use Rattle.collection.proofs.Judged.{Judged, collection-good}
 use Rattle.collection.proofs.Kmers.{position-fits}
 use Rattle.collection.proofs.Verdicts.{then-good, settled}
 use Rattle.lookups.specs.declared.PlainAnswer.{PlainAnswer}
@@ -33,12 +31,11 @@ use Rattle.lookups.proofs.Accessed.{access-good, access-word}
 use Rattle.lookups.specs.Says.{Says, as-asked, as-turned, absent, Stands, Nowhere}
 use Rattle.lookups.proofs.Found.{plain-own}
 use Rattle.minimizers.specs.Minimizer.{sizesVerdict, minimizer, minimizerAt}
-use Rattle.minimizers.proofs.Sizes.{sizes-good}
-use Rattle.minimizers.proofs.Smallest.{minimizer-lt}
 use Rattle.stretches.specs.Index.{Index, indexed}
 use Rattle.questions.specs.declared.QuickAnswer.{QuickAnswer}
 use Rattle.questions.specs.declared.QuickAnswer.the-variants.{Found, Absent, Refused}
 use Rattle.questions.specs.Quick.{quickFound, askVerdict, quickVerdict, quickOf}
+use Rattle.questions.proofs.Asked.{ask-good, row-below, other-below}
 use Rattle.agreement.specs.Agreement.{unnumbered, sided}
 use Rattle.agreement.proofs.Found.{quick-plain, quick-says, never-ten}
 
@@ -51,26 +48,24 @@ module _ (k p : ℕ) (letters ends weights : List ℕ) (passes : Passes k letter
   judged = collection-good k letters ends weights passes
 
   module _ (word : List ℕ) (good : wordVerdict k word ≡ Good) where
-    word-letters : Letters (spell word)
-    word-letters = spell-letters word (every-all isLetter word (word-good k word good .1))
-
-    word-long : p ≤ length (spell word)
-    word-long = omega (arith, length-map word letter, word-good k word good .0, sizes-good k p sizes .p-fits)
-
-    asked-lt : minimizer p (spell word) < 4 ^ p
-    asked-lt = minimizer-lt p (spell word) word-letters word-long
-
-    turned-lt : minimizer p (turn (spell word)) < 4 ^ p
-    turned-lt = minimizer-lt p (turn (spell word)) (letters-turn (spell word) word-letters) (omega (arith, word-long, length-turn (spell word)))
-
     few-letters : sizeVerdict (length letters) 0 ≡ Good
     unfolding sizeVerdict
     few-letters = ap (λ (t : Bool). choose t Good (Bad 3 0)) (and-both (le-leb (length letters) 1048576 (judged .shape .N-high)) (le-leb 0 65536 (omega arith)))
 
     -- no verdict refuses it
+    asking : askVerdict k p word (length letters) ≡ Good
+    unfolding askVerdict
+    asking = then-good _ sizes (then-good _ few-letters good)
+
+    asked-below : minimizer p (spell word) < 4 ^ p
+    asked-below = row-below (ask-good k p word (length letters) asking)
+
+    turned-below : minimizer p (turn (spell word)) < 4 ^ p
+    turned-below = other-below (ask-good k p word (length letters) asking)
+
     quick-passes : quickVerdict k p word letters index ≡ Good
-    unfolding quickVerdict askVerdict
-    quick-passes = then-good _ (then-good _ sizes (then-good _ few-letters good)) (never-ten (minimizer p) (4 ^ p) k letters ends (judged .shape) (spell word) asked-lt turned-lt)
+    unfolding quickVerdict
+    quick-passes = then-good _ asking (never-ten (minimizer p) (4 ^ p) k letters ends (judged .shape) (spell word) asked-below turned-below)
 
     quick-answers : quickOf k p word letters index ≡ quickFound (minimizer p) k letters index (spell word)
     unfolding quickOf
@@ -81,11 +76,11 @@ module _ (k p : ℕ) (letters ends weights : List ℕ) (passes : Passes k letter
     unfolding plainOf
     quick-agrees =
         ap unnumbered quick-answers
-        ∙ settled plain.Refused (quick-plain (minimizer p) (4 ^ p) k letters ends (spell word) asked-lt turned-lt) (then-good (wordVerdict k word) passes good)
+        ∙ settled plain.Refused (quick-plain (minimizer p) (4 ^ p) k letters ends (spell word) asked-below turned-below) (then-good (wordVerdict k word) passes good)
 
     -- it finds exactly the words that stand in the collection, as asked or turned, with their lowest handles
     pub quick-finds : Says k letters ends (spell word) (unnumbered (quickOf k p word letters index))
-    quick-finds = subst (λ (answer : QuickAnswer). Says k letters ends (spell word) (unnumbered answer)) (sym quick-answers) (quick-says (minimizer p) (4 ^ p) k letters ends (spell word) asked-lt turned-lt)
+    quick-finds = subst (λ (answer : QuickAnswer). Says k letters ends (spell word) (unnumbered answer)) (sym quick-answers) (quick-says (minimizer p) (4 ^ p) k letters ends (spell word) asked-below turned-below)
 
     -- found, the asked word stands at the handle, on the side that is told
     pub found-stands : (handle : ℕ) (side : Side) (compared : ℕ) → quickOf k p word letters index ≡ Found handle side compared → Stands k letters ends (sided side (spell word)) handle
