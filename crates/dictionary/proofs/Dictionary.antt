@@ -36,6 +36,10 @@ use Rattle.agreement.specs.Agreement.{unnumbered, sided}
 use Rattle.agreement.proofs.Agreed.{found-stands, absent-nowhere, never-refused, stands-found, quick-own}
 use Rattle.dictionary.specs.Dictionary.{Sound, Answers}
 
+-- a judged word has letters only
+pub word-spelt : (k : ℕ) (word : List ℕ) → wordVerdict k word ≡ Good → Letters (spell word)
+word-spelt k word good = spell-letters word (every-all isLetter word (word-good k word good .1))
+
 -- a word found weighs what its handle weighs
 pub found-weighs : (k : ℕ) (letters ends weights : List ℕ) → Passes k letters ends weights → (answer : QuickAnswer) (handle : ℕ) (side : Side) (compared : ℕ) → 1 ≤ handle → handle ≤ length weights
     → answer ≡ Found handle side compared → weighedOf answer (runWeights weights) (runFirsts weights) (length weights) ≡ Weighs (weightOf weights handle)
@@ -52,9 +56,6 @@ module _ (k p : ℕ) (letters ends weights : List ℕ) (passes : Passes k letter
   many = judged .counted ∙ sym (kmers-counted (judged .shape))
 
   module _ (word : List ℕ) (good : wordVerdict k word ≡ Good) where
-    letters-all : Letters (spell word)
-    letters-all = spell-letters word (every-all isLetter word (word-good k word good .1))
-
     -- two handles at which the word stands, on either side, are one
     one-handle : Distinct k letters ends → (s t : Side) (h j : ℕ) → Stands k letters ends (sided s (spell word)) h → Stands k letters ends (sided t (spell word)) j → h ≡ j
     one-handle d s t h j a b = omega (arith, d (h - 1) (j - 1) (omega (arith, a .low, a .high)) (omega (arith, b .low, b .high)) (alike s t (a .word) (b .word)), a .low, b .low)
@@ -72,7 +73,7 @@ module _ (k p : ℕ) (letters ends weights : List ℕ) (passes : Passes k letter
         alike Asked Asked x y = inl (back h (a .low) ∙ (x ∙ (sym y ∙ sym (back j (b .low)))))
         alike Turned Turned x y = inl (back h (a .low) ∙ (x ∙ (sym y ∙ sym (back j (b .low)))))
         alike Turned Asked x y = inr (back h (a .low) ∙ (x ∙ ap turn (sym y ∙ sym (back j (b .low)))))
-        alike Asked Turned x y = inr (back h (a .low) ∙ (x ∙ (sym (turn-turn (spell word) letters-all) ∙ ap turn (sym y ∙ sym (back j (b .low))))))
+        alike Asked Turned x y = inr (back h (a .low) ∙ (x ∙ (sym (turn-turn (spell word) (word-spelt k word good)) ∙ ap turn (sym y ∙ sym (back j (b .low))))))
 
   handle-good : (handle : ℕ) → 1 ≤ handle → handle ≤ length weights → accessVerdict k letters ends handle ≡ Good
   unfolding accessVerdict handleVerdict collectionVerdict

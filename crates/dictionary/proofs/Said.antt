@@ -7,10 +7,7 @@ use Prim.Native.Nat.{ℕ}
 use native.Mathlib.Omega.{arith}
 use lib.IntN.{ℤ}
 use lib.ListN.{length}
-use Rattle.lists.proofs.Every.{every-all}
-use Rattle.words.specs.Letter.{isLetter}
 use Rattle.words.specs.Word.{Letters, spell, turn}
-use Rattle.words.proofs.Letters.{spell-letters}
 use Rattle.words.proofs.Turning.{turn-turn}
 use Rattle.collection.specs.declared.Side.{Side}
 use Rattle.collection.specs.declared.Side.the-variants.{Asked, Turned}
@@ -18,7 +15,7 @@ use Rattle.collection.specs.declared.Verdict.the-variants.{Good}
 use Rattle.collection.specs.Judge.{Passes, wordVerdict}
 use Rattle.collection.specs.Kmers.{positionOf, wordOf, weightOf, Distinct}
 use Rattle.collection.specs.Strings.{lettersIn, endsIn, weightsIn}
-use Rattle.collection.proofs.Judged.{collection-good, word-good}
+use Rattle.collection.proofs.Judged.{collection-good}
 use Rattle.lookups.proofs.Asked.{judged-ready, word-letters}
 use Rattle.lookups.specs.Says.{Stands}
 use Rattle.trails.specs.Places.{SignedPermutation}
@@ -37,7 +34,7 @@ use Rattle.questions.specs.Quick.{quickOf}
 use Rattle.questions.specs.Weighed.{weighedOf}
 use Rattle.agreement.specs.Agreement.{sided}
 use Rattle.dictionary.specs.Dictionary.{Answers, weighed}
-use Rattle.dictionary.proofs.Dictionary.{answers, many, found-weighs}
+use Rattle.dictionary.proofs.Dictionary.{word-spelt, found-weighs, many, answers}
 use Rattle.dictionary.proofs.OnceEach.{reordered-distinct}
 
 -- an answer says what the collection says of the word w: its weight, where it stands there as asked or turned; absent, where it does not
@@ -69,9 +66,6 @@ module _ (k p : ℕ) (letters ends weights : List ℕ) (places : List ℤ) (pass
   a : Answers k p L E W
   a = answers k p L E W (record { passes = passes'; distinct = reordered-distinct k letters ends weights places passes perm distinct }) sizes
 
-  spelt : Letters (spell asked)
-  spelt = spell-letters asked (every-all isLetter asked (word-good k asked good .1))
-
   -- QUICK and WEIGHT over the reordered collection answer what the collection says
   pub reordered-says : Said k letters ends weights (spell asked) (weighed k p L E W asked)
   unfolding weighedOf
@@ -93,6 +87,6 @@ module _ (k p : ℕ) (letters ends weights : List ℕ) (places : List ℤ) (pass
       go : (x : QuickAnswer) → quickOf k p asked L (indexWith k p L E) ≡ x → Said k letters ends weights (spell asked) (weighed k p L E W asked)
       go (Found handle side compared) e =
           let s = a .found asked good handle side compared e in
-          inl (weightOf W handle, found-weighs k L E W passes' _ handle side compared (s .low) (omega (arith, s .high, many k p L E W passes' sizes)) e, back (weightOf W handle) (stands-weighs k L E W (spell asked) spelt side handle s))
+          inl (weightOf W handle, found-weighs k L E W passes' _ handle side compared (s .low) (omega (arith, s .high, many k p L E W passes' sizes)) e, back (weightOf W handle) (stands-weighs k L E W (spell asked) (word-spelt k asked good) side handle s))
       go (Absent compared) e = inr (ap (λ (x : QuickAnswer). weighedOf x (runWeights W) (runFirsts W) (length W)) e, none compared e)
       go (Refused number place) e = absurd (a .taken asked good number place e)
