@@ -26,7 +26,7 @@ module _ (t : Index) where
 
   -- ─── a row that fits ───────────────────────────────────────────────────────
 
-  -- what a row from stretch b up to stretch e gives that fits
+  -- what is known of a row that fits, from stretch b up to stretch e
   pub record Fits (k N b e : ℕ) : Type 0 where
     pub order : b ≤ e
     pub inside : e ≤ length (t .firsts)
