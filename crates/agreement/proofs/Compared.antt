@@ -2,13 +2,12 @@
 use mathlib.Core.Path.{_≡_, refl, ap, _∙_}
 use mathlib.Core.Bool.{Bool, true, false}
 use mathlib.Core.List.{List, [], _∷_, _++_}
-use Prim.Native.Nat.{ℕ, suc, _+_, _≤_}
+use Prim.Native.Nat.{ℕ, suc, _+_}
 use native.Mathlib.Omega.{arith}
-use lib.ListN.{length, length-append}
+use lib.ListN.{length}
 use Rattle.lists.specs.Choose.{choose}
 use Rattle.lists.specs.Every.{All}
 use Rattle.words.specs.Word.{turn}
-use Rattle.collection.specs.declared.Side.{Side}
 use Rattle.collection.specs.declared.Side.the-variants.{Asked, Turned}
 use Rattle.stretches.specs.Index.{Index, rowOf}
 use Rattle.stretches.specs.Stretches.{Kmer, walk}
@@ -42,6 +41,7 @@ module _ (test : ℕ → Bool) where
     meeting : (handle compared : ℕ) → Meets c xs handle compared → Walked c xs (Hit handle compared)
     past : (compared : ℕ) → compared ≡ c + length xs → None xs → Walked c xs (Miss compared)
 
+  -- a walk ends at the first k-mer that meets the test, or past them all
   pub seek-walks : (c : ℕ) (xs : List Kmer) → Walked c xs (seek test c xs)
   unfolding seek
   seek-walks c [] = past c (omega arith) tt
@@ -67,11 +67,6 @@ module _ (test : ℕ → Bool) where
           meeting (x .handle) (suc c)
           (record { passed = []; here = x; left = xs; split = refl; none-passed = tt; meets = e; is-handle = refl; counted = omega arith })
       go false e w = later e w
-
-  meets-within : {c : ℕ} {xs : List Kmer} {handle compared : ℕ} → Meets c xs handle compared → (c + 1 ≤ compared) × (compared ≤ c + length xs)
-  meets-within w =
-      let n = ap length (w .split) ∙ length-append (w .passed) (w .here ∷ w .left) in
-      (omega (arith, w .counted), omega (arith, w .counted, n))
 
 -- ─── both walks ──────────────────────────────────────────────────────────────
 
@@ -121,18 +116,3 @@ module _ (z : List ℕ → ℕ) (k : ℕ) (letters : List ℕ) (index : Index) (
       go (as-asked handle n v) q = cc
       go (as-turned handle n none v) q = cc
       go (absent n e none none') q = let s : compared ≡ n = cc in s ∙ e
-
-  -- found, at least one k-mer was compared, and none beyond the two rows
-  pub found-within : (handle : ℕ) (side : Side) (compared : ℕ) → quickFound z k letters index w ≡ Found handle side compared → (1 ≤ compared) × (compared ≤ length askedRow + length turnedRow)
-  found-within handle side compared e = go quick-compares e
-    where
-      go : {answer : QuickAnswer} → Compares answer → answer ≡ Found handle side compared → (1 ≤ compared) × (compared ≤ length askedRow + length turnedRow)
-      go (as-asked h n v) q =
-          let s : compared ≡ n = cc in
-          let b = meets-within (isWord k letters w) v in
-          (omega (arith, b .0), omega (arith, b .1))
-      go (as-turned h n none v) q =
-          let s : compared ≡ n = cc in
-          let b = meets-within (isWord k letters (turn w)) v in
-          (omega (arith, b .0), omega (arith, b .1))
-      go (absent n e none none') q = let s : _≡_ {A = ℕ} 0 1 = cc in absurd (omega arith)

@@ -89,127 +89,120 @@ fn show_weight(asked: &[u8], answer: WordAnswer) {
     }
 }
 
-// Asks words of an index; with another p it does not fit.
-fn ask(firsts: &[u32], positions: &[u32], numbers: &[u32], before: &[u32]) {
-    show_quick(
-        b"CAG",
-        questions::quick(3, 2, b"CAG", &LETTERS, firsts, positions, numbers, before),
-    );
-    show_quick(
-        b"TTT",
-        questions::quick(3, 2, b"TTT", &LETTERS, firsts, positions, numbers, before),
-    );
-    show_quick(
-        b"CCC",
-        questions::quick(3, 2, b"CCC", &LETTERS, firsts, positions, numbers, before),
-    );
-    show_quick(
-        b"GGC",
-        questions::quick(3, 2, b"GGC", &LETTERS, firsts, positions, numbers, before),
-    );
-    show_quick(
-        b"GGCT",
-        questions::quick(3, 2, b"GGCT", &LETTERS, firsts, positions, numbers, before),
-    );
-    show_quick(
-        b"p = 9",
-        questions::quick(3, 9, b"CAG", &LETTERS, firsts, positions, numbers, before),
-    );
-    show_quick(
-        b"p = 1",
-        questions::quick(3, 1, b"CAG", &LETTERS, firsts, positions, numbers, before),
-    );
+// Asks a word, with p = 2.
+fn ask_word(word: &[u8], firsts: &[u32], positions: &[u32], numbers: &[u32], before: &[u32]) {
+    let answer = questions::quick(3, 2, word, &LETTERS, firsts, positions, numbers, before);
+    show_quick(word, answer);
 }
 
-// The weights of words.
-fn weigh(firsts: &[u32], positions: &[u32], numbers: &[u32], before: &[u32]) {
-    show_weight(
+// Asks CAG with another p: the index does not fit.
+fn ask_with(
+    asked: &[u8],
+    p: usize,
+    firsts: &[u32],
+    positions: &[u32],
+    numbers: &[u32],
+    before: &[u32],
+) {
+    let answer = questions::quick(3, p, b"CAG", &LETTERS, firsts, positions, numbers, before);
+    show_quick(asked, answer);
+}
+
+fn ask_all(firsts: &[u32], positions: &[u32], numbers: &[u32], before: &[u32]) {
+    ask_word(b"CAG", firsts, positions, numbers, before);
+    ask_word(b"TTT", firsts, positions, numbers, before);
+    ask_word(b"CCC", firsts, positions, numbers, before);
+    ask_word(b"GGC", firsts, positions, numbers, before);
+    ask_word(b"GGCT", firsts, positions, numbers, before);
+    ask_with(b"p = 9", 9, firsts, positions, numbers, before);
+    ask_with(b"p = 1", 1, firsts, positions, numbers, before);
+}
+
+// The weight of a word, by the run list of n k-mers.
+fn weigh(
+    asked: &[u8],
+    word: &[u8],
+    n: usize,
+    firsts: &[u32],
+    positions: &[u32],
+    numbers: &[u32],
+    before: &[u32],
+) {
+    let answer = questions::weigh(
+        3,
+        2,
+        word,
+        &LETTERS,
+        firsts,
+        positions,
+        numbers,
+        before,
+        &RUN_WEIGHTS,
+        &RUN_FIRSTS,
+        n,
+    );
+    show_weight(asked, answer);
+}
+
+fn weigh_all(firsts: &[u32], positions: &[u32], numbers: &[u32], before: &[u32]) {
+    weigh(
         b"weight of CAG",
-        questions::weigh(
-            3,
-            2,
-            b"CAG",
-            &LETTERS,
-            firsts,
-            positions,
-            numbers,
-            before,
-            &RUN_WEIGHTS,
-            &RUN_FIRSTS,
-            10,
-        ),
+        b"CAG",
+        10,
+        firsts,
+        positions,
+        numbers,
+        before,
     );
-    show_weight(
+    weigh(
         b"weight of CCC",
-        questions::weigh(
-            3,
-            2,
-            b"CCC",
-            &LETTERS,
-            firsts,
-            positions,
-            numbers,
-            before,
-            &RUN_WEIGHTS,
-            &RUN_FIRSTS,
-            10,
-        ),
+        b"CCC",
+        10,
+        firsts,
+        positions,
+        numbers,
+        before,
     );
-    show_weight(
+    weigh(
         b"weight of CAG, n = 7",
-        questions::weigh(
-            3,
-            2,
-            b"CAG",
-            &LETTERS,
-            firsts,
-            positions,
-            numbers,
-            before,
-            &RUN_WEIGHTS,
-            &RUN_FIRSTS,
-            7,
-        ),
+        b"CAG",
+        7,
+        firsts,
+        positions,
+        numbers,
+        before,
     );
 }
 
-// A word that repeats, and tables that are too short.
-fn refused() {
+// Indexes a collection into tables that have room for seven stretches, but for the numbers of k-mers.
+fn index_short(asked: &[u8], letters: &[u8], ends: &[u32], weights: &[u32]) {
     let mut firsts = [0u32; 7];
     let mut positions = [0u32; 7];
     let mut numbers = [0u32; 6];
     let mut before = [0u32; 17];
     let mut work = [0u32; 40];
-    let a = index::index(
+    let answer = index::index(
         3,
         2,
-        &LETTERS,
-        &ENDS,
-        &WEIGHTS,
+        letters,
+        ends,
+        weights,
         &mut firsts,
         &mut positions,
         &mut numbers,
         &mut before,
         &mut work,
     );
-    show_index(b"numbers too short", a);
-    let b = index::index(
-        3,
-        2,
-        b"ACGCGT",
-        &[3, 6],
-        &[1, 1],
-        &mut firsts,
-        &mut positions,
-        &mut numbers,
-        &mut before,
-        &mut work,
-    );
-    show_index(b"ACG and CGT", b);
+    show_index(asked, answer);
 }
 
-// The seven stretches, and the questions.
-fn after(firsts: &[u32], positions: &[u32], numbers: &[u32], before: &[u32]) {
+// A table that is too short, and a word that repeats.
+fn refused() {
+    index_short(b"numbers too short", &LETTERS, &ENDS, &WEIGHTS);
+    index_short(b"ACG and CGT", b"ACGCGT", &[3, 6], &[1, 1]);
+}
+
+fn stretches_all(firsts: &[u32], positions: &[u32], numbers: &[u32]) {
     show_stretch(firsts, positions, numbers, 0);
     show_stretch(firsts, positions, numbers, 1);
     show_stretch(firsts, positions, numbers, 2);
@@ -217,8 +210,13 @@ fn after(firsts: &[u32], positions: &[u32], numbers: &[u32], before: &[u32]) {
     show_stretch(firsts, positions, numbers, 4);
     show_stretch(firsts, positions, numbers, 5);
     show_stretch(firsts, positions, numbers, 6);
-    ask(firsts, positions, numbers, before);
-    weigh(firsts, positions, numbers, before);
+}
+
+// The seven stretches, and the questions.
+fn after(firsts: &[u32], positions: &[u32], numbers: &[u32], before: &[u32]) {
+    stretches_all(firsts, positions, numbers);
+    ask_all(firsts, positions, numbers, before);
+    weigh_all(firsts, positions, numbers, before);
 }
 
 fn main() {

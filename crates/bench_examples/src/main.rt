@@ -43,16 +43,16 @@ fn show_access(asked: &[u8], k: usize, handle: usize) {
     show(asked, told.number as u64, told.place as u64);
 }
 
-// The handle and 1 for side +, 2 for side -; 0 and 0 if absent; 100 + number and the place if refused.
-fn show_plain(asked: &[u8], word: &[u8]) {
+// The handle of a word and 1 for side +, 2 for side -; 0 and 0 if absent; 100 + number and the place if refused.
+fn show_plain(word: &[u8]) {
     let answer = plain::plain(3, &LETTERS, &ENDS, &WEIGHTS, word);
     match answer {
         PlainAnswer::Found { handle, side } => match side {
-            Side::Asked => show(asked, handle as u64, 1),
-            Side::Turned => show(asked, handle as u64, 2),
+            Side::Asked => show(word, handle as u64, 1),
+            Side::Turned => show(word, handle as u64, 2),
         },
-        PlainAnswer::Absent => show(asked, 0, 0),
-        PlainAnswer::Refused { number, place } => show(asked, 100 + number as u64, place as u64),
+        PlainAnswer::Absent => show(word, 0, 0),
+        PlainAnswer::Refused { number, place } => show(word, 100 + number as u64, place as u64),
     }
 }
 
@@ -60,6 +60,7 @@ fn wide(x: u32) -> u64 {
     x as u64
 }
 
+// One run's weight and first handle.
 fn show_run(weights: &[u32], firsts: &[u32], i: usize) {
     if weights.len() <= i {
         return;
@@ -70,28 +71,35 @@ fn show_run(weights: &[u32], firsts: &[u32], i: usize) {
     show(b"run", wide(weights[i]), wide(firsts[i]));
 }
 
-// Each run's weight and first handle, in a line of its own; number and place if refused.
-fn show_runs() {
+// Each of five runs in a line of its own.
+fn show_list(weights: &[u32], firsts: &[u32]) {
+    show_run(weights, firsts, 0);
+    show_run(weights, firsts, 1);
+    show_run(weights, firsts, 2);
+    show_run(weights, firsts, 3);
+    show_run(weights, firsts, 4);
+}
+
+// How many runs there are, or 100 + number and the place if RUNS refuses.
+pub(crate) fn show_count(asked: &[u8], answer: RunsAnswer) {
+    match answer {
+        RunsAnswer::Filled { runs } => show(asked, runs as u64, 0),
+        RunsAnswer::Refused { number, place } => show(asked, 100 + number as u64, place as u64),
+    }
+}
+
+// The runs of the sheet.
+fn runs_all() {
     let mut weights = [0u32; 5];
     let mut firsts = [0u32; 5];
     let answer = runs::runs(3, &LETTERS, &ENDS, &WEIGHTS, &mut weights, &mut firsts);
-    match answer {
-        RunsAnswer::Filled { runs } => show(b"runs", runs as u64, 0),
-        RunsAnswer::Refused { number, place } => show(b"runs refused", number as u64, place as u64),
-    }
-    show_run(&weights, &firsts, 0);
-    show_run(&weights, &firsts, 1);
-    show_run(&weights, &firsts, 2);
-    show_run(&weights, &firsts, 3);
-    show_run(&weights, &firsts, 4);
+    show_count(b"runs", answer);
+    show_list(&weights, &firsts);
 }
 
 // The weight of a handle in the run list of the sheet, or 100 + number and the place if refused.
 fn show_weight(asked: &[u8], n: usize, handle: usize) {
-    let weights = [2u32, 5, 3, 7, 2];
-    let firsts = [1u32, 3, 5, 7, 10];
-    let answer = run_lists::weight(&weights, &firsts, n, handle);
-    match answer {
+    match run_lists::weight(&[2, 5, 3, 7, 2], &[1, 3, 5, 7, 10], n, handle) {
         WeightAnswer::Found { weight } => show(asked, weight as u64, 0),
         WeightAnswer::Refused { number, place } => show(asked, 100 + number as u64, place as u64),
     }
@@ -104,26 +112,26 @@ fn judge(asked: &[u8], k: usize, letters: &[u8], ends: &[u32], weights: &[u32]) 
     );
 }
 
+fn judge_sheet(asked: &[u8], k: usize) {
+    judge(asked, k, &LETTERS, &ENDS, &WEIGHTS);
+}
+
+fn judge_none() {
+    judge(b"no strings", 3, b"", &[], &[]);
+}
+
+// One string of 31 letters, with one weight.
 fn judge_long(asked: &[u8], k: usize, weight: u32) {
-    let letters = [b'A'; 31];
-    let ends = [31u32; 1];
-    let weights = [weight; 1];
-    judge(asked, k, &letters, &ends, &weights);
+    judge(asked, k, &[b'A'; 31], &[31], &[weight]);
 }
 
 fn judge_all() {
-    judge(b"the sheet of 01", 3, &LETTERS, &ENDS, &WEIGHTS);
-    judge(b"k = 2", 2, &LETTERS, &ENDS, &WEIGHTS);
+    judge_sheet(b"the sheet of 01", 3);
+    judge_sheet(b"k = 2", 2);
     judge_long(b"k = 31, weight 1", 31, 1);
     judge_long(b"k = 32", 32, 1);
     judge_long(b"weight 0", 31, 0);
-    judge(
-        b"no strings",
-        3,
-        &LETTERS[0..0],
-        &ENDS[0..0],
-        &WEIGHTS[0..0],
-    );
+    judge_none();
 }
 
 fn turn_all() {
@@ -140,12 +148,12 @@ fn access_all() {
 }
 
 fn plain_all() {
-    show_plain(b"CAG", b"CAG");
-    show_plain(b"TTT", b"TTT");
-    show_plain(b"CCC", b"CCC");
-    show_plain(b"GGC", b"GGC");
-    show_plain(b"GGCT", b"GGCT");
-    show_plain(b"cag", b"cag");
+    show_plain(b"CAG");
+    show_plain(b"TTT");
+    show_plain(b"CCC");
+    show_plain(b"GGC");
+    show_plain(b"GGCT");
+    show_plain(b"cag");
 }
 
 fn weigh_all() {
@@ -166,15 +174,25 @@ fn show_check(asked: &[u8], k: usize, letters: &[u8], ends: &[u32], weights: &[u
     }
 }
 
-fn check_all() {
+// Two strings of three letters.
+fn check_two(asked: &[u8], letters: &[u8]) {
+    show_check(asked, 3, letters, &[3, 6], &[1, 1]);
+}
+
+fn check_sheet() {
     show_check(b"the sheet checked", 3, &LETTERS, &ENDS, &WEIGHTS);
-    let two = [3u32, 6];
-    let one = [1u32; 2];
-    show_check(b"ACG and CGT", 3, b"ACGCGT", &two, &one);
-    show_check(b"ACG and GTC", 3, b"ACGGTC", &two, &one);
-    let four = [4u32; 1];
-    let weight = [1u32; 1];
-    show_check(b"ACGT is its own pair", 4, b"ACGT", &four, &weight);
+}
+
+// A word that is its own reverse complement, once.
+fn check_own() {
+    show_check(b"ACGT is its own pair", 4, b"ACGT", &[4], &[1]);
+}
+
+fn check_all() {
+    check_sheet();
+    check_two(b"ACG and CGT", b"ACGCGT");
+    check_two(b"ACG and GTC", b"ACGGTC");
+    check_own();
 }
 
 fn main() {
@@ -182,8 +200,9 @@ fn main() {
     judge_all();
     access_all();
     plain_all();
-    show_runs();
+    runs_all();
     weigh_all();
     check_all();
     reordering::cover_sheet();
+    reordering::apply_all();
 }

@@ -1,8 +1,8 @@
 // The sheet of 01 as it was given: COVER finds places, APPLY writes the new collection, RUNS counts its runs.
 use crate::show;
+use crate::show_count;
 use cover::CoverAnswer;
 use placing::ApplyAnswer;
-use runs::RunsAnswer;
 
 const LETTERS: [u8; 18] = *b"AAACCAGATCAGCCTACA";
 
@@ -10,14 +10,12 @@ const ENDS: [u32; 4] = [5, 9, 14, 18];
 
 const WEIGHTS: [u32; 10] = [2, 2, 5, 7, 2, 7, 7, 3, 3, 5];
 
+// How many runs a collection has.
 fn show_runs(asked: &[u8], letters: &[u8], ends: &[u32], weights: &[u32]) {
     let mut run_weights = [0u32; 10];
     let mut run_firsts = [0u32; 10];
     let answer = runs::runs(3, letters, ends, weights, &mut run_weights, &mut run_firsts);
-    match answer {
-        RunsAnswer::Filled { runs } => show(asked, runs as u64, 0),
-        RunsAnswer::Refused { number, place } => show(asked, 100 + number as u64, place as u64),
-    }
+    show_count(asked, answer);
 }
 
 // The runs after the strings are put to these places, or 100 + number and the place if APPLY refuses.
@@ -47,24 +45,30 @@ fn show_applied(asked: &[u8], places: &[i32]) {
     }
 }
 
-pub(crate) fn cover_sheet() {
-    show_runs(b"runs as given", &LETTERS, &ENDS, &WEIGHTS);
-    let mut places = [0i32; 4];
-    let mut work = [0u32; 64];
-    let answer = cover::cover(3, &LETTERS, &ENDS, &WEIGHTS, &mut places, &mut work);
+fn show_cover(answer: CoverAnswer) {
     match answer {
-        CoverAnswer::Covered { places: m, paths } => show(b"covered", m as u64, paths as u64),
+        CoverAnswer::Covered { places, paths } => show(b"covered", places as u64, paths as u64),
         CoverAnswer::Refused { number, place } => show(
             b"cover refused",
             number as u64,
             place as u64,
         ),
     }
+}
+
+// The number of places that COVER fills and its paths, and the runs with these places.
+pub(crate) fn cover_sheet() {
+    show_runs(b"runs as given", &LETTERS, &ENDS, &WEIGHTS);
+    let mut places = [0i32; 4];
+    let mut work = [0u32; 64];
+    let answer = cover::cover(3, &LETTERS, &ENDS, &WEIGHTS, &mut places, &mut work);
+    show_cover(answer);
     show_applied(b"runs as covered", &places);
-    let given = [1i32, 4, -3, -2];
-    show_applied(b"runs at +1 +4 -3 -2", &given);
-    let twice = [1i32, -1, 2, 3];
-    show_applied(b"places +1 -1", &twice);
-    let smallest = [1i32, 2, 3, -2147483648];
-    show_applied(b"the smallest place", &smallest);
+}
+
+// Places that are given, and some that are refused.
+pub(crate) fn apply_all() {
+    show_applied(b"runs at +1 +4 -3 -2", &[1, 4, -3, -2]);
+    show_applied(b"places +1 -1", &[1, -1, 2, 3]);
+    show_applied(b"the smallest place", &[1, 2, 3, -2147483648]);
 }

@@ -4,9 +4,8 @@ use mathlib.Core.Path.{_≡_, sym, ap, _∙_}
 use mathlib.Core.Bool.{true}
 use mathlib.Core.List.{List, map}
 use Prim.Native.Nat.{ℕ, _+_, _-_, _^_, _≤_, _<_}
-use native.Mathlib.Nat.{add-zero, mod-lt, pow-le-pow-right}
+use native.Mathlib.Nat.{add-zero, mod-lt}
 use native.Mathlib.Omega.{arith}
-use lib.Dec.{lit<}
 use lib.ListN.{length, getD, take, drop, length-map, length-drop}
 use lib.Seq.{length-take-le}
 use Rattle.lists.specs.Every.{All}
@@ -17,7 +16,9 @@ use Rattle.words.specs.Word.{Letters, code, wordAt}
 use Rattle.alphabet.proofs.Letters.{bits-lt}
 use Rattle.words.proofs.Spelled.{spell-letters, spell-bits}
 use Rattle.words.proofs.Along.{Rolls, word-here, word-on}
-use Rattle.minimizers.specs.Minimizer.{least, minimizerAt}
+use Rattle.minimizers.specs.Least.{least}
+use Rattle.minimizers.specs.Minimizer.{minimizerAt}
+use Rattle.minimizers.proofs.Sizes.{words-few}
 use Rattle.minimizers.proofs.Sliding.{four-pos, least-low}
 use Rattle.minimizers.proofs.Smallest.{least-minimizer, minimizer-lt}
 
@@ -29,7 +30,7 @@ pub record Carried (k p : ℕ) (letters : List ℕ) (a c v : ℕ) : Type 0 where
 -- a minimizer of at most 8 letters
 pub carried-small : {k p a c v : ℕ} {letters : List ℕ} → Carried k p letters a c v → p ≤ 8 → v < 65536
 carried-small {k} {p} {a} {c} s l =
-    omega (arith, s .is-least, least-low p (k - p) c, mod-lt c (four-pos p), let b : 4 ^ p ≤ 4 ^ 8 = pow-le-pow-right (lit< tt) l in b)
+    omega (arith, s .is-least, least-low p (k - p) c, mod-lt c (four-pos p), words-few p l)
 
 -- what `roll` and `slide` ask of the code, the minimizer and the next letter's byte b
 module _ {k p : ℕ} {letters : List ℕ} (a c v x b : ℕ) (s : Carried k p letters a c v) (k-high : k ≤ 31) (e : x ≡ twoBits b) where

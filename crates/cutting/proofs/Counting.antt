@@ -9,7 +9,8 @@ use Rattle.collection.specs.Ready.{Long}
 use Rattle.faults.specs.Faults.{lastEnd}
 use Rattle.collection.proofs.Kmers.{Strings-left, strings-begin, strings-on}
 use Rattle.stretches.specs.Stretches.{Stretch, ofString, stretchesFrom, stretches}
-use Rattle.cutting.proofs.Opened.{Open, open-start, open-on, open-cut, open-last, string-few, stretches-next, stretches-end}
+use Rattle.stretches.proofs.Even.{string-few}
+use Rattle.cutting.proofs.Opened.{Open, open-start, open-on, open-cut, open-last, stretches-next, stretches-end}
 
 -- i k-mers of a string have been looked at and `count` stretches have begun; v is the minimizer of the open one
 pub record Counting (q : ℕ → ℕ) (a n count v i : ℕ) : Type 0 where
@@ -20,6 +21,7 @@ pub record Counting (q : ℕ → ℕ) (a n count v i : ℕ) : Type 0 where
   pub whole : (h : ℕ) → length (ofString q h a n) + 1 ≡ count + length (Open q h a n from i)
 
 module _ (q : ℕ → ℕ) (a n : ℕ) where
+  -- the first k-mer begins a stretch
   pub counting-begin : (v : ℕ) → 1 ≤ n → v ≡ q (a + 0) → Counting q a n 1 v 1
   counting-begin v l e =
       record {
@@ -31,7 +33,9 @@ module _ (q : ℕ → ℕ) (a n : ℕ) where
       }
 
   module _ (count v i : ℕ) (r : Counting q a n count v i) where
+    -- w is the minimizer of the next k-mer
     module _ (w : ℕ) (l : i < n) (e : w ≡ q (a + i)) where
+      -- it belongs to the open stretch
       pub counting-on : w ≡ v → Counting q a n count v (i + 1)
       counting-on f =
           record {
@@ -42,6 +46,7 @@ module _ (q : ℕ → ℕ) (a n : ℕ) where
             whole = λ h. r .whole h ∙ ap (λ (ss : List Stretch). count + length ss) (open-on q h a n (r .from) i (r .behind) l (sym e ∙ (f ∙ r .key)));
           }
 
+      -- it begins another
       pub counting-cut : (w ≡ v → ⊥) → Counting q a n (count + 1) w (i + 1)
       counting-cut f =
           record {
@@ -52,6 +57,7 @@ module _ (q : ℕ → ℕ) (a n : ℕ) where
             whole = λ h. omega (arith, r .whole h, ap length (open-cut q h a n (r .from) i (r .behind) l (λ z. f (e ∙ (z ∙ sym (r .key))))));
           }
 
+    -- no k-mer is left
     pub counting-end : i ≡ n → (h : ℕ) → count ≡ length (ofString q h a n)
     counting-end e h = omega (arith, r .whole h, ap length (open-last q h a n (r .from) i e))
 
@@ -69,6 +75,7 @@ module _ (q : ℕ → ℕ) (k N : ℕ) (ends : List ℕ) where
   tallied-begin g e = record { next = 1; strings = strings-begin g e; small = omega arith; whole = omega arith }
 
   module _ (i before count : ℕ) (r : Tallied q k N ends i before count) where
+    -- the next string, which has m stretches
     pub tallied-on : i < length ends → 1 ≤ k → (m : ℕ) → ((h : ℕ) → m ≡ length (ofString q h before (within k before (getD ends i 0)))) → Tallied q k N ends (i + 1) (getD ends i 0) (count + m)
     tallied-on l k1 m e =
         let n = within k before (getD ends i 0) in
@@ -81,5 +88,6 @@ module _ (q : ℕ → ℕ) (k N : ℕ) (ends : List ℕ) where
               omega (arith, r .whole, e h, ap length (stretches-next q k h before ends i l), length-append (ofString q h before n) (stretchesFrom q k (h + n) (getD ends i 0) (drop (i + 1) ends)));
         }
 
+    -- no string is left
     pub tallied-end : length ends ≤ i → count ≡ length (stretches q k ends)
     tallied-end l = omega (arith, r .whole, ap length (stretches-end q k (r .next) before ends i l))

@@ -9,8 +9,9 @@ use Rattle.collection.specs.Kmers.{within}
 use Rattle.collection.specs.Ready.{Long}
 use Rattle.collection.proofs.Kmers.{Strings-left, strings-begin, strings-on}
 use Rattle.stretches.specs.Stretches.{Stretch, stretch, ofString, stretchesFrom, stretches}
+use Rattle.stretches.proofs.Even.{string-few}
 use Rattle.cutting.specs.Cut.{Room4, Cut}
-use Rattle.cutting.proofs.Opened.{Open, open-start, open-on, open-cut, open-last, string-few, stretches-next, stretches-end}
+use Rattle.cutting.proofs.Opened.{Open, open-start, open-on, open-cut, open-last, stretches-next, stretches-end}
 use Rattle.cutting.proofs.Filling.{Filling, filling-begin, filling-restated, filling-store, filling-room, filling-many, filling-end}
 
 -- i of n k-mers have been looked at; the open stretch began with k-mer s (from 0) and has the minimizer v; those before it are stored
@@ -21,6 +22,7 @@ pub record Cutting (q : ℕ → ℕ) (h a n o : ℕ) (fs₀ fs ps₀ ps ns₀ ns
   pub filling : Filling q o (ofString q h a n) fs₀ fs ps₀ ps ns₀ ns ks₀ ks (Open q h a n s i) to
 
 module _ {q : ℕ → ℕ} {h a n o : ℕ} where
+  -- the first k-mer begins a stretch
   pub cutting-begin : {fs ps ns ks : List ℕ} {v : ℕ} → 1 ≤ n → v ≡ q (a + 0) → Room4 o (length (ofString q h a n)) fs ps ns ks
       → Cutting q h a n o fs fs ps ps ns ns ks ks v 0 o 1
   cutting-begin l e r =
@@ -34,6 +36,7 @@ module _ {q : ℕ → ℕ} {h a n o : ℕ} where
   module _ {fs₀ fs ps₀ ps ns₀ ns ks₀ ks : List ℕ} {v s to i : ℕ} (r : Cutting q h a n o fs₀ fs ps₀ ps ns₀ ns ks₀ ks v s to i) where
     -- w is the minimizer of the next k-mer
     module _ {w : ℕ} (l : i < n) (e : w ≡ q (a + i)) where
+      -- it belongs to the open stretch
       pub cutting-on : w ≡ v → Cutting q h a n o fs₀ fs ps₀ ps ns₀ ns ks₀ ks v s to (i + 1)
       cutting-on f =
           record {
@@ -47,6 +50,7 @@ module _ {q : ℕ → ℕ} {h a n o : ℕ} where
       pub cutting-ended : (w ≡ v → ⊥) → Filling q o (ofString q h a n) fs₀ fs ps₀ ps ns₀ ns ks₀ ks (stretch (h + s) (a + s) (i - s) ∷ Open q h a n i (i + 1)) to
       cutting-ended f = filling-restated (open-cut q h a n s i (r .behind) l (λ z. f (e ∙ (z ∙ sym (r .key))))) (r .filling)
 
+      -- that one is stored, and the k-mer begins another
       pub cutting-cut : (w ≡ v → ⊥)
           → Cutting q h a n o fs₀ (set fs to (h + s)) ps₀ (set ps to (a + s)) ns₀ (set ns to (i - s)) ks₀ (set ks to v) w i (to + 1) (i + 1)
       cutting-cut f = record { behind = omega arith; near = omega (arith, r .near, r .behind); key = e; filling = filling-store (cutting-ended f) (r .key) }
@@ -69,6 +73,7 @@ module _ {q : ℕ → ℕ} {k N : ℕ} {ends : List ℕ} where
   passed-begin g e r = record { strings = strings-begin g e; few = omega arith; filling = filling-begin q (stretches q k ends) r }
 
   module _ {fs₀ fs ps₀ ps ns₀ ns ks₀ ks : List ℕ} {before h o i : ℕ} (r : Passed q k N ends fs₀ fs ps₀ ps ns₀ ns ks₀ ks before h o i) where
+    -- no string is left
     pub passed-end : length ends ≤ i → Cut q 0 (stretches q k ends) fs₀ fs ps₀ ps ns₀ ns ks₀ ks
     passed-end l = filling-end (filling-restated (stretches-end q k h before ends i l) (r .filling))
 
@@ -83,9 +88,11 @@ module _ {q : ℕ → ℕ} {k N : ℕ} {ends : List ℕ} where
       split : Filling q 0 (stretches q k ends) fs₀ fs ps₀ ps ns₀ ns ks₀ ks (ofString q h before number ++ rest) o
       split = filling-restated (stretches-next q k h before ends i l) (r .filling)
 
+      -- the tables have room for its stretches
       pub passed-room : Room4 o (length (ofString q h before number)) fs ps ns ks
       passed-room = filling-room (ofString q h before number) rest split
 
+      -- they are stored
       pub passed-on : 1 ≤ k → (o' : ℕ) {fs' ps' ns' ks' : List ℕ} → o' ≡ o + length (ofString q h before number) → Cut q o (ofString q h before number) fs fs' ps ps' ns ns' ks ks'
           → Passed q k N ends fs₀ fs' ps₀ ps' ns₀ ns' ks₀ ks' (getD ends i 0) (h + number) o' (i + 1)
       passed-on k1 o' {fs'} {ps'} {ns'} {ks'} e c =

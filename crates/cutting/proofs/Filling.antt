@@ -38,6 +38,7 @@ pub record Filling (q : ℕ → ℕ) (o : ℕ) (all : List Stretch) (fs₀ fs ps
   pub keys : Column (λ s. q (s .at)) o all ks₀ ks rest to
   pub counted : to + length rest ≡ o + length all
 
+-- all are still to come
 pub filling-begin : (q : ℕ → ℕ) {o : ℕ} (all : List Stretch) {fs ps ns ks : List ℕ} → Room4 o (length all) fs ps ns ks → Filling q o all fs fs ps ps ns ns ks ks all o
 filling-begin q all {fs} {ps} {ns} {ks} r =
     record {
@@ -53,6 +54,7 @@ module _ {q : ℕ → ℕ} {o to : ℕ} {all : List Stretch} {fs₀ fs ps₀ ps 
   pub filling-restated : {rest rest' : List Stretch} → rest ≡ rest' → Filling q o all fs₀ fs ps₀ ps ns₀ ns ks₀ ks rest to → Filling q o all fs₀ fs ps₀ ps ns₀ ns ks₀ ks rest' to
   filling-restated e r = subst (λ (ss : List Stretch). Filling q o all fs₀ fs ps₀ ps ns₀ ns ks₀ ks ss to) e r
 
+  -- none is
   pub filling-end : Filling q o all fs₀ fs ps₀ ps ns₀ ns ks₀ ks [] to → Cut q o all fs₀ fs ps₀ ps ns₀ ns ks₀ ks
   filling-end r =
       record { firsts-held = stored (r .firsts); positions-held = stored (r .positions); numbers-held = stored (r .numbers); keys-held = stored (r .keys) }

@@ -1,15 +1,11 @@
 -- Laws of the stretches of a string as a loop over its k-mers meets them, and of the strings one after the other. Assumes nothing.
 use mathlib.Core.Path.{_≡_, sym, ap, ap₂, _∙_}
-use mathlib.Core.Bool.{Bool, true, false}
 use mathlib.Core.List.{List, [], _∷_, _++_}
-use Prim.Native.Nat.{ℕ, zero, suc, _+_, _-_, _≤_, _<_}
+use Prim.Native.Nat.{ℕ, suc, _+_, _-_, _≤_, _<_}
 use native.Mathlib.Nat.{add-zero}
 use native.Mathlib.Omega.{arith}
 use borrow.Author.Tests.{eq-eqb, ne-eqb}
-use lib.Dec.{eqb}
 use lib.ListN.{length, getD, drop, drop-of-length-le}
-use Rattle.lists.specs.Choose.{choose}
-use Rattle.lists.specs.Every.{All}
 use Rattle.lists.proofs.Storing.{drop-next}
 use Rattle.collection.specs.Kmers.{within}
 use Rattle.stretches.specs.Stretches.{Stretch, stretch, openFrom, ofString, stretchesFrom}
@@ -30,6 +26,7 @@ module _ (q : ℕ → ℕ) (h a n : ℕ) where
   abbrev pub Open : ℕ → ℕ → List Stretch
   Open s i = openFrom q (h + s) (a + s) (i - s) (n - i)
 
+  -- the string's first k-mer has been looked at
   pub open-start : 1 ≤ n → ofString q h a n ≡ Open 0 1
   unfolding ofString
   open-start l =
@@ -66,45 +63,6 @@ module _ (q : ℕ → ℕ) (h a n : ℕ) where
       let z : n - i ≡ 0 = omega arith in
       ap₂ (openFrom q (h + s) (a + s)) (ap (λ (j : ℕ). j - s) e) z
 
--- ─── how many, and where ─────────────────────────────────────────────────────
-
-module _ (q : ℕ → ℕ) where
-  open-few : (h a n left : ℕ) → length (openFrom q h a n left) ≤ suc left
-  unfolding openFrom
-  open-few h a n zero = omega arith
-  open-few h a n (suc left) = go (eqb (q (a + n)) (q a)) (open-few h a (suc n) left) (open-few (h + n) (a + n) 1 left)
-    where
-      go : (t : Bool) → length (openFrom q h a (suc n) left) ≤ suc left → length (openFrom q (h + n) (a + n) 1 left) ≤ suc left
-          → length (choose t (openFrom q h a (suc n) left) (stretch h a n ∷ openFrom q (h + n) (a + n) 1 left)) ≤ suc (suc left)
-      go true e f = omega arith
-      go false e f = omega arith
-
-  -- a string has at most as many stretches as k-mers
-  pub string-few : (h a n : ℕ) → length (ofString q h a n) ≤ n
-  unfolding ofString
-  string-few h a zero = omega arith
-  string-few h a (suc n) = open-few h a 1 n
-
-  module _ (P : ℕ → Type 0) where
-    open-at : (h a n left : ℕ) → P a → ((j : ℕ) → a + n ≤ j → j < a + n + left → P j) → All (λ s. P (s .at)) (openFrom q h a n left)
-    unfolding openFrom
-    open-at h a n zero x f = (x, tt)
-    open-at h a n (suc left) x f =
-        go (eqb (q (a + n)) (q a))
-        (open-at h a (suc n) left x (λ j l g. f j (omega arith) (omega arith)))
-        (open-at (h + n) (a + n) 1 left (f (a + n) (omega arith) (omega arith)) (λ j l g. f j (omega arith) (omega arith)))
-      where
-        go : (t : Bool) → All (λ s. P (s .at)) (openFrom q h a (suc n) left) → All (λ s. P (s .at)) (openFrom q (h + n) (a + n) 1 left)
-            → All (λ s. P (s .at)) (choose t (openFrom q h a (suc n) left) (stretch h a n ∷ openFrom q (h + n) (a + n) 1 left))
-        go true e g = e
-        go false e g = (x, g)
-
-    -- what holds of the position of each k-mer of a string holds of that of each stretch
-    pub string-at : (h a n : ℕ) → ((j : ℕ) → a ≤ j → j < a + n → P j) → All (λ s. P (s .at)) (ofString q h a n)
-    unfolding ofString
-    string-at h a zero f = tt
-    string-at h a (suc n) f = open-at h a 1 n (f a (omega arith) (omega arith)) (λ j l g. f j (omega arith) (omega arith))
-
 -- ─── one string after the other ──────────────────────────────────────────────
 
 module _ (q : ℕ → ℕ) (k h before : ℕ) (ends : List ℕ) (i : ℕ) where
@@ -115,6 +73,7 @@ module _ (q : ℕ → ℕ) (k h before : ℕ) (ends : List ℕ) (i : ℕ) where
   unfolding stretchesFrom
   stretches-next l = ap (stretchesFrom q k h before) (drop-next ends i 0 l)
 
+  -- no string is left
   pub stretches-end : length ends ≤ i → stretchesFrom q k h before (drop i ends) ≡ []
   unfolding stretchesFrom
   stretches-end l = ap (stretchesFrom q k h before) (drop-of-length-le ends l)

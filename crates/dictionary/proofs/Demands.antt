@@ -8,7 +8,7 @@ use lib.ListN.{length, getD, take}
 use Rattle.lists.proofs.Storing.{take-fill}
 use Rattle.collection.specs.Judge.{Passes, collectionVerdict}
 use Rattle.collection.specs.Strings.{Str}
-use Rattle.collection.proofs.Verdicts.{both-good}
+use Rattle.collection.proofs.Verdicts.{both-good, done-by}
 use Rattle.sheet_text.proofs.Calls.{write-of-read}
 use Rattle.trails.specs.Groups.{least, evenGroups, oddWeights}
 use Rattle.trails.specs.Places.{SignedPermutation}
@@ -26,7 +26,6 @@ use Rattle.fewest.proofs.Fewest.{fewest-runs, cover-fewest, none-zero}
 use Rattle.dictionary.specs.Demands.{DemandOne, Reordered, DemandTwo, DemandThree}
 use Rattle.dictionary.proofs.Determined.{one-outcome, kept}
 use Rattle.dictionary.proofs.Dictionary.{answers}
-use Rattle.dictionary.proofs.Journey.{done-by}
 use Rattle.dictionary.proofs.OnceEach.{reordered-distinct}
 
 pub demand-one : DemandOne

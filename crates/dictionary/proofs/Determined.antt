@@ -11,6 +11,7 @@ use Rattle.collection.specs.declared.Verdict.{Verdict}
 use Rattle.collection.specs.declared.Verdict.the-variants.{Good, Bad}
 use Rattle.collection.specs.Judge.{kmerCount}
 use Rattle.collection.specs.Verdict.{atPlace, settle}
+use Rattle.collection.proofs.Verdicts.{refused-by}
 use Rattle.sheet_text.specs.declared.ReadAnswer.{ReadAnswer}
 use Rattle.sheet_text.specs.declared.ReadAnswer.the-variants as read
 use Rattle.sheet_text.specs.declared.WriteAnswer.{WriteAnswer}
@@ -22,7 +23,6 @@ use Rattle.repeats.specs.Check as checking
 use Rattle.repeats.specs.Check.{firstRepeat, checkVerdict, checkOf}
 use Rattle.trails.specs.Strings.{Ends}
 use Rattle.vertices.specs.EndWeights.{endWeights}
-use Rattle.cover.specs.declared.CoverAnswer.{CoverAnswer}
 use Rattle.cover.specs.declared.CoverAnswer.the-variants as cover
 use Rattle.cover.specs.Cover.{CoverOf, Promise, coverVerdict}
 use Rattle.cover.proofs.Laws.{cover-only}
@@ -35,7 +35,6 @@ use Rattle.runs.specs.declared.RunsAnswer.{RunsAnswer}
 use Rattle.runs.specs.declared.RunsAnswer.the-variants as runs
 use Rattle.runs.specs.Calls as listing
 use Rattle.runs.specs.Calls.{runsOf}
-use Rattle.index.specs.declared.IndexAnswer.{IndexAnswer}
 use Rattle.index.specs.declared.IndexAnswer.the-variants as index
 use Rattle.index.specs.Indexing as indexing
 use Rattle.index.specs.Indexing.{Lent, indexOf}
@@ -64,13 +63,6 @@ one-outcome =
     }
 
 -- ─── refusals ────────────────────────────────────────────────────────────────
-
--- a call whose answer is not the one of a call that is done was refused
-refused-by : {Out Answer : Type 0} (answer : Out → Answer) (v : Verdict) (refuse : ℕ → ℕ → Out) (done : Out) (r : Answer) → (answer done ≡ r → ⊥) → answer (settle v refuse done) ≡ r
-    → (number : ℕ) × (place : ℕ) × (settle v refuse done ≡ refuse number place) × (answer (refuse number place) ≡ r)
-unfolding settle
-refused-by answer Good refuse done r not e = absurd (not e)
-refused-by answer (Bad number place) refuse done r not e = (number, place, refl, e)
 
 -- 7 is given at a repeat alone
 refused-seven : {Out : Type 0} (repeat : ℕ) (refuse : ℕ → ℕ → Out) (done : Out) → ((place : ℕ) × (settle (atPlace 7 repeat) refuse done ≡ refuse 7 place)) ⊎ (settle (atPlace 7 repeat) refuse done ≡ done)

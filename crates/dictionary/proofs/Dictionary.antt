@@ -1,5 +1,5 @@
 -- Demand 2 holds over every collection that passes the checks: QUICK finds exactly the words that stand there, each with its own handle and weight. Assumes nothing.
-use mathlib.Core.Path.{_≡_, sym, ap, ap₂, _∙_, subst}
+use mathlib.Core.Path.{_≡_, sym, ap, ap₂, _∙_}
 use mathlib.Core.Bool.{Bool}
 use mathlib.Core.Logic.{_⊎_, inl, inr}
 use mathlib.Core.List.{List}
@@ -21,11 +21,10 @@ use Rattle.collection.specs.Kmers.{kmers, wordOf, weightOf, Distinct}
 use Rattle.collection.proofs.Judged.{Judged, collection-good, word-good}
 use Rattle.collection.proofs.Kmers.{kmers-counted}
 use Rattle.collection.proofs.Verdicts.{both-good, then-good}
-use Rattle.plain.specs.declared.PlainAnswer.{PlainAnswer}
 use Rattle.plain.specs.declared.PlainAnswer.the-variants as plain
 use Rattle.access.specs.Access.{accessVerdict}
 use Rattle.access.proofs.Accessed.{access-word}
-use Rattle.plain.specs.Says.{Says, as-asked, as-turned, absent, Stands}
+use Rattle.plain.specs.Says.{absent, Stands}
 use Rattle.runs.specs.Runs.{runWeights, runFirsts}
 use Rattle.run_lists.proofs.GivenBack.{runs-then-weight}
 use Rattle.minimizers.specs.Minimizer.{sizesVerdict}
@@ -34,8 +33,12 @@ use Rattle.questions.specs.declared.QuickAnswer.the-variants.{Found, Absent, Re
 use Rattle.questions.specs.declared.WordAnswer.the-variants.{Weighs}
 use Rattle.questions.specs.Weighed.{weighs, weighedOf}
 use Rattle.agreement.specs.Agreement.{unnumbered, sided}
-use Rattle.agreement.proofs.Agreed.{quick-finds, absent-nowhere, stands-found, quick-own}
-use Rattle.dictionary.specs.Dictionary.{Sound, Answers, asked}
+use Rattle.agreement.proofs.Agreed.{found-stands, absent-nowhere, never-refused, stands-found, quick-own}
+use Rattle.dictionary.specs.Dictionary.{Sound, Answers}
+
+-- a judged word has letters only
+pub word-spelt : (k : ℕ) (word : List ℕ) → wordVerdict k word ≡ Good → Letters (spell word)
+word-spelt k word good = spell-letters word (every-all isLetter word (word-good k word good .1))
 
 -- a word found weighs what its handle weighs
 pub found-weighs : (k : ℕ) (letters ends weights : List ℕ) → Passes k letters ends weights → (answer : QuickAnswer) (handle : ℕ) (side : Side) (compared : ℕ) → 1 ≤ handle → handle ≤ length weights
@@ -53,30 +56,6 @@ module _ (k p : ℕ) (letters ends weights : List ℕ) (passes : Passes k letter
   many = judged .counted ∙ sym (kmers-counted (judged .shape))
 
   module _ (word : List ℕ) (good : wordVerdict k word ≡ Good) where
-    letters-all : Letters (spell word)
-    letters-all = spell-letters word (every-all isLetter word (word-good k word good .1))
-
-    pub found-stands : (handle : ℕ) (side : Side) (compared : ℕ) → asked k p letters ends weights word ≡ Found handle side compared → Stands k letters ends (sided side (spell word)) handle
-    unfolding unnumbered
-    found-stands handle side compared e = go (quick-finds k p letters ends weights passes sizes word good) (ap unnumbered e)
-      where
-        at : (h : ℕ) (s : Side) → Stands k letters ends (sided s (spell word)) h → handle ≡ h → s ≡ side → Stands k letters ends (sided side (spell word)) handle
-        at h s x n m = subst (λ (i : ℕ). Stands k letters ends (sided side (spell word)) i) (sym n) (subst (λ (t : Side). Stands k letters ends (sided t (spell word)) h) m x)
-
-        go : {answer : PlainAnswer} → Says k letters ends (spell word) answer → answer ≡ plain.Found handle side → Stands k letters ends (sided side (spell word)) handle
-        go (as-asked h s) q = let n : handle ≡ h = cc in let m : Asked ≡ side = cc in at h Asked (s .here) n m
-        go (as-turned h none s) q = let n : handle ≡ h = cc in let m : Turned ≡ side = cc in at h Turned (s .here) n m
-        go (absent none none') q = let z : _≡_ {A = ℕ} 0 1 = cc in absurd (let y : ⊥ = omega arith in y)
-
-    never-refused : (number place : ℕ) → asked k p letters ends weights word ≡ Refused number place → ⊥
-    unfolding unnumbered
-    never-refused number place e = go (quick-finds k p letters ends weights passes sizes word good) (ap unnumbered e)
-      where
-        go : {answer : PlainAnswer} → Says k letters ends (spell word) answer → answer ≡ plain.Refused number place → ⊥
-        go (as-asked h s) q = let z : _≡_ {A = ℕ} 0 1 = cc in let y : ⊥ = omega arith in y
-        go (as-turned h none s) q = let z : _≡_ {A = ℕ} 0 1 = cc in let y : ⊥ = omega arith in y
-        go (absent none none') q = let z : _≡_ {A = ℕ} 0 1 = cc in let y : ⊥ = omega arith in y
-
     -- two handles at which the word stands, on either side, are one
     one-handle : Distinct k letters ends → (s t : Side) (h j : ℕ) → Stands k letters ends (sided s (spell word)) h → Stands k letters ends (sided t (spell word)) j → h ≡ j
     one-handle d s t h j a b = omega (arith, d (h - 1) (j - 1) (omega (arith, a .low, a .high)) (omega (arith, b .low, b .high)) (alike s t (a .word) (b .word)), a .low, b .low)
@@ -94,7 +73,7 @@ module _ (k p : ℕ) (letters ends weights : List ℕ) (passes : Passes k letter
         alike Asked Asked x y = inl (back h (a .low) ∙ (x ∙ (sym y ∙ sym (back j (b .low)))))
         alike Turned Turned x y = inl (back h (a .low) ∙ (x ∙ (sym y ∙ sym (back j (b .low)))))
         alike Turned Asked x y = inr (back h (a .low) ∙ (x ∙ ap turn (sym y ∙ sym (back j (b .low)))))
-        alike Asked Turned x y = inr (back h (a .low) ∙ (x ∙ (sym (turn-turn (spell word) letters-all) ∙ ap turn (sym y ∙ sym (back j (b .low))))))
+        alike Asked Turned x y = inr (back h (a .low) ∙ (x ∙ (sym (turn-turn (spell word) (word-spelt k word good)) ∙ ap turn (sym y ∙ sym (back j (b .low))))))
 
   handle-good : (handle : ℕ) → 1 ≤ handle → handle ≤ length weights → accessVerdict k letters ends handle ≡ Good
   unfolding accessVerdict handleVerdict collectionVerdict

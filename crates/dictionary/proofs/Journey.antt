@@ -1,33 +1,23 @@
 -- The whole way from a sheet to the weight of a word: what the calls in a row answer is what the sheet itself says. Assumes nothing.
-use mathlib.Core.Path.{_≡_, refl, sym, ap, ap₂, _∙_, subst}
-use mathlib.Core.Logic.{_⊎_, inl, inr}
+use mathlib.Core.Path.{_≡_, sym, ap, ap₂, _∙_, subst}
+use mathlib.Core.Logic.{inl, inr}
 use mathlib.Core.List.{List}
 use Prim.Native.Nat.{ℕ, _+_, _^_}
 use native.Mathlib.Omega.{arith}
 use lib.IntN.{ℤ}
 use lib.ListN.{length, take, length-map}
-use Rattle.lists.proofs.Every.{all-map, every-all}
+use Rattle.lists.proofs.Every.{all-map}
 use Rattle.lists.proofs.Storing.{take-fill}
-use Rattle.alphabet.specs.Letter.{isLetter}
-use Rattle.words.specs.Word.{Letters, spell, turn}
-use Rattle.words.proofs.Spelled.{spell-letters}
-use Rattle.words.proofs.Turning.{turn-turn}
-use Rattle.collection.specs.declared.Side.{Side}
-use Rattle.collection.specs.declared.Side.the-variants.{Asked, Turned}
-use Rattle.collection.specs.declared.Verdict.{Verdict}
-use Rattle.collection.specs.declared.Verdict.the-variants.{Good, Bad}
-use Rattle.collection.specs.Judge.{Passes, wordVerdict}
-use Rattle.collection.specs.Kmers.{positionOf, wordOf, weightOf, Distinct}
+use Rattle.words.specs.Word.{spell}
+use Rattle.collection.specs.declared.Verdict.the-variants.{Good}
+use Rattle.collection.specs.Judge.{Passes}
+use Rattle.collection.specs.Kmers.{Distinct}
 use Rattle.collection.specs.Strings.{Str, strings, lettersIn, endsIn, weightsIn}
-use Rattle.collection.specs.Verdict.{settle}
-use Rattle.collection.proofs.Judged.{collection-good, word-good}
 use Rattle.collection.proofs.Strings.{strings-back}
-use Rattle.collection.proofs.Verdicts.{both-good}
+use Rattle.collection.proofs.Verdicts.{both-good, done-by}
 use Rattle.sheet_text.specs.Sheet.{sheetK, sheetStrings}
 use Rattle.sheet_text.proofs.Accepted.{accepted-holds}
 use Rattle.sheet_text.proofs.Calls.{ReadDone, read-done, read-passes}
-use Rattle.collection.proofs.Ready.{judged-ready, word-letters}
-use Rattle.plain.specs.Says.{Stands}
 use Rattle.repeats.proofs.Checked.{check-distinct}
 use Rattle.trails.specs.Groups.{least}
 use Rattle.trails.specs.Places.{SignedPermutation}
@@ -44,96 +34,25 @@ use Rattle.reordering.specs.Weighs.{Weighs, WeighsAt}
 use Rattle.places.specs.Places.{placesVerdict}
 use Rattle.placing.proofs.Applying.{applied}
 use Rattle.places.proofs.Permutation.{places-good}
-use Rattle.reordering.proofs.Handles.{weighs-handle, handle-weighs, weight-kept, weight-from}
-use Rattle.reordering.proofs.Reordered.{reordered-sizes, reordered-passes}
+use Rattle.reordering.proofs.Handles.{weighs-handle, handle-weighs}
+use Rattle.reordering.proofs.Reordered.{reordered-sizes}
 use Rattle.fewest.specs.Fewest.{FewestRuns}
 use Rattle.fewest.proofs.Fewest.{fewest-runs, cover-fewest}
 use Rattle.runs.specs.declared.RunsAnswer.the-variants as listing
 use Rattle.runs.specs.Calls as runsCalls
 use Rattle.runs.specs.Calls.{runsOf}
 use Rattle.runs.specs.Runs.{runs, runWeights, runFirsts, runCount}
-use Rattle.index.specs.declared.IndexAnswer.{IndexAnswer}
 use Rattle.index.specs.declared.IndexAnswer.the-variants as index
 use Rattle.index.specs.Indexing.{stretchCount, firstEntries, indexWith, indexVerdict, indexOf}
 use Rattle.index.proofs.Success.{index-told, index-success}
 use Rattle.minimizers.specs.Minimizer.{sizesVerdict}
-use Rattle.questions.specs.declared.QuickAnswer.{QuickAnswer}
-use Rattle.questions.specs.declared.QuickAnswer.the-variants.{Found, Absent, Refused}
-use Rattle.questions.specs.declared.WordAnswer.{WordAnswer}
+use Rattle.questions.specs.declared.QuickAnswer.the-variants.{Refused}
 use Rattle.questions.specs.declared.WordAnswer.the-variants as word
 use Rattle.questions.specs.Quick.{quickOf}
 use Rattle.questions.specs.Weighed.{weighedOf}
-use Rattle.agreement.specs.Agreement.{sided}
-use Rattle.dictionary.specs.Dictionary.{Answers}
+use Rattle.dictionary.specs.Dictionary.{weighed as weighedOver}
 use Rattle.dictionary.specs.Journey.{Reading, lettersRead, endsRead, weightsRead, Reordering, lettersApplied, endsApplied, weightsApplied, Indexing, runWeightsListed, runFirstsListed, indexMade, weighed, Says, weighs, absent, EndToEnd}
-use Rattle.dictionary.proofs.Dictionary.{answers, many, found-weighs}
-use Rattle.dictionary.proofs.OnceEach.{reordered-distinct}
-
--- a call that answers as one that is done was not refused
-pub done-by : {Out Answer : Type 0} (answer : Out → Answer) (v : Verdict) (refuse : ℕ → ℕ → Out) (done : Out) (r : Answer) → ((number place : ℕ) → answer (refuse number place) ≡ r → ⊥)
-    → answer (settle v refuse done) ≡ r → (v ≡ Good) × (settle v refuse done ≡ done) × (answer done ≡ r)
-unfolding settle
-done-by answer Good refuse done r not e = (refl, refl, e)
-done-by answer (Bad number place) refuse done r not e = absurd (not number place e)
-
--- ─── over any collection and any places ──────────────────────────────────────
-
--- a word that stands at a handle on either side has the handle's weight
-stands-weighs : (k : ℕ) (letters ends weights : List ℕ) (w : List ℕ) → Letters w → (side : Side) (handle : ℕ) → Stands k letters ends (sided side w) handle → WeighsAt k letters ends weights w (weightOf weights handle)
-stands-weighs k letters ends weights w g Asked handle s = (handle, s .low, s .high, inl (s .word), refl)
-stands-weighs k letters ends weights w g Turned handle s = (handle, s .low, s .high, inr (ap turn (s .word) ∙ turn-turn w g), refl)
-
-module _ (k p : ℕ) (letters ends weights : List ℕ) (places : List ℤ) (passes : Passes k letters ends weights) (perm : SignedPermutation (length ends) places) (distinct : Distinct k letters ends)
-    (sizes : sizesVerdict k p ≡ Good) (asked : List ℕ) (good : wordVerdict k asked ≡ Good) where
-  abbrev L : List ℕ
-  L = lettersIn (reordered k letters ends weights places)
-
-  abbrev E : List ℕ
-  E = endsIn 0 (reordered k letters ends weights places)
-
-  abbrev W : List ℕ
-  W = weightsIn (reordered k letters ends weights places)
-
-  passes' : Passes k L E W
-  passes' = reordered-passes k letters ends weights places passes perm
-
-  a : Answers k p L E W
-  a = answers k p L E W (record { passes = passes'; distinct = reordered-distinct k letters ends weights places passes perm distinct }) sizes
-
-  spelt : Letters (spell asked)
-  spelt = spell-letters asked (every-all isLetter asked (word-good k asked good .1))
-
-  -- what the calls answer over the reordered collection
-  abbrev answer : WordAnswer
-  answer = weighedOf (quickOf k p asked L (indexWith k p L E)) (runWeights W) (runFirsts W) (length W)
-
-  -- it is what the collection says of the word
-  said : ((weight : ℕ) × (answer ≡ word.Weighs weight) × WeighsAt k letters ends weights (spell asked) weight)
-      ⊎ ((answer ≡ word.Absent) × ((weight : ℕ) → WeighsAt k letters ends weights (spell asked) weight → ⊥))
-  unfolding weighedOf
-  said = go (quickOf k p asked L (indexWith k p L E)) refl
-    where
-      back : (weight : ℕ) → WeighsAt k L E W (spell asked) weight → WeighsAt k letters ends weights (spell asked) weight
-      back weight = weight-from k letters ends weights places passes perm (spell asked) weight
-
-      none : (compared : ℕ) → quickOf k p asked L (indexWith k p L E) ≡ Absent compared → (weight : ℕ) → WeighsAt k letters ends weights (spell asked) weight → ⊥
-      none compared e weight u =
-          let t = weight-kept k letters ends weights places passes perm (spell asked) weight u in
-          let n = a .absent asked good compared e in
-          either n t
-        where
-          either : (((h : ℕ) → Stands k L E (spell asked) h → ⊥) × ((h : ℕ) → Stands k L E (turn (spell asked)) h → ⊥)) → WeighsAt k L E W (spell asked) weight → ⊥
-          either n (h, l, m, inl q, x) = n .0 h (record { low = l; high = m; word = q })
-          either n (h, l, m, inr q, x) = n .1 h (record { low = l; high = m; word = sym (turn-turn (wordOf k L E h) (word-letters (judged-ready (collection-good k L E W passes')) (positionOf k E h))) ∙ ap turn q })
-
-      go : (x : QuickAnswer) → quickOf k p asked L (indexWith k p L E) ≡ x
-          → ((weight : ℕ) × (answer ≡ word.Weighs weight) × WeighsAt k letters ends weights (spell asked) weight)
-          ⊎ ((answer ≡ word.Absent) × ((weight : ℕ) → WeighsAt k letters ends weights (spell asked) weight → ⊥))
-      go (Found handle side compared) e =
-          let s = a .found asked good handle side compared e in
-          inl (weightOf W handle, found-weighs k L E W passes' _ handle side compared (s .low) (omega (arith, s .high, many k p L E W passes' sizes)) e, back (weightOf W handle) (stands-weighs k L E W (spell asked) spelt side handle s))
-      go (Absent compared) e = inr (ap (λ (x : QuickAnswer). weighedOf x (runWeights W) (runFirsts W) (length W)) e, none compared e)
-      go (Refused number place) e = absurd (a .taken asked good number place e)
+use Rattle.dictionary.proofs.Said.{Said, reordered-says}
 
 -- ─── the calls in a row ──────────────────────────────────────────────────────
 
@@ -265,8 +184,7 @@ module _ {sheet : List ℕ} {r : Reading sheet} {o : Reordering r} {p : ℕ} (x 
       ap₂ (λ (m n : ℕ). firstEntries m n (indexOf (r .k) p L' E' W' (x .tables₀) .after)) (sym a) (sym b) ∙ s .1
 
   -- the answer over the tables that were filled is the answer over the reordered collection
-  on-the-way : (asked : List ℕ) → weighed x asked
-      ≡ weighedOf (quickOf (r .k) p asked (lettersIn (strung o)) (indexWith (r .k) p (lettersIn (strung o)) (endsIn 0 (strung o)))) (runWeights (weightsIn (strung o))) (runFirsts (weightsIn (strung o))) (length (weightsIn (strung o)))
+  on-the-way : (asked : List ℕ) → weighed x asked ≡ weighedOver (r .k) p (lettersIn (strung o)) (endsIn 0 (strung o)) (weightsIn (strung o)) asked
   on-the-way asked =
       let f = filled o in
       let i = made ∙ ap₂ (λ (l e : List ℕ). indexWith (r .k) p l e) (f .letters-are) (f .ends-are) in
@@ -280,18 +198,14 @@ pub end-to-end : EndToEnd
 end-to-end =
     record {
       says = λ sheet p r o x asked good.
-          tell sheet r o x asked (said (r .k) p (lettersRead r) (endsRead r) (weightsRead r) (placed o) (passes-read r) (permutation o) (distinct-read o) (sizes-good x) asked good);
+          tell sheet r o x asked (reordered-says (r .k) p (lettersRead r) (endsRead r) (weightsRead r) (placed o) (passes-read r) (permutation o) (distinct-read o) (sizes-good x) asked good);
       shortest = λ sheet p r o x.
           let e = listed x .runs-many ∙ (ap runCount (filled o .weights-are) ∙ cover-fewest (r .k) (lettersRead r) (endsRead r) (weightsRead r) (passes-read r) (placed o) (fewest-placed o)) in
           subst (FewestRuns (r .k) (lettersRead r) (endsRead r) (weightsRead r)) (sym e) (fewest-runs (r .k) (lettersRead r) (endsRead r) (weightsRead r) (passes-read r));
     }
   where
     tell : (sheet : List ℕ) (r : Reading sheet) (o : Reordering r) {p : ℕ} (x : Indexing o p) (asked : List ℕ)
-        → ((weight : ℕ)
-        × (weighedOf (quickOf (r .k) p asked (lettersIn (strung o)) (indexWith (r .k) p (lettersIn (strung o)) (endsIn 0 (strung o)))) (runWeights (weightsIn (strung o))) (runFirsts (weightsIn (strung o))) (length (weightsIn (strung o))) ≡ word.Weighs weight)
-        × WeighsAt (r .k) (lettersRead r) (endsRead r) (weightsRead r) (spell asked) weight)
-        ⊎ ((weighedOf (quickOf (r .k) p asked (lettersIn (strung o)) (indexWith (r .k) p (lettersIn (strung o)) (endsIn 0 (strung o)))) (runWeights (weightsIn (strung o))) (runFirsts (weightsIn (strung o))) (length (weightsIn (strung o))) ≡ word.Absent)
-        × ((weight : ℕ) → WeighsAt (r .k) (lettersRead r) (endsRead r) (weightsRead r) (spell asked) weight → ⊥))
+        → Said (r .k) (lettersRead r) (endsRead r) (weightsRead r) (spell asked) (weighedOver (r .k) p (lettersIn (strung o)) (endsIn 0 (strung o)) (weightsIn (strung o)) asked)
         → Says sheet (spell asked) (weighed x asked)
     tell sheet r o x asked (inl t) = subst (Says sheet (spell asked)) (sym (on-the-way x asked ∙ t .1)) (weighs (t .0) (read-says r (spell asked) (t .0) (t .2)))
     tell sheet r o x asked (inr t) = subst (Says sheet (spell asked)) (sym (on-the-way x asked ∙ t .0)) (absent (λ weight u. t .1 weight (says-read r (spell asked) weight u)))

@@ -34,7 +34,7 @@ use Rattle.stretches.specs.Index.{built, entries, rowOf, stretchFits, rowFits, 
 use Rattle.walks.specs.Walk.{isWord, seek}
 use Rattle.questions.specs.Quick.{metOr, quickFound, rowsVerdict, askVerdict, quickVerdict, quickOf}
 use Rattle.questions.specs.Weighed.{weighs, weighedOf}
-use Rattle.dictionary.specs.Starred.{Starred, sheet, letters, ends, weights, places, letters', ends', weights', asked, weighed}
+use Rattle.dictionary.specs.Starred.{Starred, bytes, sheet, letters, ends, weights, places, letters', ends', weights', asked, weighed}
 
 -- ─── the sheet and the reordered collection ──────────────────────────────────
 
@@ -42,45 +42,27 @@ read : (sheetK sheet ≡ 3) × (lettersIn (sheetStrings sheet) ≡ letters) × (
 unfolding partUpTo later stringsOf valueFrom lettersIn endsIn weightsIn
 read = (refl, refl, refl, refl)
 
-new-letters : lettersIn (reordered 3 letters ends weights places) ≡ letters'
-unfolding lettersIn stringsFrom standing arrangedTo turnLetters turn capital letter
-new-letters = refl
-
-new-ends : endsIn 0 (reordered 3 letters ends weights places) ≡ ends'
-unfolding endsIn stringsFrom standing arrangedTo turnLetters turn
-new-ends = refl
-
-new-weights : weightsIn (reordered 3 letters ends weights places) ≡ weights'
-unfolding weightsIn stringsFrom standing arrangedTo turnLetters turn
-new-weights = refl
+turned : (lettersIn (reordered 3 letters ends weights places) ≡ letters') × (endsIn 0 (reordered 3 letters ends weights places) ≡ ends') × (weightsIn (reordered 3 letters ends weights places) ≡ weights')
+unfolding lettersIn endsIn weightsIn stringsFrom standing arrangedTo turnLetters turn capital letter
+turned = (refl, refl, refl)
 
 -- ─── questions ───────────────────────────────────────────────────────────────
 
-cag-found : asked (67 ∷ (65 ∷ (71 ∷ []))) ≡ Found 8 Turned 3
+-- CAG, TTT and CCC
+answered : (asked (bytes "CAG") ≡ Found 8 Turned 3) × (asked (bytes "TTT") ≡ Found 1 Turned 1) × (asked (bytes "CCC") ≡ Absent 0)
 unfolding quickOf quickVerdict askVerdict sizesVerdict kVerdict sizeVerdict wordVerdict rowsVerdict tablesFit rowFits stretchFits rowOf entries built upTo pick countFrom stretchesFrom ofString openFrom minimizer smallest codeFrom letter isLetter every same turn quickFound metOr seek isWord walk numbered andThen settle
-cag-found = refl
+answered = (refl, refl, refl)
 
-ttt-found : asked (84 ∷ (84 ∷ (84 ∷ []))) ≡ Found 1 Turned 1
-unfolding quickOf quickVerdict askVerdict sizesVerdict kVerdict sizeVerdict wordVerdict rowsVerdict tablesFit rowFits stretchFits rowOf entries built upTo pick countFrom stretchesFrom ofString openFrom minimizer smallest codeFrom letter isLetter every same turn quickFound metOr seek isWord walk numbered andThen settle
-ttt-found = refl
-
-ccc-absent : asked (67 ∷ (67 ∷ (67 ∷ []))) ≡ Absent 0
-unfolding quickOf quickVerdict askVerdict sizesVerdict kVerdict sizeVerdict wordVerdict rowsVerdict tablesFit rowFits stretchFits rowOf entries built upTo pick countFrom stretchesFrom ofString openFrom minimizer smallest codeFrom letter isLetter every same turn quickFound metOr seek isWord walk numbered andThen settle
-ccc-absent = refl
-
-cag-weighs : weighed (67 ∷ (65 ∷ (71 ∷ []))) ≡ Weighs 7
+cag-weighs : weighed (bytes "CAG") ≡ Weighs 7
 unfolding weighedOf weighs weightAnswer runListVerdict isRunList allFollow lastAt runs laterRuns andThen settle handleVerdict
-cag-weighs = ap (λ (a : QuickAnswer). weighedOf a (runWeights weights') (runFirsts weights') 10) cag-found
+cag-weighs = ap (λ (a : QuickAnswer). weighedOf a (runWeights weights') (runFirsts weights') 10) (answered .0)
 
 -- ─── verdicts ────────────────────────────────────────────────────────────────
 
-heavy-passes : collectionVerdict 3 (65 ∷ (67 ∷ (71 ∷ []))) (3 ∷ []) (16777215 ∷ []) ≡ Good
+-- a weight of 16,777,215, and one more
+heaviest : (collectionVerdict 3 (bytes "ACG") (3 ∷ []) (16777215 ∷ []) ≡ Good) × (collectionVerdict 3 (bytes "ACG") (3 ∷ []) (16777216 ∷ []) ≡ Bad 6 1)
 unfolding collectionVerdict shapeVerdict kVerdict sizeVerdict endsVerdict firstShort lastEnd lettersVerdict weightsVerdict firstFrom isLetter letter andThen atPlace
-heavy-passes = refl
-
-heavier-refused : collectionVerdict 3 (65 ∷ (67 ∷ (71 ∷ []))) (3 ∷ []) (16777216 ∷ []) ≡ Bad 6 1
-unfolding collectionVerdict shapeVerdict kVerdict sizeVerdict endsVerdict firstShort lastEnd lettersVerdict weightsVerdict firstFrom isLetter letter andThen atPlace
-heavier-refused = refl
+heaviest = (refl, refl)
 
 -- ─── the list ────────────────────────────────────────────────────────────────
 
@@ -90,18 +72,18 @@ starred =
     record {
       sheet-read = read;
       least-five = refl;
-      applied = (new-letters, new-ends, new-weights);
+      applied = turned;
       runs-listed = refl;
-      cag = (cag-found, cag-weighs);
-      ttt = (1, ttt-found);
-      ccc = (0, ccc-absent);
+      cag = (answered .0, cag-weighs);
+      ttt = (1, answered .1);
+      ccc = (0, answered .2);
       ggctg = (refl, refl, refl);
       without = (refl, refl);
       one-path = refl;
       two-paths = refl;
       no-strings = (refl, refl);
-      heavy = heavy-passes;
-      too-heavy = heavier-refused;
+      heavy = heaviest .0;
+      too-heavy = heaviest .1;
       longest = refl;
       place-used = refl;
     }

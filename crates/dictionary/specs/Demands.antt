@@ -30,19 +30,26 @@ pub record DemandOne : Type 0 where
   pub one-outcome : OneOutcome
   pub refusals-keep : Kept
 
--- What reordering keeps: each string stands once, at its place, turned where the place is negative, its weights turned with it; and every word has the weights that it had.
-pub record Reordered (k : ℕ) (letters ends weights : List ℕ) (places : List ℤ) : Type 0 where
-  pub stands : (i : ℕ) → i < length ends
-      → getD (strings k (lettersIn (reordered k letters ends weights places)) (endsIn 0 (reordered k letters ends weights places)) (weightsIn (reordered k letters ends weights places))) (natAbs (getD places i (pos 0)) - 1) none
-      ≡ turnedBy turnStr (getD places i (pos 0)) (getD (strings k letters ends weights) i none)
-  pub one-place : (i j : ℕ) → i < length ends → j < length ends → natAbs (getD places i (pos 0)) ≡ natAbs (getD places j (pos 0)) → i ≡ j
-  pub each-place : (j : ℕ) → j < length ends → (i : ℕ) × (i < length ends) × (natAbs (getD places i (pos 0)) ≡ suc j)
-  pub weights-kept : (word : List ℕ) (weight : ℕ) → WeighsAt k letters ends weights word weight
-      → WeighsAt k (lettersIn (reordered k letters ends weights places)) (endsIn 0 (reordered k letters ends weights places)) (weightsIn (reordered k letters ends weights places)) word weight
-  pub none-new : (word : List ℕ) (weight : ℕ)
-      → WeighsAt k (lettersIn (reordered k letters ends weights places)) (endsIn 0 (reordered k letters ends weights places)) (weightsIn (reordered k letters ends weights places)) word weight → WeighsAt k letters ends weights word weight
-  pub sound-kept : Sound k letters ends weights
-      → Sound k (lettersIn (reordered k letters ends weights places)) (endsIn 0 (reordered k letters ends weights places)) (weightsIn (reordered k letters ends weights places))
+module _ (k : ℕ) (letters ends weights : List ℕ) (places : List ℤ) where
+  -- the tables of the collection that APPLY makes
+  abbrev pub newLetters : List ℕ
+  newLetters = lettersIn (reordered k letters ends weights places)
+
+  abbrev pub newEnds : List ℕ
+  newEnds = endsIn 0 (reordered k letters ends weights places)
+
+  abbrev pub newWeights : List ℕ
+  newWeights = weightsIn (reordered k letters ends weights places)
+
+  -- What reordering keeps: each string stands once, at its place, turned where the place is negative, its weights turned with it; and every word has the weights that it had.
+  pub record Reordered : Type 0 where
+    pub stands : (i : ℕ) → i < length ends
+        → getD (strings k newLetters newEnds newWeights) (natAbs (getD places i (pos 0)) - 1) none ≡ turnedBy turnStr (getD places i (pos 0)) (getD (strings k letters ends weights) i none)
+    pub one-place : (i j : ℕ) → i < length ends → j < length ends → natAbs (getD places i (pos 0)) ≡ natAbs (getD places j (pos 0)) → i ≡ j
+    pub each-place : (j : ℕ) → j < length ends → (i : ℕ) × (i < length ends) × (natAbs (getD places i (pos 0)) ≡ suc j)
+    pub weights-kept : (word : List ℕ) (weight : ℕ) → WeighsAt k letters ends weights word weight → WeighsAt k newLetters newEnds newWeights word weight
+    pub none-new : (word : List ℕ) (weight : ℕ) → WeighsAt k newLetters newEnds newWeights word weight → WeighsAt k letters ends weights word weight
+    pub sound-kept : Sound k letters ends weights → Sound k newLetters newEnds newWeights
 
 -- 2: a word is found exactly if it or its reverse complement stands there, with its own handle and weight; each handle gives back its word. Reordering keeps each string
 -- once. An accepted sheet, read and written, is the same bytes.

@@ -8,7 +8,7 @@ use lib.ListN.{length}
 use Rattle.lists.proofs.Compare.{lt-or-le}
 use Rattle.cover.specs.declared.CoverAnswer.{CoverAnswer}
 use Rattle.cover.proofs.Laws.{cover-only}
-use Rattle.replies.specs.Told.{Told, told, toldOf}
+use Rattle.replies.specs.Told.{told, toldOf}
 use Rattle.replies.specs.Exported.{Exported}
 use Rattle.replies.specs.Replies.{coverReply}
 use Rattle.replies.proofs.Telling.{too-short, shown}

@@ -20,7 +20,7 @@ use Rattle.stretches.specs.Index.{built}
 use Rattle.stretches.specs.Stretches.{Stretch, stretches}
 use Rattle.stretches.proofs.Even.{stretches-few}
 use Rattle.cutting.specs.Cut.{Room4, Cut}
-use Rattle.cutting.proofs.Keys.{cut-keys-small}
+use Rattle.cutting.proofs.Keys.{keys-small}
 use Rattle.arranging.specs.Arranging.{gathered, placesBy, startsBy, inOrder, Orderable, Room3, Arranged}
 use Rattle.arranging.proofs.Gathered.{gathered-places, length-places}
 use Rattle.arranging.proofs.Ordered.{fill-only, wider}
@@ -52,7 +52,7 @@ module _ {k p : ℕ} {letters ends : List ℕ} {n m : ℕ} (t : Lent) (j : Judge
       }
 
   small : All (λ s. key s < 4 ^ p) ss
-  small = cut-keys-small k p letters ends (j .ready) (j .p-fits)
+  small = keys-small k p letters ends (j .ready) (j .p-fits)
 
   -- ─── the stretches are cut ─────────────────────────────────────────────────
 

@@ -156,12 +156,14 @@ module _ {k p : ℕ} {letters ends : List ℕ} {n m : ℕ} (t : Lent) (j : Judge
 
 -- ─── the whole call ──────────────────────────────────────────────────────────
 
+-- an answer that is foreseen as refused: the verdict refuses
 told-refused : (verdict : Verdict) (m starts : ℕ) {answer : IndexAnswer} {number place : ℕ} (t : Lent) (done : Outcome) → answer ≡ settle verdict Refused (Indexed m starts) → answer ≡ Refused number place
     → outcome answer t ≡ settle verdict (λ number place. outcome (Refused number place) t) done
 unfolding settle
 told-refused Good m starts t done e f = let z : _≡_ {A = ℕ} 0 1 = cc in absurd (let y : ⊥ = omega arith in y)
 told-refused (Bad number place) m starts t done e f = ap (λ (r : IndexAnswer). outcome r t) e
 
+-- one that is foreseen as an index: it does not
 told-good : (verdict : Verdict) (m starts : ℕ) {answer : IndexAnswer} {m' starts' : ℕ} → answer ≡ settle verdict Refused (Indexed m starts) → answer ≡ Indexed m' starts' → (verdict ≡ Good) × (m' ≡ m)
 unfolding settle
 told-good Good m starts e f = (refl, cc)

@@ -1,7 +1,7 @@
--- What a call of INDEX that succeeds leaves: the index, in the first entries of the tables. And the promise leaves no choice. Assumes nothing.
+-- What a call of INDEX that succeeds leaves: the index, in the first entries of the tables. Assumes nothing.
 use mathlib.Core.Path.{_≡_, refl, sym, ap, _∙_}
 use mathlib.Core.List.{List, map}
-use Prim.Native.Nat.{ℕ, zero, suc, _+_, _^_}
+use Prim.Native.Nat.{ℕ, _+_, _^_}
 use native.Mathlib.Omega.{arith}
 use lib.ListN.{length, take, length-map}
 use Rattle.lists.specs.Count.{countFrom}
@@ -10,37 +10,31 @@ use Rattle.lists.specs.Pick.{upTo}
 use Rattle.lists.proofs.Count.{length-count}
 use Rattle.lists.proofs.Picks.{length-upTo}
 use Rattle.lists.proofs.Storing.{take-fill}
-use Rattle.collection.specs.declared.Verdict.{Verdict}
-use Rattle.collection.specs.declared.Verdict.the-variants.{Good, Bad}
+use Rattle.collection.specs.declared.Verdict.the-variants.{Good}
 use Rattle.collection.specs.Judge.{kmerCount}
-use Rattle.collection.specs.Verdict.{atPlace, settle}
-use Rattle.collection.proofs.Verdicts.{place-none, settled}
+use Rattle.collection.specs.Verdict.{atPlace}
+use Rattle.collection.proofs.Verdicts.{place-good, place-none, settled, done-by}
 use Rattle.repeats.specs.Check.{firstRepeat}
 use Rattle.minimizers.specs.Minimizer.{minimizerAt}
 use Rattle.stretches.specs.Index.{tables, built}
 use Rattle.stretches.specs.Stretches.{Stretch, stretches}
-use Rattle.cutting.proofs.Keys.{cut-keys-small}
+use Rattle.cutting.proofs.Keys.{keys-small}
 use Rattle.index.specs.declared.IndexAnswer.the-variants.{Indexed, Refused}
 use Rattle.index.specs.Indexing.{Lent, stretchCount, indexVerdict, Outcome, outcome, untouched, holding, firstEntries, indexWith, indexOf}
 use Rattle.index.proofs.Indexed.{index-good}
 
-told-good : (verdict : Verdict) (place : ℕ) (t u : Lent) (done : Outcome) {m starts : ℕ}
-    → settle verdict (λ number place. outcome (Refused number place) t) (settle (atPlace 7 place) (λ number place. outcome (Refused number place) u) done) .answer ≡ Indexed m starts
-    → (verdict ≡ Good) × (place ≡ 0)
-unfolding settle atPlace
-told-good Good zero t u done e = (refl, refl)
-told-good Good (suc place) t u done e = let z : _≡_ {A = ℕ} 0 1 = cc in absurd (let y : ⊥ = omega arith in y)
-told-good (Bad number wrong) place t u done e = let z : _≡_ {A = ℕ} 0 1 = cc in absurd (let y : ⊥ = omega arith in y)
+-- no refusal is an answer of success
+never : {number place m starts : ℕ} → Refused number place ≡ Indexed m starts → ⊥
+never e = let z : _≡_ {A = ℕ} 0 1 = cc in omega arith
 
 module _ (k p : ℕ) (letters ends weights : List ℕ) (t : Lent) where
-  -- two outcomes that meet the promise are equal
-  pub index-only : (a b : Outcome) → a ≡ indexOf k p letters ends weights t → b ≡ indexOf k p letters ends weights t → a ≡ b
-  index-only a b e f = e ∙ sym f
-
   -- an index is made only where nothing is refused
   pub index-told : {m starts : ℕ} → indexOf k p letters ends weights t .answer ≡ Indexed m starts → (indexVerdict k p letters ends weights t ≡ Good) × (firstRepeat k letters ends ≡ 0)
   unfolding indexOf
-  index-told e = told-good (indexVerdict k p letters ends weights t) (firstRepeat k letters ends) t _ _ e
+  index-told {m} {starts} e =
+      let a = done-by (λ (o : Outcome). o .answer) (indexVerdict k p letters ends weights t) _ _ (Indexed m starts) (λ number place q. never q) e in
+      let b = done-by (λ (o : Outcome). o .answer) (atPlace 7 (firstRepeat k letters ends)) _ _ (Indexed m starts) (λ number place q. never q) (a .2) in
+      (a .0, place-good 7 _ (b .0))
 
   module _ (good : indexVerdict k p letters ends weights t ≡ Good) where
     abbrev ss : List Stretch
@@ -53,7 +47,7 @@ module _ (k p : ℕ) (letters ends weights : List ℕ) (t : Lent) where
     taken : (g : Stretch → ℕ) (old : List ℕ) → take (length ss) (fill (map g arrangedBy) old) ≡ map g arrangedBy
     taken g old =
         let j = index-good k p letters ends weights t good in
-        take-fill (map g arrangedBy) old (length ss) (length-map arrangedBy g ∙ length-upTo (λ s. minimizerAt k p letters (s .at)) (4 ^ p) ss (cut-keys-small k p letters ends (j .ready) (j .p-fits)))
+        take-fill (map g arrangedBy) old (length ss) (length-map arrangedBy g ∙ length-upTo (λ s. minimizerAt k p letters (s .at)) (4 ^ p) ss (keys-small k p letters ends (j .ready) (j .p-fits)))
 
     held : (n : ℕ) → firstEntries (stretchCount k p letters ends) (4 ^ p + 1) (holding (indexWith k p letters ends) n t) ≡ indexWith k p letters ends
     unfolding built

@@ -34,7 +34,7 @@ fn foresee(
         return IndexAnswer::Refused { number, place };
     }
     let stretches = cutting::inner::count_all(k, p, letters, ends);
-    let starts = arranging::inner::word_count(p) + 1;
+    let starts = minimizers::inner::word_count(p) + 1;
     if (stretches <= firsts)
         & ((stretches <= positions)
             & ((stretches <= numbers) & ((starts <= before) & (4 * weights.len() <= work))))
@@ -116,7 +116,7 @@ fn index_judged(
         work,
     );
     collection::inner::zero_first(work, 4 * n);
-    let starts = arranging::inner::word_count(p) + 1;
+    let starts = minimizers::inner::word_count(p) + 1;
     IndexAnswer::Indexed {
         stretches: m,
         starts,

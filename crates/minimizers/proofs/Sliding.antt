@@ -9,7 +9,7 @@ use lib.Dec.{lit≤}
 use lib.Pow.{pow-add, shr-shr}
 use Rattle.words.specs.Turned.{rolled}
 use Rattle.words.proofs.Rolling.{four-two}
-use Rattle.minimizers.specs.Minimizer.{least}
+use Rattle.minimizers.specs.Least.{least}
 
 pub four-pos : (k : ℕ) → 0 < 4 ^ k
 four-pos k = one-le-pow k 4 (lit≤ tt)
@@ -40,10 +40,12 @@ letter-behind j c x h =
 
 -- ─── the least piece ─────────────────────────────────────────────────────────
 
+-- one piece: the last
 pub least-end : (p c : ℕ) → least p 0 c ≡ c % 4 ^ p
 unfolding least
 least-end p c = refl
 
+-- one piece more in front: it, or the least of those behind it
 pub least-step : (p j c : ℕ) → 0 < j → least p j c ≡ min (c / 4 ^ j % 4 ^ p) (least p (j - 1) c)
 unfolding least
 least-step p j c h =

@@ -10,11 +10,12 @@ use Rattle.lists.proofs.Every.{all-take, all-at}
 use Rattle.words.specs.Word.{Letters, code}
 use Rattle.words.proofs.Codes.{code-lt, code-snoc}
 use Rattle.words.proofs.Rolling.{tail-code}
-use Rattle.minimizers.specs.Minimizer.{smallest, minimizer, least}
+use Rattle.minimizers.specs.Least.{least}
+use Rattle.minimizers.specs.Minimizer.{smallest, minimizer}
 use Rattle.minimizers.proofs.Sliding.{four-pos, letter-behind, least-low, least-mod}
 
 -- the code of the first n + p letters without its last n letters
-pub front-code : (p n : ℕ) (w : List ℕ) → Letters w → n + p ≤ length w → code (take (n + p) w) / 4 ^ n ≡ code (take p w)
+front-code : (p n : ℕ) (w : List ℕ) → Letters w → n + p ≤ length w → code (take (n + p) w) / 4 ^ n ≡ code (take p w)
 front-code p zero w h l =
     let q : 0 + p ≡ p = omega arith in
     let z : code (take (0 + p) w) / 4 ^ 0 ≡ code (take (0 + p) w) = omega arith in
@@ -35,7 +36,7 @@ first-piece p n w h l =
     ap (λ (v : List ℕ). code v / 4 ^ n % 4 ^ p) (sym (take-all (n + p) w (omega arith)))
     ∙ (ap (λ (y : ℕ). y % 4 ^ p) (front-code p n w h (omega arith)) ∙ mod-eq-of-lt s)
 
-pub least-smallest : (p n : ℕ) (w : List ℕ) → Letters w → length w ≡ n + p → least p n (code w) ≡ smallest p n w
+least-smallest : (p n : ℕ) (w : List ℕ) → Letters w → length w ≡ n + p → least p n (code w) ≡ smallest p n w
 unfolding least smallest
 least-smallest p zero w h l =
     let q : length w ≡ p = omega arith in

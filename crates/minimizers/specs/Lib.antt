@@ -1,2 +1,3 @@
 -- Minimizers.
 pub mod Minimizer
+pub mod Least

@@ -1,7 +1,7 @@
 -- Minimizers: the smallest code among the words of p letters of a k-mer.
 use mathlib.Core.Bool.{_&&_}
 use mathlib.Core.List.{List}
-use Prim.Native.Nat.{ℕ, zero, suc, _-_, _/_, _%_, _^_, min}
+use Prim.Native.Nat.{ℕ, zero, suc, _-_, min}
 use lib.Dec.{leb}
 use lib.ListN.{length, take, drop}
 use Rattle.lists.specs.Choose.{choose}
@@ -27,8 +27,3 @@ minimizer p w = smallest p (length w - p) w
 -- the minimizer of the k-mer at a position
 abbrev pub minimizerAt : ℕ → ℕ → List ℕ → ℕ → ℕ
 minimizerAt k p letters a = minimizer p (wordAt k letters a)
-
--- The same of a word that is given by its code c: the smallest piece of p letters among the last n + p letters.
-unfoldable pub least : ℕ → ℕ → ℕ → ℕ
-least p zero c = c % 4 ^ p
-least p (suc n) c = min (c / 4 ^ suc n % 4 ^ p) (least p n c)

@@ -1,8 +1,17 @@
-// The minimizer of a k-mer from its code: looked for, or carried on from the k-mer before. n + p letters of the code count, so that it has n + 1 pieces of p letters.
+// How many minimizers there are; and the minimizer of a k-mer from its code: looked for, or carried on from the k-mer before. n + p letters of the code count, so that
+// it has n + 1 pieces of p letters.
 ghost use mathlib.Core.Path.{_≡_};
 ghost use Prim.Native.Nat.{_+_, _/_, _%_, _^_, _≤_, _<_, min};
 ghost use Rattle.words.specs.Turned.{rolled};
-ghost use Rattle.minimizers.specs.Minimizer.{least};
+ghost use Rattle.minimizers.specs.Least.{least};
+
+// How many words of p letters there are. Minimizers are the numbers below.
+pub fn word_count(p: usize) -> usize
+    requires { ⌜ p ≤ 8 ⌝ }
+    ensures { λ r. ⌜ r ≡ 4 ^ p ⌝ }
+{
+    1 << (2 * p)
+}
 
 // The smaller of two codes.
 fn smaller(a: u64, b: u64) -> u64

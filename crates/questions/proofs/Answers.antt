@@ -1,5 +1,5 @@
--- What a walk's end comes to as an answer.
-use mathlib.Core.Path.{_≡_, refl, sym, ap, _∙_}
+-- What a walk's end comes to as an answer: the two walks of `Asking`, as the code makes them. Assumes nothing.
+use mathlib.Core.Path.{_≡_, sym, ap, _∙_}
 use mathlib.Core.List.{List}
 use Prim.Native.Nat.{ℕ}
 use Rattle.words.specs.Turned.{spelled}
@@ -9,7 +9,6 @@ use Rattle.stretches.specs.Index.{Index, rowOf}
 use Rattle.walks.specs.declared.Met.{Met}
 use Rattle.walks.specs.declared.Met.the-variants.{Hit, Miss}
 use Rattle.questions.specs.declared.Question.{Question}
-use Rattle.questions.specs.declared.QuickAnswer.{QuickAnswer}
 use Rattle.questions.specs.declared.QuickAnswer.the-variants.{Found, Absent}
 use Rattle.walks.specs.Walk.{isWord, seek}
 use Rattle.questions.specs.Quick.{metOr}

@@ -1,12 +1,11 @@
--- What judging a question gives, and that asking by codes is asking by words.
+-- What judging a question and an index gives, and that asking by codes is asking by words. Assumes nothing.
 use mathlib.Core.Path.{_≡_, sym, ap, ap₂, _∙_, subst}
 use mathlib.Core.Bool.{Bool, true, false, _&&_}
 use mathlib.Core.List.{List, map}
-use Prim.Native.Nat.{ℕ, _+_, _-_, _*_, _%_, _^_, _<_, _≤_}
+use Prim.Native.Nat.{ℕ, _+_, _-_, _^_, _<_, _≤_}
 use native.Mathlib.Omega.{arith}
-use native.Mathlib.Nat.{pow-le-pow-right}
 use borrow.Author.Tests.{leb-true, eqb-true}
-use lib.Dec.{eqb, lit<}
+use lib.Dec.{eqb}
 use lib.ListN.{length, length-map}
 use Rattle.lists.specs.Choose.{choose}
 use Rattle.lists.specs.Every.{every}
@@ -16,14 +15,14 @@ use Rattle.words.specs.Word.{Letters, code, spell, turn}
 use Rattle.words.specs.Turned.{spelled, turnedCode}
 use Rattle.words.proofs.Codes.{code-lt, spelled-code}
 use Rattle.words.proofs.Spelled.{spell-letters, spell-bits}
-use Rattle.words.proofs.Rolling.{one-shifted, four-two}
 use Rattle.words.proofs.Turning.{length-turn, letters-turn, turned-code}
 use Rattle.collection.specs.declared.Verdict.the-variants.{Good, Bad}
 use Rattle.collection.specs.declared.Side.the-variants.{Asked, Turned}
 use Rattle.collection.specs.Judge.{sizeVerdict, wordVerdict}
 use Rattle.collection.proofs.Judged.{size-good, word-good}
 use Rattle.collection.proofs.Verdicts.{both-good, test-good}
-use Rattle.minimizers.specs.Minimizer.{least, minimizer, sizesVerdict}
+use Rattle.minimizers.specs.Least.{least}
+use Rattle.minimizers.specs.Minimizer.{minimizer, sizesVerdict}
 use Rattle.minimizers.proofs.Sizes.{Sizes, sizes-good}
 use Rattle.minimizers.proofs.Smallest.{least-minimizer, minimizer-lt}
 use Rattle.stretches.specs.Stretches.{walk}
@@ -44,6 +43,7 @@ pub record Asking (k p : ℕ) (word : List ℕ) (N : ℕ) : Type 0 where
   pub long : length word ≡ k
   pub letters : every isLetter word ≡ true
 
+-- a question that they do not refuse
 pub ask-good : (k p : ℕ) (word : List ℕ) (N : ℕ) → askVerdict k p word N ≡ Good → Asking k p word N
 unfolding askVerdict
 ask-good k p word N e =
@@ -90,12 +90,14 @@ module _ {k p : ℕ} {word : List ℕ} {N : ℕ} (a : Asking k p word N) where
   many-turned : length (turn asks) ≡ k
   many-turned = size-turned word (a .sizes .p-fits) (a .long) (a .letters)
 
+  -- both rows are among those of the index
   pub row-below : minimizer p asks < 4 ^ p
   row-below = minimizer-lt p asks good (omega (arith, many, a .sizes .p-fits))
 
   pub other-below : minimizer p (turn asks) < 4 ^ p
   other-below = minimizer-lt p (turn asks) (letters-turn asks good) (omega (arith, many-turned, a .sizes .p-fits))
 
+  -- the question can be asked
   pub askable : (letters : List ℕ) → length letters ≡ N → Askable k letters (questionOf p asks)
   askable letters n =
       record {
@@ -120,13 +122,7 @@ module _ {k p : ℕ} {word : List ℕ} {N : ℕ} (a : Asking k p word N) where
 
 -- ─── a judged index ──────────────────────────────────────────────────────────
 
--- the number of minimizers, as the machine shifts it
-pub minimizers-many : (p : ℕ) → p ≤ 8 → (1 * 2 ^ (2 * p)) % 2 ^ 64 ≡ 4 ^ p
-minimizers-many p l = one-shifted (2 * p) (omega arith) ∙ sym (four-two p)
-
-pub minimizers-few : (p : ℕ) → p ≤ 8 → 4 ^ p ≤ 65536
-minimizers-few p l = pow-le-pow-right (lit< tt) l
-
+-- tables that fit: the fourth has an entry more than there are minimizers, the others are alike
 pub tables-good : (d : ℕ) (t : Index) → tablesFit d t ≡ true → (length (t .before) ≡ d + 1) × Alike t
 unfolding tablesFit
 tables-good d t e =
@@ -151,7 +147,7 @@ rows-good d k N t row other l m e =
       record { alike = g .1; inside = omega (arith, g .0); fits = and-right (rowFits k N t row) _ r },
     )
 
--- the tests in their order
+-- the tests in their order: the tables, the first row, and then the second decides
 module _ (d k N : ℕ) (t : Index) (row other : ℕ) where
   pub tables-wrong : tablesFit d t ≡ false → Bad 10 0 ≡ rowsVerdict d k N t row other
   unfolding rowsVerdict

@@ -1,4 +1,4 @@
--- The weight of an asked word.
+-- The weight of an asked word. Assumes nothing.
 use mathlib.Core.Path.{_≡_, sym, ap, _∙_}
 use mathlib.Core.List.{List}
 use Prim.Native.Nat.{ℕ}

@@ -1,4 +1,4 @@
--- What asking wants of a question.
+-- For the contracts of inner functions: what asking wants of a question.
 use mathlib.Core.List.{List}
 use Prim.Native.Nat.{ℕ, _^_, _<_, _≤_}
 use lib.ListN.{length}

@@ -1,5 +1,5 @@
--- What QUICK answers.
+-- What QUICK answers, and what an asked word weighs; and, for inner functions, a question by codes.
 pub mod Quick
-pub mod Asking
 pub mod Weighed
+pub mod Asking
 pub mod Judged

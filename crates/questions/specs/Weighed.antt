@@ -14,7 +14,7 @@ unfoldable pub weighs : WeightAnswer → WordAnswer
 weighs (weight.Found w) = word.Weighs w
 weighs (weight.Refused number place) = word.Refused number place
 
--- a word that was not found is absent, or the question was refused
+-- a word that was not found is absent, or the question was refused; a found word does not come here
 unfoldable pub unweighed : QuickAnswer → WordAnswer
 unweighed (Found handle side compared) = word.Absent
 unweighed (Absent compared) = word.Absent

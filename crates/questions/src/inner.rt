@@ -53,7 +53,8 @@ pub fn judge_index(
         number: 10,
         place: 0,
     };
-    if !walks::inner::tables_fit(1 << (2 * p), firsts, positions, numbers, before) {
+    let count = minimizers::inner::word_count(p);
+    if !walks::inner::tables_fit(count, firsts, positions, numbers, before) {
         return bad;
     }
     if !walks::inner::row_fits(k, n, firsts, positions, numbers, before, q.row) {

@@ -32,7 +32,7 @@ pub enum WordAnswer {
     Refused { number: u32, place: usize },
 }
 
-// A word to be asked for, by its code and its reverse complement's, with the minimizer of each, whose rows are walked.
+// A word to be asked for, by its code and its reverse complement's, and the minimizers under which they are looked for: `row` for the word, `other` for the turned one.
 pub struct Question {
     pub asked: u64,
     pub turned: u64,
@@ -80,7 +80,7 @@ pub fn quick(
     inner::ask(k, q, letters, firsts, positions, numbers, before)
 }
 
-// What QUICK answered, for a word that it did not find.
+// What QUICK answered, for a word that it did not find. `weigh` takes the found case apart before it comes here.
 fn not_found(answer: QuickAnswer) -> WordAnswer
     ensures { λ r. ⌜ r ≡ unweighed answer ⌝ }
 {

@@ -2,36 +2,27 @@
 -- By the cases of the verdicts. Assumes nothing.
 use mathlib.Core.Path.{_≡_, refl, sym, ap, _∙_}
 use mathlib.Core.List.{List}
-use Prim.Native.Nat.{ℕ, zero, suc, _*_, _≤_}
+use Prim.Native.Nat.{ℕ, _*_, _≤_}
 use native.Mathlib.Omega.{arith}
 use borrow.Author.Tests.{le-ltb}
 use lib.ListN.{length}
-use Rattle.collection.specs.declared.Verdict.{Verdict}
-use Rattle.collection.specs.declared.Verdict.the-variants.{Good, Bad}
+use Rattle.collection.specs.declared.Verdict.the-variants.{Good}
 use Rattle.collection.specs.Judge.{kmerCount, collectionVerdict, Passes}
 use Rattle.collection.specs.Kmers.{kmers}
-use Rattle.collection.specs.Verdict.{atPlace, settle, roomVerdict}
+use Rattle.collection.specs.Verdict.{atPlace, roomVerdict}
 use Rattle.collection.proofs.Judged.{collection-good}
 use Rattle.collection.proofs.Kmers.{kmers-counted}
-use Rattle.collection.proofs.Verdicts.{both-good, room-good, then-good, settled, place-none}
+use Rattle.collection.proofs.Verdicts.{both-good, room-good, then-good, settled, place-none, place-good, done-by}
 use Rattle.collection.specs.Ready.{Ready}
 use Rattle.collection.proofs.Ready.{judged-ready}
+use Rattle.repeats.specs.declared.CheckAnswer.{CheckAnswer}
 use Rattle.repeats.specs.declared.CheckAnswer.the-variants.{Checked, Refused}
 use Rattle.repeats.specs.Check.{checkVerdict, checkOf, outcome, Outcome, firstRepeat, Accepted}
 use Rattle.repeats.proofs.Repeats.{none-distinct, distinct-none}
 
--- a repeat of 0 is none
-told-none : (n m place : ℕ) → settle (atPlace 7 place) Refused (Checked n) ≡ Checked m → (place ≡ 0) × (m ≡ n)
-unfolding settle atPlace
-told-none n m zero e = (refl, cc)
-told-none n m (suc place) e = let z : _≡_ {A = ℕ} 0 1 = cc in absurd (let y : ⊥ = omega arith in y)
-
--- an answer of success comes from a good verdict
-told-good : (v : Verdict) (work : List ℕ) (m : ℕ) (done : Outcome) → settle v (λ number place. outcome (Refused number place) work) done .answer ≡ Checked m
-    → (v ≡ Good) × (done .answer ≡ Checked m)
-unfolding settle
-told-good Good work m done e = (refl, e)
-told-good (Bad number place) work m done e = let z : _≡_ {A = ℕ} 0 1 = cc in absurd (let y : ⊥ = omega arith in y)
+-- no refusal is an answer of success
+never : {number place m : ℕ} → Refused number place ≡ Checked m → ⊥
+never e = let z : _≡_ {A = ℕ} 0 1 = cc in omega arith
 
 module _ (k : ℕ) (letters ends weights : List ℕ) where
   abbrev n : ℕ
@@ -67,15 +58,18 @@ module _ (k : ℕ) (letters ends weights : List ℕ) where
 
   -- ─── success ───────────────────────────────────────────────────────────────
 
+  same-count : {i j : ℕ} → Checked i ≡ Checked j → j ≡ i
+  same-count e = cc
+
   module _ (work : List ℕ) where
     -- an answer of success says that the collection is accepted
     pub check-distinct : (m : ℕ) → checkOf k letters ends weights work .answer ≡ Checked m → Accepted k letters ends weights (length work) × (m ≡ n)
     unfolding checkOf
     check-distinct m e =
-        let a = told-good (checkVerdict k letters ends weights (length work)) work m _ e in
-        let b = told-none n m (firstRepeat k letters ends) (a .1) in
+        let a = done-by (λ (o : Outcome). o .answer) (checkVerdict k letters ends weights (length work)) _ _ (Checked m) (λ number place q. never q) e in
+        let b = done-by (λ (r : CheckAnswer). r) (atPlace 7 (firstRepeat k letters ends)) Refused (Checked n) (Checked m) (λ number place q. never q) (a .2) in
         let s = check-started (length work) (a .0) in
-        (record { passes = s .passes; enough = s .enough; distinct = none-distinct k letters ends (s .ready) (b .0) }, b .1)
+        (record { passes = s .passes; enough = s .enough; distinct = none-distinct k letters ends (s .ready) (place-good 7 _ (b .0)) }, same-count (b .2))
 
     -- and an accepted collection is answered with success
     pub distinct-check : Accepted k letters ends weights (length work) → checkOf k letters ends weights work .answer ≡ Checked n

@@ -1,4 +1,5 @@
--- The k-mers of a stretch have one minimizer, and each stretch has a k-mer. By induction on the k-mers still to come, then on the strings. Assumes nothing.
+-- The k-mers of a stretch have one minimizer, and each stretch has a k-mer; so there are no more stretches than k-mers. By induction on the k-mers still to come, then
+-- on the strings. Assumes nothing.
 use mathlib.Core.Path.{_≡_, refl, ap, _∙_}
 use mathlib.Core.Bool.{Bool, true, false}
 use mathlib.Core.List.{List, [], _∷_}
@@ -9,13 +10,11 @@ use borrow.Author.Tests.{eqb-true}
 use lib.Dec.{eqb}
 use lib.ListN.{length, length-append}
 use Rattle.lists.specs.Choose.{choose}
-use Rattle.lists.specs.Count.{countFrom}
 use Rattle.lists.specs.Every.{All}
-use Rattle.lists.proofs.Count.{length-count}
 use Rattle.lists.proofs.Every.{all-append, all-map}
 use Rattle.collection.specs.Kmers.{within, kmers}
 use Rattle.stretches.specs.Stretches.{Stretch, stretch, kmersOf, walk, openFrom, ofString, stretchesFrom, stretches}
-use Rattle.stretches.proofs.Walks.{length-numbered, walk-stretches}
+use Rattle.stretches.proofs.Walks.{length-numbered, length-stretch, walk-string, walk-stretches}
 
 -- each k-mer of a stretch has the minimizer of its first
 abbrev pub Even : (ℕ → ℕ) → Stretch → Type 0
@@ -59,28 +58,22 @@ rows-from q k h before (e ∷ ends) =
     let n : ℕ = within k before e in
     all-append (Row q) (ofString q h before n) (stretchesFrom q k (h + n) e ends) (string-rows q h before n) (rows-from q k (h + n) e ends)
 
-module _ (q : ℕ → ℕ) (k : ℕ) (ends : List ℕ) where
-  pub stretches-even : All (Even q) (stretches q k ends)
-  stretches-even = all-map (λ s r. r .even) (stretches q k ends) (rows-from q k 1 0 ends)
-
-  pub stretches-some : All (λ s. 1 ≤ s .number) (stretches q k ends)
-  stretches-some = all-map (λ s r. r .some) (stretches q k ends) (rows-from q k 1 0 ends)
+-- the k-mers of each stretch of a collection have one minimizer
+pub stretches-even : (q : ℕ → ℕ) (k : ℕ) (ends : List ℕ) → All (Even q) (stretches q k ends)
+stretches-even q k ends = all-map (λ s r. r .even) (stretches q k ends) (rows-from q k 1 0 ends)
 
 -- ─── no more stretches than k-mers ───────────────────────────────────────────
 
-walk-long : (ss : List Stretch) → All (λ s. 1 ≤ s .number) ss → length ss ≤ length (walk ss)
+rows-few : (q : ℕ → ℕ) (ss : List Stretch) → All (Row q) ss → length ss ≤ length (walk ss)
 unfolding walk
-walk-long [] h = omega arith
-walk-long (s ∷ ss) h =
-    omega (
-      arith,
-      length-append (kmersOf s) (walk ss),
-      length-numbered (s .first) (countFrom (s .at) (s .number)),
-      length-count (s .at) (s .number),
-      h .0,
-      walk-long ss (h .1),
-    )
+rows-few q [] h = omega arith
+rows-few q (s ∷ ss) h = omega (arith, length-append (kmersOf s) (walk ss), length-stretch s, h .0 .some, rows-few q ss (h .1))
 
+-- of a string
+pub string-few : (q : ℕ → ℕ) (h a n : ℕ) → length (ofString q h a n) ≤ n
+string-few q h a n = omega (arith, rows-few q (ofString q h a n) (string-rows q h a n), ap length (walk-string q h a n), length-stretch (stretch h a n))
+
+-- of a collection
 pub stretches-few : (q : ℕ → ℕ) (k : ℕ) (ends : List ℕ) → length (stretches q k ends) ≤ length (kmers k ends)
 stretches-few q k ends =
-    omega (arith, walk-long (stretches q k ends) (stretches-some q k ends), ap length (walk-stretches q k ends), length-numbered 1 (kmers k ends))
+    omega (arith, rows-few q (stretches q k ends) (rows-from q k 1 0 ends), ap length (walk-stretches q k ends), length-numbered 1 (kmers k ends))

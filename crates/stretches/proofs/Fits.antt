@@ -1,4 +1,4 @@
--- The index of a collection whose shape passes fits: no QUICK refuses it. Assumes nothing.
+-- Where the stretches of a collection lie; so the index of a collection whose shape passes fits, and no QUICK refuses it. Assumes nothing.
 use mathlib.Core.Path.{_≡_, sym, ap, _∙_}
 use mathlib.Core.Bool.{Bool, true, false}
 use mathlib.Core.List.{List, [], _∷_, map}
@@ -60,6 +60,11 @@ module _ (q : ℕ → ℕ) (k N : ℕ) where
       all-append (Lies k N) (ofString q h before n) (stretchesFrom q k (h + n) e ends) (string-lies h before n h1 hb (omega arith))
       (lie-from (suc i) (h + n) e ends k1 (omega arith) (omega arith) (a .1) l)
 
+-- the first k-mer of each stretch lies among the letters
+pub stretches-inside : (q : ℕ → ℕ) (k N : ℕ) (ends : List ℕ) → 1 ≤ k → firstShort k 0 0 ends ≡ 0 → lastEnd 0 ends ≡ N → All (λ s. s .at + k ≤ N) (stretches q k ends)
+stretches-inside q k N ends k1 long last =
+    all-map (λ (s : Stretch) (l : Lies k N s). omega (arith, l .some, l .inside)) (stretches q k ends) (lie-from q k N 0 1 0 ends k1 (omega arith) (omega arith) long last)
+
 lies-fits : (k N : ℕ) → 1 ≤ k → N ≤ 1048576 → (s : Stretch) → Lies k N s → stretchFits k N s ≡ true
 unfolding stretchFits
 lies-fits k N k1 few s l =
@@ -70,11 +75,11 @@ lies-fits k N k1 few s l =
 -- ─── the index fits ──────────────────────────────────────────────────────────
 
 module _ (q : ℕ → ℕ) {k : ℕ} {letters ends : List ℕ} (s : Shape k letters ends) where
-  stretches-lie : All (Lies k (length letters)) (stretches q k ends)
-  stretches-lie = lie-from q k (length letters) 0 1 0 ends (omega (arith, s .k-low)) (omega arith) (omega arith) (s .long) (s .last)
-
+  -- each stretch fits
   pub stretches-fit : All (λ x. stretchFits k (length letters) x ≡ true) (stretches q k ends)
-  stretches-fit = all-map (lies-fits k (length letters) (omega (arith, s .k-low)) (s .N-high)) (stretches q k ends) stretches-lie
+  stretches-fit =
+      all-map (lies-fits k (length letters) (omega (arith, s .k-low)) (s .N-high)) (stretches q k ends)
+      (lie-from q k (length letters) 0 1 0 ends (omega (arith, s .k-low)) (omega arith) (omega arith) (s .long) (s .last))
 
 module _ (q : ℕ → ℕ) (d : ℕ) {k : ℕ} {letters ends : List ℕ} (s : Shape k letters ends) where
   abbrev ss : List Stretch
@@ -83,6 +88,7 @@ module _ (q : ℕ → ℕ) (d : ℕ) {k : ℕ} {letters ends : List ℕ} (s : Sh
   abbrev key : Stretch → ℕ
   key x = q (x .at)
 
+  -- the tables fit one another
   pub tables-fit : tablesFit d (indexed q d k ends) ≡ true
   unfolding tablesFit built
   tables-fit =
@@ -98,6 +104,7 @@ module _ (q : ℕ → ℕ) (d : ℕ) {k : ℕ} {letters ends : List ℕ} (s : Sh
   unfolding built
   length-firsts = length-map (arranged q d ss) (λ x. x .first)
 
+  -- and the row of each minimizer fits
   pub row-fits : (v : ℕ) → v < d → rowFits k (length letters) (indexed q d k ends) v ≡ true
   unfolding rowFits
   row-fits v h =

@@ -15,6 +15,7 @@ module _ (q : ℕ → ℕ) where
   Ends s [] = Unit {0}
   Ends s (t ∷ ss) = (t .at ≡ s .at + s .number) × (q (t .at) ≡ q (s .at) → ⊥)
 
+  -- so of each stretch of a row
   abbrev pub Maximal : List Stretch → Type 0
   Maximal [] = Unit {0}
   Maximal (s ∷ ss) = Ends s ss × Maximal ss
@@ -38,6 +39,7 @@ module _ (q : ℕ → ℕ) where
       go true e more next = more
       go false e more next = (open-ends (stretch h a n) (h + n) (a + n) 1 left refl (eqb-false (q (a + n)) (q a) e), next)
 
+  -- the stretches of a string cannot go on
   pub string-maximal : (h a n : ℕ) → Maximal (ofString q h a n)
   unfolding ofString
   string-maximal h a zero = tt

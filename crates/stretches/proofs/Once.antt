@@ -27,7 +27,7 @@ walk-arranged q (suc d) ss u =
     ∙ (ap₂ (λ (l m : List Kmer). l ++ m) (walk-arranged q d ss u) (walk-pick q d ss u) ∙ sym (upTo-suc (λ (x : Kmer). q (x .at)) d (walk ss))))
 
 -- all k-mers of the tables, from the first stretch to the last
-pub arranged-walks : (q : ℕ → ℕ) (d k : ℕ) (ends : List ℕ) → walk (arranged q d (stretches q k ends)) ≡ upTo (λ x. q (x .at)) d (numbered 1 (kmers k ends))
+arranged-walks : (q : ℕ → ℕ) (d k : ℕ) (ends : List ℕ) → walk (arranged q d (stretches q k ends)) ≡ upTo (λ x. q (x .at)) d (numbered 1 (kmers k ends))
 arranged-walks q d k ends = walk-arranged q d (stretches q k ends) (stretches-even q k ends) ∙ ap (upTo (λ x. q (x .at)) d) (walk-stretches q k ends)
 
 -- ─── each handle once ────────────────────────────────────────────────────────

@@ -49,6 +49,7 @@ module _ (q : ℕ → ℕ) (v : ℕ) where
       (all-count (λ a. q a ≡ q (s .at)) (s .at) (s .number)
       (λ j l h. let e : j ≡ s .at + (j - s .at) = omega arith in ap q e ∙ u (j - s .at) (omega arith)))
 
+  -- the stretches of a minimizer walk its k-mers
   pub walk-pick : (ss : List Stretch) → All (Even q) ss → walk (pick (λ s. q (s .at)) v ss) ≡ pick (λ x. q (x .at)) v (walk ss)
   unfolding walk
   walk-pick [] u = ap walk (pick-nil ofStretch v) ∙ sym (pick-nil ofKmer v)
@@ -73,7 +74,7 @@ module _ (q : ℕ → ℕ) (v : ℕ) where
 -- ─── the rows of a built index ───────────────────────────────────────────────
 
 module _ (q : ℕ → ℕ) (d : ℕ) (ss : List Stretch) where
-  pub entry-of-built : (i : ℕ) → entry (built q d ss) i ≡ getD (arranged q d ss) i (stretch 0 0 0)
+  entry-of-built : (i : ℕ) → entry (built q d ss) i ≡ getD (arranged q d ss) i (stretch 0 0 0)
   unfolding built
   entry-of-built i =
       let none : Stretch = stretch 0 0 0 in

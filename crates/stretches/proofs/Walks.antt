@@ -15,17 +15,22 @@ use Rattle.stretches.specs.Stretches.{Kmer, numbered, Stretch, stretch, 
 
 -- ─── numbered k-mers ─────────────────────────────────────────────────────────
 
-pub numbered-append : (h : ℕ) (xs ys : List ℕ) → numbered h (xs ++ ys) ≡ numbered h xs ++ numbered (h + length xs) ys
+numbered-append : (h : ℕ) (xs ys : List ℕ) → numbered h (xs ++ ys) ≡ numbered h xs ++ numbered (h + length xs) ys
 unfolding numbered
 numbered-append h [] ys = let e : h ≡ h + 0 = omega arith in ap (λ (n : ℕ). numbered n ys) e
 numbered-append h (a ∷ xs) ys =
     let e : suc h + length xs ≡ h + suc (length xs) = omega arith in
     ap (λ (l : List Kmer). record { handle = h; at = a } ∷ l) (numbered-append (suc h) xs ys ∙ ap (λ (n : ℕ). numbered (suc h) xs ++ numbered n ys) e)
 
+-- a k-mer for each position
 pub length-numbered : (h : ℕ) (xs : List ℕ) → length (numbered h xs) ≡ length xs
 unfolding numbered
 length-numbered h [] = refl
 length-numbered h (a ∷ xs) = ap suc (length-numbered (suc h) xs)
+
+-- a stretch has as many k-mers as it says
+pub length-stretch : (s : Stretch) → length (kmersOf s) ≡ s .number
+length-stretch s = length-numbered (s .first) (countFrom (s .at) (s .number)) ∙ length-count (s .at) (s .number)
 
 -- a stretch cut in two
 kmers-cut : (h a n m : ℕ) → kmersOf (stretch h a (n + m)) ≡ kmersOf (stretch h a n) ++ kmersOf (stretch (h + n) (a + n) m)
@@ -36,6 +41,7 @@ kmers-cut h a n m =
 
 -- ─── walks ───────────────────────────────────────────────────────────────────
 
+-- a walk goes through the first stretches, then through the others
 pub walk-append : (r s : List Stretch) → walk (r ++ s) ≡ walk r ++ walk s
 unfolding walk
 walk-append [] s = refl

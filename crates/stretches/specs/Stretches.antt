@@ -44,7 +44,8 @@ unfoldable pub openFrom : (ℕ → ℕ) → ℕ → ℕ → ℕ → ℕ → List
 openFrom q h a n zero = stretch h a n ∷ []
 openFrom q h a n (suc left) = choose (eqb (q (a + n)) (q a)) (openFrom q h a (suc n) left) (stretch h a n ∷ openFrom q (h + n) (a + n) 1 left)
 
--- the stretches of a string of n k-mers, the first of which has handle h and stands at position a
+-- The stretches of a string of n k-mers, the first of which has handle h and stands at position a. Each is of one minimizer (`stretches-even`), and none can go on
+-- (`string-maximal`).
 unfoldable pub ofString : (ℕ → ℕ) → ℕ → ℕ → ℕ → List Stretch
 ofString q h a zero = []
 ofString q h a (suc n) = openFrom q h a 1 n

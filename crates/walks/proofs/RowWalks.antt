@@ -1,26 +1,20 @@
--- The walk of a row, as its loop goes: stretch by stretch, from stretch i up to stretch e.
-use mathlib.Core.Path.{_≡_, refl, sym, ap, ap₂, _∙_, subst}
-use mathlib.Core.Bool.{Bool, true, false, _&&_}
+-- The walk of a row, as its loop goes: stretch by stretch, from stretch i up to stretch e. Assumes nothing.
+use mathlib.Core.Path.{_≡_, refl, ap, _∙_}
+use mathlib.Core.Bool.{Bool, true}
 use mathlib.Core.List.{List, [], _∷_, _++_}
 use Prim.Native.Nat.{ℕ, zero, suc, _+_, _-_, _*_, _<_, _≤_}
 use native.Mathlib.Omega.{arith}
 use lib.ListN.{length, length-append}
-use Rattle.lists.specs.Count.{countFrom}
 use Rattle.lists.specs.Every.{every}
-use Rattle.lists.proofs.Count.{length-count}
 use Rattle.lists.proofs.Every.{and-left, and-right}
-use Rattle.stretches.specs.Stretches.{Kmer, Stretch, kmersOf, walk}
-use Rattle.stretches.proofs.Walks.{length-numbered}
+use Rattle.stretches.specs.Stretches.{Stretch, kmersOf, walk}
+use Rattle.stretches.proofs.Walks.{length-stretch}
 use Rattle.stretches.specs.Index.{Index, entry, entries, start, rowOf, stretchFits, rowFits}
 use Rattle.walks.specs.declared.Met.{Met}
 use Rattle.walks.specs.declared.Met.the-variants.{Hit, Miss}
 use Rattle.walks.specs.Walk.{seek}
-use Rattle.walks.proofs.Rows.{Fits, row-good, row-walk, fit-here, fit-rest, walk-next, walk-end, room, room-few, Room}
+use Rattle.walks.proofs.Rows.{row-good, row-walk, fit-here, fit-rest, walk-next, walk-end, room, room-few, Room}
 use Rattle.walks.proofs.Walks.{seek-on, seek-met, seek-none, miss-counts}
-
--- the k-mers of a stretch
-pub length-stretch : (s : Stretch) → length (kmersOf s) ≡ s .number
-length-stretch s = length-numbered (s .first) (countFrom (s .at) (s .number)) ∙ length-count (s .at) (s .number)
 
 -- ─── no row is too long to count ─────────────────────────────────────────────
 
@@ -47,13 +41,15 @@ row-short k N t v e few =
 
 -- ─── the loop ────────────────────────────────────────────────────────────────
 
--- `count` k-mers have been compared when the walk comes to stretch i, and the walk from there on gives the answer
+-- `count` k-mers have been compared when the walk comes to stretch i, and the walk from there on gives the answer. At most 2^41 were compared before the row, and
+-- at most 2^20 in each stretch.
 pub record Walking (test : ℕ → Bool) (k N : ℕ) (t : Index) (answer : Met) (e count i : ℕ) : Type 0 where
   pub inside : e ≤ length (t .firsts)
   pub fits : every (stretchFits k N) (entries t i (e - i)) ≡ true
   pub few : count ≤ 2199023255552 + i * 1048576
   pub rest : answer ≡ seek test count (walk (entries t i (e - i)))
 
+-- no stretch has been walked
 pub walking-begins : (test : ℕ → Bool) (k N : ℕ) (t : Index) (v compared : ℕ) → compared ≤ 2199023255552 → rowFits k N t v ≡ true
     → Walking test k N t (seek test compared (walk (rowOf t v))) (start t (v + 1)) compared (start t v)
 walking-begins test k N t v compared l e =
@@ -69,9 +65,11 @@ module _ {test : ℕ → Bool} {k N : ℕ} {t : Index} {answer : Met} {e count i
     split : answer ≡ seek test count (kmersOf (entry t i) ++ walk (entries t (i + 1) (e - (i + 1))))
     split = w .rest ∙ ap (seek test count) (walk-next t k N i e l)
 
+    -- a k-mer of it meets the test: the answer
     pub walking-met : (h n : ℕ) → seek test count (kmersOf (entry t i)) ≡ Hit h n → answer ≡ Hit h n
     walking-met h n q = split ∙ seek-met test count h n (kmersOf (entry t i)) (walk (entries t (i + 1) (e - (i + 1)))) q
 
+    -- none does: the walk goes on with the next one
     pub walking-on : (n : ℕ) → seek test count (kmersOf (entry t i)) ≡ Miss n → Walking test k N t answer e n (i + 1)
     walking-on n q =
         record {
@@ -81,5 +79,6 @@ module _ {test : ℕ → Bool} {k N : ℕ} {t : Index} {answer : Met} {e count i
           rest = split ∙ seek-on test count n (kmersOf (entry t i)) (walk (entries t (i + 1) (e - (i + 1)))) q;
         }
 
+  -- no stretch is left
   pub walking-ends : e ≤ i → answer ≡ Miss count
   walking-ends l = w .rest ∙ (ap (seek test count) (walk-end t i e l) ∙ seek-none test count)

@@ -1,37 +1,38 @@
--- Rows: from stretch i up to stretch e of the tables.
-use mathlib.Core.Path.{_≡_, refl, sym, ap, ap₂, _∙_, subst}
+-- Rows: from stretch i up to stretch e of the tables. What one that fits gives, how a loop goes over it, and what a stretch that fits gives. Assumes nothing.
+use mathlib.Core.Path.{_≡_, refl, sym, ap, _∙_, subst}
 use mathlib.Core.Bool.{Bool, true, false, _&&_}
 use mathlib.Core.List.{List, [], _∷_, _++_}
 use Prim.Native.Nat.{ℕ, suc, _+_, _-_, _<_, _≤_}
 use native.Mathlib.Omega.{arith}
 use native.Mathlib.Numerals.{add-one}
-use borrow.Author.Tests.{leb-true, le-leb, lt-leb}
+use borrow.Author.Tests.{leb-true, le-leb}
 use lib.Dec.{leb}
-use lib.ListN.{length, getD}
+use lib.ListN.{length}
 use Rattle.lists.specs.Every.{every}
 use Rattle.lists.proofs.Every.{and-left, and-right, and-assoc, and-true}
-use Rattle.stretches.specs.Stretches.{Kmer, Stretch, kmersOf, walk}
+use Rattle.stretches.specs.Stretches.{Stretch, kmersOf, walk}
 use Rattle.stretches.specs.Index.{Index, entry, entries, start, rowOf, stretchFits, rowFits}
 
 module _ (t : Index) where
-  pub row-next : (i e : ℕ) → i < e → entries t i (e - i) ≡ entry t i ∷ entries t (i + 1) (e - (i + 1))
+  row-next : (i e : ℕ) → i < e → entries t i (e - i) ≡ entry t i ∷ entries t (i + 1) (e - (i + 1))
   unfolding entries
   row-next i e l =
       let q : e - i ≡ suc (e - (i + 1)) = omega arith in
       ap (entries t i) q ∙ ap (λ (n : ℕ). entry t i ∷ entries t n (e - (i + 1))) (sym (add-one i))
 
-  pub row-end : (i e : ℕ) → e ≤ i → entries t i (e - i) ≡ []
+  row-end : (i e : ℕ) → e ≤ i → entries t i (e - i) ≡ []
   unfolding entries
   row-end i e l = let q : e - i ≡ 0 = omega arith in ap (entries t i) q
 
   -- ─── a row that fits ───────────────────────────────────────────────────────
 
-  -- what a row from stretch b up to stretch e that fits gives
+  -- what is known of a row that fits, from stretch b up to stretch e
   pub record Fits (k N b e : ℕ) : Type 0 where
     pub order : b ≤ e
     pub inside : e ≤ length (t .firsts)
     pub each : every (stretchFits k N) (entries t b (e - b)) ≡ true
 
+  -- the row of a minimizer that fits
   pub row-good : (k N v : ℕ) → rowFits k N t v ≡ true → Fits k N (start t v) (start t (v + 1))
   unfolding rowFits rowOf
   row-good k N v e =
@@ -76,22 +77,27 @@ module _ (t : Index) where
         ∙ (ap (λ (ss : List Stretch). good && every (stretchFits k N) ss) (row-next i e l)
         ∙ (ap (λ (b : Bool). good && (b && tail)) (sym h) ∙ and-assoc good here tail))
 
+    -- in a row that fits, the next stretch does
     pub fit-here : every (stretchFits k N) (entries t i (e - i)) ≡ true → stretchFits k N (entry t i) ≡ true
     unfolding every
     fit-here h = and-left (stretchFits k N (entry t i)) _ (sym (ap (every (stretchFits k N)) (row-next i e l)) ∙ h)
 
+    -- and so do those behind it
     pub fit-rest : every (stretchFits k N) (entries t i (e - i)) ≡ true → every (stretchFits k N) (entries t (i + 1) (e - (i + 1))) ≡ true
     unfolding every
     fit-rest h = and-right (stretchFits k N (entry t i)) _ (sym (ap (every (stretchFits k N)) (row-next i e l)) ∙ h)
 
+    -- a row is walked stretch by stretch
     pub walk-next : walk (entries t i (e - i)) ≡ kmersOf (entry t i) ++ walk (entries t (i + 1) (e - (i + 1)))
     unfolding walk
     walk-next = ap walk (row-next i e l)
 
+  -- the pass is over
   pub fit-end : (k N i e : ℕ) → e ≤ i → (all good : Bool) → all ≡ (good && every (stretchFits k N) (entries t i (e - i))) → good ≡ all
   unfolding every
   fit-end k N i e l all good h = sym (h ∙ (ap (λ (ss : List Stretch). good && every (stretchFits k N) ss) (row-end i e l) ∙ and-true good))
 
+  -- and so is the walk
   pub walk-end : (i e : ℕ) → e ≤ i → walk (entries t i (e - i)) ≡ []
   unfolding walk
   walk-end i e l = ap walk (row-end i e l)

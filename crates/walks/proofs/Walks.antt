@@ -1,5 +1,5 @@
--- Walks: k-mer by k-mer along a stretch, and stretch by stretch along a row.
-use mathlib.Core.Path.{_≡_, refl, sym, ap, ap₂, _∙_, subst}
+-- Walks: k-mer by k-mer along a stretch, and stretch by stretch along a row. Assumes nothing.
+use mathlib.Core.Path.{_≡_, refl, sym, ap, ap₂, _∙_}
 use mathlib.Core.Bool.{Bool, true, false, true≢false, false≢true}
 use mathlib.Core.List.{List, [], _∷_, _++_}
 use Prim.Native.Nat.{ℕ, suc, _+_, _-_, _<_, _≤_}
@@ -9,7 +9,7 @@ use lib.ListN.{length}
 use Rattle.lists.specs.Choose.{choose}
 use Rattle.lists.specs.Count.{countFrom}
 use Rattle.lists.proofs.Count.{count-start, count-next, count-end}
-use Rattle.stretches.specs.Stretches.{Kmer, numbered, Stretch, stretch, kmersOf}
+use Rattle.stretches.specs.Stretches.{Kmer, numbered, stretch, kmersOf}
 use Rattle.walks.specs.declared.Met.{Met}
 use Rattle.walks.specs.declared.Met.the-variants.{Hit, Miss}
 use Rattle.walks.specs.Walk.{seek}
@@ -21,6 +21,7 @@ module _ (test : ℕ → Bool) (c first at number : ℕ) where
   unfoldable pub left : ℕ → Met
   left i = seek test (c + i) (numbered (first + i) (countFrom (at + i) (number - i)))
 
+  -- at its first k-mer
   pub left-start : seek test c (kmersOf (stretch first at number)) ≡ left 0
   unfolding left
   left-start =
@@ -38,12 +39,15 @@ module _ (test : ℕ → Bool) (c first at number : ℕ) where
       ∙ (ap (λ (n : ℕ). choose (test (at + i)) (Hit (first + i) n) (seek test (suc (c + i)) (numbered (suc (first + i)) rest))) e
       ∙ ap₂ (λ (x y : ℕ). choose (test (at + i)) (Hit (first + i) (c + i + 1)) (seek test x (numbered y rest))) f g)
 
+  -- the i-th k-mer meets the test
   pub left-hit : (i : ℕ) → i < number → test (at + i) ≡ true → left i ≡ Hit (first + i) (c + i + 1)
   left-hit i l e = left-step i l ∙ ap (λ (t : Bool). choose t (Hit (first + i) (c + i + 1)) (left (i + 1))) e
 
+  -- or it does not
   pub left-on : (i : ℕ) → i < number → test (at + i) ≡ false → left i ≡ left (i + 1)
   left-on i l e = left-step i l ∙ ap (λ (t : Bool). choose t (Hit (first + i) (c + i + 1)) (left (i + 1))) e
 
+  -- no k-mer is left
   pub left-end : (i : ℕ) → i ≡ number → left i ≡ Miss (c + number)
   unfolding left seek numbered
   left-end i e =
@@ -92,6 +96,7 @@ miss-counts test c n (x ∷ xs) e = go (test (x .at)) e (miss-counts test (suc c
     go true q ih = absurd (false≢true (ap isMiss q))
     go false q ih = omega (arith, ih q)
 
+-- no k-mers
 pub seek-none : (test : ℕ → Bool) (c : ℕ) → seek test c [] ≡ Miss c
 unfolding seek
 seek-none test c = refl

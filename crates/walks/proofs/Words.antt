@@ -1,4 +1,4 @@
--- Bytes are a word exactly if they have its code and are all letters.
+-- Bytes are a word exactly if they have its code and are all letters. Assumes nothing.
 use mathlib.Core.Path.{_≡_, refl, sym, ap, ap₂, _∙_, subst}
 use mathlib.Core.Bool.{Bool, true, false, _&&_, true≢false}
 use mathlib.Core.List.{List, [], _∷_, map}
@@ -23,7 +23,7 @@ letters-every [] h = refl
 letters-every (b ∷ bytes) h = and-both (lt-ltb (letter b) 4 (h .0)) (letters-every bytes (h .1))
 
 -- what the machine tests: the code that it reads off any bytes, and then whether they are letters
-pub bytes-test : (bytes w : List ℕ) → Letters w → length bytes ≡ length w → same (spell bytes) w ≡ (eqb (code (map twoBits bytes)) (code w) && every isLetter bytes)
+bytes-test : (bytes w : List ℕ) → Letters w → length bytes ≡ length w → same (spell bytes) w ≡ (eqb (code (map twoBits bytes)) (code w) && every isLetter bytes)
 bytes-test bytes w g l = go (every isLetter bytes) refl
   where
     go : (t : Bool) → every isLetter bytes ≡ t → same (spell bytes) w ≡ (eqb (code (map twoBits bytes)) (code w) && t)

@@ -10,6 +10,10 @@ use Rattle.index.proofs.build.Tie as tie
 abbrev tables : tie.Start → Lent
 tables s = lent (s .args .firsts .now) (s .args .positions .now) (s .args .numbers .now) (s .args .before .now) (s .args .work .now)
 
+-- the start, seen from where the stretches were cut
+abbrev start : tie.After-cut-all → tie.Start
+start c = c .before .before .before .before .before .before .before .before .before .before .before .before
+
 slice-relend-prefix-cut-all : tie.Need-slice-relend-prefix-cut-all
 slice-relend-prefix-cut-all c = search needs
 
@@ -21,8 +25,9 @@ cut-all-requires c κs = let s = c .before .before .before .before .before .befo
 
 arrange-requires : tie.Need-arrange-requires
 arrange-requires c κs =
-    let s = c .before .before .before .before .before .before .before .before .before .before .before .before .before .before .before .before .before .before .before .before .before .before .before .before .before in
-    let cut = c .before .before .before .before .before .before .before .before .before .before .before .before .before .cut-all .ensures in
+    let d = c .before .before .before .before .before .before .before .before .before .before .before .before .before in
+    let s = start d in
+    let cut = d .cut-all .ensures in
     (cut-orderable (tables s) (s .pre) cut, (cut-low (tables s) (s .pre) cut, cut-room (tables s) (s .pre) cut))
 
 same-length : tie.Need-same-length
@@ -41,7 +46,9 @@ same-length-5 : tie.Need-same-length-5
 same-length-5 c = search needs
 
 returns : tie.Need-returns
-returns c = let s = c .before .before .before .before .before .before .before .before .before .before .before .before .before .before .before .before .before .before .before .before .before .before .before .before .before .before .before .before .before .before .before .before .before .before .before .before in index-built (tables s) (s .pre) (c .before .before .before .before .before .before .before .before .before .before .before .before .before .before .before .before .before .before .before .before .before .before .before .before .cut-all .ensures) (c .before .before .before .before .before .before .before .before .before .before .arrange .ensures)
+returns c =
+    let d = c .before .before .before .before .before .before .before .before .before .before .before .before .before .before .before .before .before .before .before .before .before .before .before .before in
+    index-built (tables (start d)) (start d .pre) (d .cut-all .ensures) (c .before .before .before .before .before .before .before .before .before .before .arrange .ensures)
 
 pub build-spec : {M : Type 1} → statement M
 build-spec =

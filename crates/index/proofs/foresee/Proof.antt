@@ -1,15 +1,13 @@
 -- `foresee` meets its contract: sizes, collection and rooms, one judgement after the other. Assumes nothing.
 use mathlib.Core.Path.{_≡_, sym, ap, _∙_}
-use Prim.Native.Nat.{ℕ, _+_, _^_, _≤_}
-use native.Mathlib.Nat.{pow-le-pow-right}
-use lib.Dec.{lit<}
+use Prim.Native.Nat.{ℕ, _+_}
 use native.Mathlib.Omega.{arith}
 use Rattle.collection.specs.declared.Verdict.the-variants.{Good}
 use Rattle.collection.specs.Judge.{Passes}
 use Rattle.collection.proofs.Judged.{collection-good}
 use Rattle.collection.proofs.Ready.{judged-ready}
 use Rattle.minimizers.specs.Minimizer.{sizesVerdict}
-use Rattle.minimizers.proofs.Sizes.{sizes-good}
+use Rattle.minimizers.proofs.Sizes.{sizes-good, words-few}
 use Rattle.index.proofs.Indexed.{sizes-refused, collection-refused, room-enough, room-refused}
 use borrow.Author.Needs.{needs}
 use Rattle.index.proofs.foresee.Statement.{statement}
@@ -53,9 +51,7 @@ word-count-requires : tie.Need-word-count-requires
 word-count-requires c κs = sizes-good _ _ (sizes (c .before .before .before .before)) .p-high
 
 add-starts : tie.Need-add-starts
-add-starts c =
-    let l : 4 ^ c .before .before .before .before .before .before .before .before .before .before .before .args .p ≤ 4 ^ 8 = pow-le-pow-right (lit< tt) (sizes-good _ _ (sizes (c .before .before .before .before .before)) .p-high) in
-    omega (arith, c .word-count .ensures)
+add-starts c = omega (arith, c .word-count .ensures, words-few _ (sizes-good _ _ (sizes (c .before .before .before .before .before)) .p-high))
 
 mul-if1 : tie.Need-mul-if1
 mul-if1 c = search needs

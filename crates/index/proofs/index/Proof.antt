@@ -7,12 +7,15 @@ use borrow.Author.Needs.{needs}
 use Rattle.index.proofs.index.Statement.{statement}
 use Rattle.index.proofs.index.Tie as tie
 
--- the five tables at the start, and what is foreseen for them
+-- the five tables at the start, seen from where the answer was foreseen, and what is foreseen for them
 abbrev tables : tie.Start → Lent
 tables s = lent (s .args .firsts .now) (s .args .positions .now) (s .args .numbers .now) (s .args .before .now) (s .args .work .now)
 
-told : (c : tie.After-foresee) → let s = c .before .before .before .before .before .before .before .before .before in c .foresee .result ≡ foreseen (s .args .k) (s .args .p) (s .args .letters .now) (s .args .ends .now) (s .args .weights .now) (tables s)
-told c = c .foresee .ensures (tables (c .before .before .before .before .before .before .before .before .before)) (record { firsts-size = refl; positions-size = refl; numbers-size = refl; before-size = refl; work-size = refl })
+abbrev start : tie.After-foresee → tie.Start
+start c = c .before .before .before .before .before .before .before .before .before
+
+told : (c : tie.After-foresee) → let s = start c in c .foresee .result ≡ foreseen (s .args .k) (s .args .p) (s .args .letters .now) (s .args .ends .now) (s .args .weights .now) (tables s)
+told c = c .foresee .ensures (tables (start c)) (record { firsts-size = refl; positions-size = refl; numbers-size = refl; before-size = refl; work-size = refl })
 
 foresee-requires : tie.Need-foresee-requires
 foresee-requires c κs = search needs
@@ -24,10 +27,16 @@ enum-told : tie.Need-enum-told
 enum-told c = search needs
 
 returns : tie.Need-returns
-returns c = let a = c .before .before .before .before .before .before .before .before .before .before .before .args in index-refused (a .k) (a .p) (a .letters .now) (a .ends .now) (a .weights .now) (tables (c .before .before .before .before .before .before .before .before .before .before .before)) (told (c .before .before)) (c .enum-told .given .1)
+returns c =
+    let f = c .before .before in
+    let a = start f .args in
+    index-refused (a .k) (a .p) (a .letters .now) (a .ends .now) (a .weights .now) (tables (start f)) (told f) (c .enum-told .given .1)
 
 index-judged-requires : tie.Need-index-judged-requires
-index-judged-requires c κs = let a = c .before .before .before .before .before .before .before .before .before .before .before .before .before .before .before .before .before .args in foreseen-judged (a .k) (a .p) (a .letters .now) (a .ends .now) (a .weights .now) (tables (c .before .before .before .before .before .before .before .before .before .before .before .before .before .before .before .before .before)) (told (c .before .before .before .before .before .before .before .before)) (c .before .before .before .before .before .before .v .given .1)
+index-judged-requires c κs =
+    let f = c .before .before .before .before .before .before .before .before in
+    let a = start f .args in
+    foreseen-judged (a .k) (a .p) (a .letters .now) (a .ends .now) (a .weights .now) (tables (start f)) (told f) (c .before .before .before .before .before .before .v .given .1)
 
 same-length : tie.Need-same-length
 same-length c = search needs
@@ -45,7 +54,10 @@ same-length-5 : tie.Need-same-length-5
 same-length-5 c = search needs
 
 returns-2 : tie.Need-returns-2
-returns-2 c = let a = c .before .before .before .before .before .before .before .before .before .before .before .before .before .before .before .before .before .before .before .before .before .before .before .before .before .before .before .before .args in index-goes-on (a .k) (a .p) (a .letters .now) (a .ends .now) (a .weights .now) (tables (c .before .before .before .before .before .before .before .before .before .before .before .before .before .before .before .before .before .before .before .before .before .before .before .before .before .before .before .before)) (told (c .before .before .before .before .before .before .before .before .before .before .before .before .before .before .before .before .before .before .before)) (c .before .before .before .before .before .before .before .before .before .before .before .before .before .before .before .before .before .v .given .1) (c .before .before .before .before .before .before .before .before .before .before .index-judged .ensures)
+returns-2 c =
+    let f = c .before .before .before .before .before .before .before .before .before .before .before .before .before .before .before .before .before .before .before in
+    let a = start f .args in
+    index-goes-on (a .k) (a .p) (a .letters .now) (a .ends .now) (a .weights .now) (tables (start f)) (told f) (c .before .before .before .before .before .before .before .before .before .before .before .before .before .before .before .before .before .v .given .1) (c .before .before .before .before .before .before .before .before .before .before .index-judged .ensures)
 
 pub index-spec : {M : Type 1} → statement M
 index-spec =

@@ -13,6 +13,13 @@ use Rattle.index.proofs.index_judged.Tie as tie
 abbrev tables : tie.Start → Lent
 tables s = lent (s .args .firsts .now) (s .args .positions .now) (s .args .numbers .now) (s .args .before .now) (s .args .work .now)
 
+-- the start, seen from where the search for a repeated word ended; and that, from where the index was built
+abbrev start : tie.After-first-repeat → tie.Start
+start c = c .before .before .before .before .before .before .before .before .before
+
+abbrev searched : tie.After-build → tie.After-first-repeat
+searched c = c .before .before .before .before .before .before .before .before .before
+
 first-repeat-requires : tie.Need-first-repeat-requires
 first-repeat-requires c κs = search needs
 
@@ -26,22 +33,33 @@ same-length : tie.Need-same-length
 same-length c = search needs
 
 returns : tie.Need-returns
-returns c = let s = c .before .before .before .before .before .before .before .before .before .before .before .before .before .before .before .before in repeat-refused (tables s) (s .pre) (c .before .before .before .before .before .before .before .first-repeat .ensures) (c .before .before .before .before .if1 .taken) (c .before .before .zero-first .ensures)
+returns c =
+    let f = c .before .before .before .before .before .before .before in
+    repeat-refused (tables (start f)) (start f .pre) (f .first-repeat .ensures) (c .before .before .before .before .if1 .taken) (c .before .before .zero-first .ensures)
 
 build-requires : tie.Need-build-requires
-build-requires c κs = let s = c .before .before .before .before .before .before .before .before .before .before .before .before .before .before .before .before .before in judged-still (tables s) (s .pre) (c .before .before .before .before .before .before .before .before .first-repeat .ensures)
+build-requires c κs =
+    let f = c .before .before .before .before .before .before .before .before in
+    judged-still (tables (start f)) (start f .pre) (f .first-repeat .ensures)
 
 mul-zero-first-2 : tie.Need-mul-zero-first-2
-mul-zero-first-2 c = let s = c .before .before .before .before .before .before .before .before .before .before .before .before .before .before .before .before .before .before .before .before .before .before .before .before .before .before .before .before .before in omega (arith, s .pre .each, few-kmers (s .pre .ready))
+mul-zero-first-2 c =
+    let s = start (searched (c .before .before .before .before .before .before .before .before .before .before .before)) in
+    omega (arith, s .pre .each, few-kmers (s .pre .ready))
 
 zero-first-requires-2 : tie.Need-zero-first-requires-2
-zero-first-requires-2 c κs = let s = c .before .before .before .before .before .before .before .before .before .before .before .before .before .before .before .before .before .before .before .before .before .before .before .before .before .before .before .before .before in work-still (tables s) (s .pre) (c .before .before .before .before .before .before .before .before .before .before .before .before .before .before .before .before .before .before .before .before .first-repeat .ensures) (c .before .before .before .before .before .before .before .before .before .before .before .build .ensures)
+zero-first-requires-2 c κs =
+    let b = c .before .before .before .before .before .before .before .before .before .before .before in
+    let f = searched b in
+    work-still (tables (start f)) (start f .pre) (f .first-repeat .ensures) (b .build .ensures)
 
 word-count-requires : tie.Need-word-count-requires
-word-count-requires c κs = c .before .before .before .before .before .before .before .before .before .before .before .before .before .before .before .before .before .before .before .before .before .before .before .before .before .before .before .before .before .before .before .before .pre .p-high
+word-count-requires c κs = start (searched (c .before .before .before .before .before .before .before .before .before .before .before .before .before .before)) .pre .p-high
 
 add-starts : tie.Need-add-starts
-add-starts c = let s = c .before .before .before .before .before .before .before .before .before .before .before .before .before .before .before .before .before .before .before .before .before .before .before .before .before .before .before .before .before .before .before .before .before in omega (arith, s .pre .before-room, c .word-count .ensures)
+add-starts c =
+    let s = start (searched (c .before .before .before .before .before .before .before .before .before .before .before .before .before .before .before)) in
+    omega (arith, s .pre .before-room, c .word-count .ensures)
 
 same-length-2 : tie.Need-same-length-2
 same-length-2 c = search needs
@@ -60,8 +78,9 @@ same-length-6 c = search needs
 
 returns-2 : tie.Need-returns-2
 returns-2 c =
-    let s = c .before .before .before .before .before .before .before .before .before .before .before .before .before .before .before .before .before .before .before .before .before .before .before .before .before .before .before .before .before .before .before .before .before in
-    index-made (tables s) (s .pre) (c .before .before .before .before .before .before .before .before .before .before .before .before .before .before .before .before .before .before .before .before .before .before .before .before .first-repeat .ensures) (c .before .before .before .before .before .before .before .before .before .before .before .before .before .before .before .build .ensures) (c .before .before .before .before .before .before .before .before .before .before .before .before .before .before .before .before .before .before .before .before .before .if1 .left) (c .before .before .before .zero-first2 .ensures) (ap (λ (d : ℕ). d + 1) (c .word-count .ensures))
+    let b = c .before .before .before .before .before .before .before .before .before .before .before .before .before .before .before in
+    let f = searched b in
+    index-made (tables (start f)) (start f .pre) (f .first-repeat .ensures) (b .build .ensures) (c .before .before .before .before .before .before .before .before .before .before .before .before .before .before .before .before .before .before .before .before .before .if1 .left) (c .before .before .before .zero-first2 .ensures) (ap (λ (d : ℕ). d + 1) (c .word-count .ensures))
 
 pub index-judged-spec : {M : Type 1} → statement M
 index-judged-spec =

@@ -1,5 +1,5 @@
 -- `not_found` meets its contract: each case of the answer has its own. Assumes nothing.
-use mathlib.Core.Path.{sym, ap, _∙_}
+use mathlib.Core.Path.{sym, ap}
 use Rattle.questions.specs.Weighed.{unweighed}
 use borrow.Author.Needs.{needs}
 use Rattle.questions.proofs.not_found.Statement.{statement}

@@ -1,18 +1,15 @@
 -- `quick` meets its contract: the question is judged, then the index, then it is asked. Assumes nothing.
 use mathlib.Core.Path.{_≡_, refl, sym, ap, _∙_, subst}
 use mathlib.Core.List.{List}
-use Prim.Native.Nat.{ℕ, _^_, _<_, _≤_}
+use Prim.Native.Nat.{ℕ, _^_, _<_}
 use lib.ListN.{length}
 use Rattle.words.specs.Word.{spell}
-use Rattle.collection.specs.declared.Verdict.{Verdict}
 use Rattle.collection.specs.declared.Verdict.the-variants.{Good}
 use Rattle.collection.proofs.Verdicts.{then-bad, then-good, refused, settled}
 use Rattle.stretches.specs.Index.{Index, tables}
 use Rattle.questions.specs.declared.Question.{Question}
-use Rattle.questions.specs.declared.QuickAnswer.{QuickAnswer}
 use Rattle.questions.specs.Quick.{quickOf, quickVerdict, askVerdict, rowsVerdict, quickFound}
 use Rattle.questions.specs.Asking.{questionOf, askedOf}
-use Rattle.walks.specs.Judged.{Row}
 use Rattle.questions.specs.Judged.{Askable}
 use Rattle.minimizers.specs.Minimizer.{minimizer}
 use Rattle.questions.proofs.Asked.{ask-good, askable, asked-quick, row-below, other-below, rows-good}

@@ -16,6 +16,13 @@ Inv-loop k p letters ends firsts₀ positions₀ numbers₀ keys₀ at₀ h₀ o
 abbrev μ-loop : tie.MeasureT-loop
 μ-loop k p letters ends firsts₀ positions₀ numbers₀ keys₀ at₀ h₀ o₀ i₀ firsts positions numbers keys at h o i = length ends - i
 
+-- the loop, seen from where a string is cut, and the start, seen from the loop
+abbrev turn : tie.After-cut-string Inv-loop μ-loop → tie.At-loop Inv-loop μ-loop
+turn c = c .before .before .before .before .before .before .before
+
+abbrev start : tie.At-loop Inv-loop μ-loop → tie.Start Inv-loop μ-loop
+start c = c .before .before .before .before .before .before .before
+
 loop-holds : tie.Need-loop-holds Inv-loop μ-loop
 loop-holds c = let r = c .before .before .before .before .before .before .pre in passed-begin (r .0 .ends-long) (r .0 .ends-last) (r .1 .1)
 
@@ -39,9 +46,10 @@ sub-n c = omega (arith, next-string (c .before .before .loop .inv .strings) (c .
 
 cut-string-requires : tie.Need-cut-string-requires Inv-loop μ-loop
 cut-string-requires c κs =
-    let r = c .before .before .before .before .before .before .before .before .before .before .before .before .before .pre in
+    let l = c .before .before .before .before .before .before in
+    let r = start l .pre in
     let p = r .1 .0 in
-    let i = c .before .before .before .before .before .before .loop .inv in
+    let i = l .loop .inv in
     let t = c .before .before .before .before .before .loop-test .taken in
     let e = next-string (i .strings) t in
     let d = r .0 .few-letters in (
@@ -64,8 +72,9 @@ cut-string-requires c κs =
 
 add-h : tie.Need-add-h Inv-loop μ-loop
 add-h c =
-    let i = c .before .before .before .before .before .before .before .before .before .before .before .before .before .before .before .loop .inv in
-    omega (arith, next-string (i .strings) (c .before .before .before .before .before .before .before .before .before .before .before .before .before .before .loop-test .taken), i .strings .few, i .few, c .before .before .before .before .before .before .before .before .before .before .before .before .before .before .before .before .before .before .before .before .before .before .pre .0 .few-letters)
+    let l = turn (c .before .before .before .before .before .before .before .before) in
+    let i = l .loop .inv in
+    omega (arith, next-string (i .strings) (c .before .before .before .before .before .before .before .before .before .before .before .before .before .before .loop-test .taken), i .strings .few, i .few, start l .pre .0 .few-letters)
 
 add-i : tie.Need-add-i Inv-loop μ-loop
 add-i c = omega (arith, c .before .before .before .before .before .before .before .before .before .before .before .before .before .before .loop-test .taken)
@@ -75,8 +84,9 @@ loop-less c = search needs
 
 loop-again : tie.Need-loop-again Inv-loop μ-loop
 loop-again c =
-    let e = c .before .before .before .before .before .before .before .before .cut-string .ensures in
-    passed-on (c .before .before .before .before .before .before .before .before .before .before .before .before .before .before .before .loop .inv) (c .before .before .before .before .before .before .before .before .before .before .before .before .before .before .loop-test .taken) (c .before .before .before .before .before .before .before .before .before .before .before .before .before .before .before .before .before .before .before .before .before .before .pre .0 .ends-long .k-low) _ (e .0) (e .1)
+    let s = c .before .before .before .before .before .before .before .before in
+    let l = turn s in
+    passed-on (l .loop .inv) (c .before .before .before .before .before .before .before .before .before .before .before .before .before .before .loop-test .taken) (start l .pre .0 .ends-long .k-low) _ (s .cut-string .ensures .0) (s .cut-string .ensures .1)
 
 same-length : tie.Need-same-length Inv-loop μ-loop
 same-length c = c .before .loop .inv .filling .firsts .size-kept

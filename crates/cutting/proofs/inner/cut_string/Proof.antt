@@ -21,15 +21,25 @@ Inv-loop k p letters h a n o firsts₀ positions₀ numbers₀ keys₀ c₀ v₀
 abbrev μ-loop : tie.MeasureT-loop
 μ-loop k p letters h a n o firsts₀ positions₀ numbers₀ keys₀ c₀ v₀ s₀ to₀ i₀ firsts positions numbers keys c v s to i = n - i
 
+-- the start, seen from the loop; the loop, seen from where a turn has the next minimizer, and from where the last stretch is stored
+abbrev start : tie.At-loop Inv-loop μ-loop → tie.Start Inv-loop μ-loop
+start c = c .before .before .before .before .before .before .before .before .before
+
+abbrev turn : tie.After-slide Inv-loop μ-loop → tie.At-loop Inv-loop μ-loop
+turn c = c .before .before .before .before .before
+
+abbrev ended : tie.After-store2 Inv-loop μ-loop → tie.At-loop Inv-loop μ-loop
+ended c = c .before .before .before .before .before .before
+
 -- the minimizer of the k-mer that a turn of the loop comes to, and how the pass goes on from it
 came : (c : tie.After-slide Inv-loop μ-loop) (w : ℕ) → w ≡ c .slide .result
-    → let a = c .before .before .before .before .before .before .before .before .before .before .before .before .before .before .args in
-    let i = c .before .before .before .before .before .loop .i in
+    → let a = start (turn c) .args in
+    let i = turn c .loop .i in
     (w ≡ minimizerAt (a .k) (a .p) (a .letters .now) (a .a + i)) × Carried (a .k) (a .p) (a .letters .now) (a .a + (i + 1)) (c .before .roll .result) w
 came c w e =
-    let t = c .before .before .before .before .before .before .before .before .before .before .before .before .before .before in
+    let t = start (turn c) in
     let a = t .args in
-    let l = c .before .before .before .before .before .loop in
+    let l = turn c .loop in
     carried-on (a .k) (a .p) (a .letters .now) (t .pre .1 .0 .2) (every-all isLetter _ (t .pre .0)) (omega arith) (t .pre .1 .0 .3) (a .a) (l .i) _ _ _ _ w (omega arith)
     (l .inv .1) (c .before .before .letter-code .ensures) (c .before .roll .ensures) (e ∙ c .slide .ensures)
 
@@ -78,45 +88,47 @@ letter-code-requires : tie.Need-letter-code-requires Inv-loop μ-loop
 letter-code-requires c κs = search needs
 
 roll-requires : tie.Need-roll-requires Inv-loop μ-loop
-roll-requires c κs = roll-fits _ _ _ _ _ (c .before .before .before .loop .inv .1) (c .before .before .before .before .before .before .before .before .before .before .before .before .pre .1 .0 .3) (c .letter-code .ensures)
+roll-requires c κs = roll-fits _ _ _ _ _ (c .before .before .before .loop .inv .1) (start (c .before .before .before) .pre .1 .0 .3) (c .letter-code .ensures)
 
 sub-slide : tie.Need-sub-slide Inv-loop μ-loop
 sub-slide c = search needs
 
 slide-requires : tie.Need-slide-requires Inv-loop μ-loop
-slide-requires c κs = slide-fits _ _ _ _ _ (c .before .before .before .before .loop .inv .1) (c .before .before .before .before .before .before .before .before .before .before .before .before .before .pre .1 .0 .3) (c .before .letter-code .ensures) _ (c .before .before .before .before .before .before .before .before .before .before .before .before .before .pre .1 .0 .2) (c .roll .ensures)
+slide-requires c κs =
+    let r = start (c .before .before .before .before) .pre .1 .0 in
+    slide-fits _ _ _ _ _ (c .before .before .before .before .loop .inv .1) (r .3) (c .before .letter-code .ensures) _ (r .2) (c .roll .ensures)
 
 add-i : tie.Need-add-i Inv-loop μ-loop
 add-i c = search needs
 
 add-store : tie.Need-add-store Inv-loop μ-loop
-add-store c = omega (arith, c .before .before .before .before .before .before .before .before .before .before .loop .inv .2 .behind)
+add-store c = omega (arith, turn (c .before .before .before .before .before) .loop .inv .2 .behind)
 
 add-store-2 : tie.Need-add-store-2 Inv-loop μ-loop
-add-store-2 c = omega (arith, c .before .before .before .before .before .before .before .before .before .before .loop .inv .2 .behind)
+add-store-2 c = omega (arith, turn (c .before .before .before .before .before) .loop .inv .2 .behind)
 
 sub-store : tie.Need-sub-store Inv-loop μ-loop
-sub-store c = omega (arith, c .before .before .before .before .before .before .before .before .before .before .loop .inv .2 .behind)
+sub-store c = omega (arith, turn (c .before .before .before .before .before) .loop .inv .2 .behind)
 
 store-requires : tie.Need-store-requires Inv-loop μ-loop
 store-requires c κs =
-    let l = c .before .before .before .before .before .before .before .before .before .before .loop in
+    let l = turn (c .before .before .before .before .before) .loop in
     let b = l .inv .2 .behind in
     let r = filling-inside (cutting-ended (l .inv .2) (c .before .before .before .before .before .before .before .before .before .loop-test .taken) (came (c .before .before .before .before .before) _ refl .0) (c .before .before .before .before .if1 .taken)) in
     (r .0, r .1, r .2, r .3, omega (arith, b), omega (arith, b), omega (arith, b), omega (arith, carried-small (l .inv .1) (omega arith)))
 
 add-to : tie.Need-add-to Inv-loop μ-loop
 add-to c =
-    let l = c .before .before .before .before .before .before .before .before .before .before .before .before .before .before .before .before .before .before .before .loop in
-    let r = c .before .before .before .before .before .before .before .before .before .before .before .before .before .before .before .before .before .before .before .before .before .before .before .before .before .before .before .before .pre .1 .0 in
-    omega (arith, l .inv .2 .near, l .inv .2 .behind, l .inv .0, r .5, r .6, r .8)
+    let i = turn (c .before .before .before .before .before .before .before .before .before .before .before .before .before .before) .loop .inv in
+    let r = start (turn (c .before .before .before .before .before .before .before .before .before .before .before .before .before .before)) .pre .1 .0 in
+    omega (arith, i .2 .near, i .2 .behind, i .0, r .5, r .6, r .8)
 
 loop-less : tie.Need-loop-less Inv-loop μ-loop
 loop-less c = search needs
 
 loop-again : tie.Need-loop-again Inv-loop μ-loop
 loop-again c =
-    let l = c .before .before .before .before .before .before .before .before .before .before .before .before .before .before .before .before .before .before .before .loop in
+    let l = turn (c .before .before .before .before .before .before .before .before .before .before .before .before .before .before) .loop in
     let st = c .before .before .before .before .before .before .before .before .store .ensures in
     let e = came (c .before .before .before .before .before .before .before .before .before .before .before .before .before .before) _ refl in
     (omega arith, e .1, rw (st .0, st .1, st .2, st .3) (cutting-cut (l .inv .2) (c .before .before .before .before .before .before .before .before .before .before .before .before .before .before .before .before .before .before .loop-test .taken) (e .0) (c .before .before .before .before .before .before .before .before .before .before .before .before .before .if1 .taken)))
@@ -127,7 +139,7 @@ loop-less-2 c = search needs
 loop-again-2 : tie.Need-loop-again-2 Inv-loop μ-loop
 loop-again-2 c =
     let e = came (c .before) _ (sym (c .if1 .left)) in
-    (omega arith, e .1, cutting-on (c .before .before .before .before .before .before .loop .inv .2) (c .before .before .before .before .before .loop-test .taken) (e .0) refl)
+    (omega arith, e .1, cutting-on (turn (c .before) .loop .inv .2) (c .before .before .before .before .before .loop-test .taken) (e .0) refl)
 
 add-store-3 : tie.Need-add-store-3 Inv-loop μ-loop
 add-store-3 c = omega (arith, c .before .before .before .before .before .loop .inv .2 .behind)
@@ -146,23 +158,23 @@ store-requires-2 c κs =
     (r .0, r .1, r .2, r .3, omega (arith, b), omega (arith, b), omega (arith, b), omega (arith, carried-small (l .inv .1) (omega arith)))
 
 add-result : tie.Need-add-result Inv-loop μ-loop
-add-result c = let l = c .before .before .before .before .before .before .before .before .before .before .before .before .before .before .loop in omega (arith, l .inv .2 .near, l .inv .2 .behind, l .inv .0)
+add-result c = let l = ended (c .before .before .before .before .before .before .before .before) .loop in omega (arith, l .inv .2 .near, l .inv .2 .behind, l .inv .0)
 
 same-length : tie.Need-same-length Inv-loop μ-loop
-same-length c = c .before .before .before .before .before .before .before .before .store2 .kept .0 ∙ c .before .before .before .before .before .before .before .before .before .before .before .before .before .before .loop .inv .2 .filling .firsts .size-kept
+same-length c = let s = c .before .before .before .before .before .before .before .before in s .store2 .kept .0 ∙ ended s .loop .inv .2 .filling .firsts .size-kept
 
 same-length-2 : tie.Need-same-length-2 Inv-loop μ-loop
-same-length-2 c = c .before .before .before .before .before .before .before .before .store2 .kept .1 .0 ∙ c .before .before .before .before .before .before .before .before .before .before .before .before .before .before .loop .inv .2 .filling .positions .size-kept
+same-length-2 c = let s = c .before .before .before .before .before .before .before .before in s .store2 .kept .1 .0 ∙ ended s .loop .inv .2 .filling .positions .size-kept
 
 same-length-3 : tie.Need-same-length-3 Inv-loop μ-loop
-same-length-3 c = c .before .before .before .before .before .before .before .before .store2 .kept .1 .1 .0 ∙ c .before .before .before .before .before .before .before .before .before .before .before .before .before .before .loop .inv .2 .filling .numbers .size-kept
+same-length-3 c = let s = c .before .before .before .before .before .before .before .before in s .store2 .kept .1 .1 .0 ∙ ended s .loop .inv .2 .filling .numbers .size-kept
 
 same-length-4 : tie.Need-same-length-4 Inv-loop μ-loop
-same-length-4 c = c .before .before .before .before .before .before .before .before .store2 .kept .1 .1 .1 .0 ∙ c .before .before .before .before .before .before .before .before .before .before .before .before .before .before .loop .inv .2 .filling .keys .size-kept
+same-length-4 c = let s = c .before .before .before .before .before .before .before .before in s .store2 .kept .1 .1 .1 .0 ∙ ended s .loop .inv .2 .filling .keys .size-kept
 
 returns : tie.Need-returns Inv-loop μ-loop
 returns c =
-    let l = c .before .before .before .before .before .before .before .before .before .before .before .before .before .before .loop in
+    let l = ended (c .before .before .before .before .before .before .before .before) .loop in
     let st = c .before .before .before .before .before .before .before .before .store2 .ensures in
     let f = filling-store (cutting-last (l .inv .2) (omega (arith, c .before .before .before .before .before .before .before .before .before .before .before .before .before .loop-test .left))) (l .inv .2 .key) in
     (omega (arith, f .counted), rw (st .0, st .1, st .2, st .3) (filling-end f))

@@ -2,7 +2,7 @@
 use mathlib.Core.Path.{_≡_, ap, _∙_}
 use Prim.Native.Nat.{ℕ, _%_, _^_, _≤_, min}
 use native.Mathlib.Omega.{arith}
-use Rattle.minimizers.specs.Minimizer.{least}
+use Rattle.minimizers.specs.Least.{least}
 use Rattle.minimizers.proofs.Sliding.{least-low, least-end, least-step, last-piece}
 use borrow.Author.Needs.{needs}
 use Rattle.minimizers.proofs.inner.find.Statement.{statement}

@@ -1,7 +1,5 @@
 -- `question` meets its contract. Assumes nothing.
-use mathlib.Core.Path.{_≡_}
 use native.Mathlib.Omega.{arith}
-use lib.ListN.{length}
 use Rattle.questions.proofs.Asked.{question-is}
 use borrow.Author.Needs.{needs}
 use Rattle.questions.proofs.inner.question.Statement.{statement}
