@@ -45,6 +45,7 @@ pub record Found (k i : ℕ) (l : List ℕ) (ms : List (List ℕ)) (next a b : �
   pub letters : a ≡ length ((stringOf (later tab l)) .letters)
   pub weights : b ≡ length ((stringOf (later tab l)) .weights)
 
+-- where the code finds a good line, there is one
 pub found : (k i : ℕ) (l : List ℕ) (ms : List (List ℕ)) (next a b : ℕ) → lineOf k i l ms ≡ line.Good next a b → Found k i l ms next a b
 unfolding lineOf
 found k i l [] next a b h = let z : _≡_ {A = ℕ} 0 1 = cc in absurd (omega arith)
@@ -96,6 +97,7 @@ pub record Counting (k : ℕ) (s : List ℕ) (at n m w i : ℕ) : Type 0 where
   pub weights : w ≤ i
   pub counts : countOf k 0 0 0 (linesAt s at) ≡ countOf k n m w (linesAt s i)
 
+-- at the start nothing is counted
 pub counting : (k : ℕ) (s : List ℕ) (at : ℕ) → 2 ≤ at → at ≤ length s → Counting k s at 0 0 0 at
 counting k s at h l = record { inside = l; letters = omega arith; strings = omega arith; weights = omega arith; counts = refl }
 
