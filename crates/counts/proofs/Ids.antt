@@ -35,7 +35,7 @@ pub record Weighing (ws ids₀ ids : List ℕ) (i : ℕ) : Type 0 where
   pub storing : Storing (length ids₀) ids (fill (map (keyAt ws) ids₀) ids₀) (map (keyAt ws) (drop i ids₀)) i
   pub rest : (j : ℕ) → i ≤ j → getD ids j 0 ≡ getD ids₀ j 0
 
--- none is
+-- at the start none is
 pub weighing : (ws ids : List ℕ) → Weighing ws ids ids 0
 weighing ws ids = record { storing = begin ids (map (keyAt ws) ids) (omega (arith, length-map ids (keyAt ws))); rest = λ j h. refl }
 
@@ -45,7 +45,7 @@ module _ {ws ids₀ ids : List ℕ} {i : ℕ} (g : Weighing ws ids₀ ids i) whe
     pub id-low : All (λ x. x < length ws) ids₀ → getD ids i 0 < length ws
     id-low h = subst (λ (x : ℕ). x < length ws) (sym (g .rest i (omega arith))) (all-at (λ x. x < length ws) ids₀ h i 0 (omega (arith, g .storing .size-kept)))
 
-    -- it is replaced
+    -- it is replaced too
     pub weighed : {x : ℕ} → x ≡ getD ids i 0 → Weighing ws ids₀ (set ids i (getD ws x 0)) (i + 1)
     weighed {x} e =
         let q : getD ws (getD ids₀ i 0) 0 ≡ getD ws x 0 = ap (keyAt ws) (sym (g .rest i (omega arith)) ∙ sym e) in
@@ -54,7 +54,7 @@ module _ {ws ids₀ ids : List ℕ} {i : ℕ} (g : Weighing ws ids₀ ids i) whe
           rest = λ j h. getD-set-other ids i j (getD ws x 0) 0 (λ (z : j ≡ i). omega arith) ∙ g .rest j (omega arith);
         }
 
-  -- all are
+  -- at the end all are
   pub weighed-all : length ids ≤ i → ids ≡ map (keyAt ws) ids₀
   weighed-all h =
       let n : length ids₀ ≤ length (map (keyAt ws) ids₀) = omega (arith, length-map ids₀ (keyAt ws)) in
@@ -75,6 +75,7 @@ module _ (ws w₀ : List ℕ) {w₁ : List ℕ} (g : Weighed ws) (room : 3 * len
   copied-size : length w₁ ≡ length w₀
   copied-size = ap length a ∙ length-fill ws w₀ (omega arith)
 
+  -- the ids fit behind the weights
   pub ladder-fits : (length ws + length ws ≤ length w₁) × (0 + length ws * 1 < 4294967296)
   ladder-fits = (omega (arith, copied-size), omega (arith, g .few))
 
@@ -109,6 +110,7 @@ module _ (ws w₀ : List ℕ) {w₁ : List ℕ} (g : Weighed ws) (room : 3 * len
     )
 
     module _ {w₃ : List ℕ} (s : Sorted (keyAt (part 0 (length ws) w₂)) (length ws) (2 * length ws) (length ws) w₂ w₃) where
+      -- the table keeps its length
       pub sorted-size : length w₃ ≡ length w₀
       sorted-size = s .rest .size ∙ table-size
 

@@ -52,7 +52,7 @@ pub record Adding (k : ℕ) (ends ws : List ℕ) (before passed r i : ℕ) : Typ
   pub some : i ≤ r
   pub sums : r + innerFrom k before (drop i ends) (drop passed ws) ≡ innerFrom k 0 ends ws
 
--- none is passed
+-- at the start no string is passed
 pub adding : {k : ℕ} {ends ws : List ℕ} → Strung k ends ws → Adding k ends ws 0 0 0 0
 adding s = record { walk = strings-begin (s .ends-long) refl; left = omega (arith, s .counted); few = omega arith; some = omega arith; sums = omega arith }
 
@@ -91,7 +91,7 @@ module _ {k : ℕ} {ends ws : List ℕ} {before passed r i : ℕ} (g : Adding k 
         ap (λ (x : List ℕ). innerFrom k before x (drop passed ws)) (drop-next ends i 0 l ∙ ap (λ (x : ℕ). x ∷ drop (i + 1) ends) (sym is))
         ∙ ap₂ (λ (x : ℕ) (y : List ℕ). runCount (take x (drop passed ws)) + innerFrom k e (drop (i + 1) ends) y) (sym n) (drop-drop (within k before e) passed ws)
 
-    -- its runs are added
+    -- its runs are added too
     pub added : 1 ≤ k → {x : ℕ} → x ≡ runCount (take (passed + within k before e - passed) (drop passed ws)) → Adding k ends ws e (passed + within k before e) (r + x) (i + 1)
     added k1 q =
         record {
@@ -102,7 +102,7 @@ module _ {k : ℕ} {ends ws : List ℕ} {before passed r i : ℕ} (g : Adding k 
           sums = omega (arith, q, inner-next, g .sums);
         }
 
-  -- all are
+  -- at the end it is R of all strings, at most the number of weights and at least that of strings
   pub added-all : length ends ≤ i → (r ≡ innerFrom k 0 ends ws) × (r ≤ length ws) × (length ends ≤ r)
   unfolding innerFrom
   added-all h = (omega (arith, g .sums, ap (λ (x : List ℕ). innerFrom k before x (drop passed ws)) (drop-of-length-le ends h)), omega (arith, g .few, g .left), omega (arith, g .some))

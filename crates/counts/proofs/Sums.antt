@@ -19,6 +19,7 @@ pub weights-low : (ws : List ℕ) → All (λ w. isWeight w ≡ true) ws → All
 weights-low ws h =
     all-map (λ w e. let l = leb-true w 16777215 (and-right (leb 1 w) (leb w 16777215) e) in let z : w < 16777216 = omega arith in z) ws h
 
+-- so does each of them
 pub weight-low : (ws : List ℕ) → All (λ w. isWeight w ≡ true) ws → (i : ℕ) → i < length ws → getD ws i 0 < 16777216
 weight-low ws h i l = all-at (λ w. w < 16777216) ws (weights-low ws h) i 0 l
 

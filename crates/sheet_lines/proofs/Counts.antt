@@ -5,7 +5,7 @@ use mathlib.Core.List.{List, [], _∷_, _++_}
 use Prim.Native.Nat.{ℕ, suc, _+_, _<_, _≤_}
 use native.Mathlib.Nat.{add-zero}
 use native.Mathlib.Omega.{arith}
-use borrow.Author.Tests.{ne-eqb}
+use borrow.Author.Tests.{ne-eqb, eqb-true, eqb-false}
 use lib.Dec.{eqb}
 use lib.ListN.{length, drop, drop-of-length-le, length-drop, length-map, length-append}
 use lib.Seq.{drop-drop}
@@ -45,6 +45,7 @@ pub record Found (k i : ℕ) (l : List ℕ) (ms : List (List ℕ)) (next a b : �
   pub letters : a ≡ length ((stringOf (later tab l)) .letters)
   pub weights : b ≡ length ((stringOf (later tab l)) .weights)
 
+-- where the code finds a good line, there is one
 pub found : (k i : ℕ) (l : List ℕ) (ms : List (List ℕ)) (next a b : ℕ) → lineOf k i l ms ≡ line.Good next a b → Found k i l ms next a b
 unfolding lineOf
 found k i l [] next a b h = let z : _≡_ {A = ℕ} 0 1 = cc in absurd (omega arith)
@@ -85,6 +86,34 @@ wrong-line k n m w i l (x ∷ ms) h o = go (isStringLine k l) refl h where
       let y : eqb (m + 2) 0 ≡ false = ne-eqb (m + 2) 0 (λ e. omega arith) in
       rw (e, y)
 
+-- ─── what a count says ───────────────────────────────────────────────────────
+
+module _ (k : ℕ) (ls : List (List ℕ)) where
+  -- no line is wrong, and this is what they hold
+  pub counts-good : {a b c : ℕ} → countOf k 0 0 0 ls ≡ counted.Good a b c
+      → (firstWrong k 2 ls ≡ 0) × (a ≡ length (lettersIn (stringsOf ls))) × (b ≡ length (stringsOf ls)) × (c ≡ length (weightsIn (stringsOf ls)))
+  unfolding countOf
+  counts-good {a} {b} {c} h = go (eqb (firstWrong k 2 ls) 0) refl h where
+    go : (t : Bool) → eqb (firstWrong k 2 ls) 0 ≡ t
+        → choose t (counted.Good (0 + length (lettersIn (stringsOf ls))) (0 + length (stringsOf ls)) (0 + length (weightsIn (stringsOf ls)))) (counted.Wrong (firstWrong k 2 ls)) ≡ counted.Good a b c
+        → (firstWrong k 2 ls ≡ 0) × (a ≡ length (lettersIn (stringsOf ls))) × (b ≡ length (stringsOf ls)) × (c ≡ length (weightsIn (stringsOf ls)))
+    go true q r =
+        let x : a ≡ 0 + length (lettersIn (stringsOf ls)) = cc in
+        let y : b ≡ 0 + length (stringsOf ls) = cc in
+        let z : c ≡ 0 + length (weightsIn (stringsOf ls)) = cc in
+        (eqb-true _ _ q, omega arith, omega arith, omega arith)
+    go false q r = let z : _≡_ {A = ℕ} 0 1 = cc in absurd (omega arith)
+
+  -- line x is the first wrong one
+  pub counts-wrong : {x : ℕ} → countOf k 0 0 0 ls ≡ counted.Wrong x → (firstWrong k 2 ls ≡ x) × (x ≡ 0 → ⊥)
+  unfolding countOf
+  counts-wrong {x} h = go (eqb (firstWrong k 2 ls) 0) refl h where
+    go : (t : Bool) → eqb (firstWrong k 2 ls) 0 ≡ t
+        → choose t (counted.Good (0 + length (lettersIn (stringsOf ls))) (0 + length (stringsOf ls)) (0 + length (weightsIn (stringsOf ls)))) (counted.Wrong (firstWrong k 2 ls)) ≡ counted.Wrong x
+        → (firstWrong k 2 ls ≡ x) × (x ≡ 0 → ⊥)
+    go true q r = let z : _≡_ {A = ℕ} 0 1 = cc in absurd (omega arith)
+    go false q r = let e : firstWrong k 2 ls ≡ x = cc in (e, λ o. eqb-false _ _ q (e ∙ o))
+
 -- ─── the loop ────────────────────────────────────────────────────────────────
 
 -- n letters, m strings and w weights are counted in the lines from `at` up to i. Each line is longer than what it holds, so that none of the numbers
@@ -96,6 +125,7 @@ pub record Counting (k : ℕ) (s : List ℕ) (at n m w i : ℕ) : Type 0 where
   pub weights : w ≤ i
   pub counts : countOf k 0 0 0 (linesAt s at) ≡ countOf k n m w (linesAt s i)
 
+-- at the start nothing is counted
 pub counting : (k : ℕ) (s : List ℕ) (at : ℕ) → 2 ≤ at → at ≤ length s → Counting k s at 0 0 0 at
 counting k s at h l = record { inside = l; letters = omega arith; strings = omega arith; weights = omega arith; counts = refl }
 

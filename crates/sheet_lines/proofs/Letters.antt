@@ -19,6 +19,7 @@ use Rattle.sheet_text.proofs.Parts.{inside-part}
 
 -- ─── byte by byte, as a loop's index counts ──────────────────────────────────
 
+-- the letters in front end at a byte that is none, or go on with one that is
 module _ (s : List ℕ) (i : ℕ) (h : i < length s) where
   pub span-stop : isLetter (getD s i 0) ≡ false → span (drop i s) ≡ 0
   unfolding span
@@ -28,6 +29,7 @@ module _ (s : List ℕ) (i : ℕ) (h : i < length s) where
   unfolding span
   span-next e = rw (drop-cons s i 0, e, add-one)
 
+-- none stands behind the end
 pub span-none : (s : List ℕ) (i : ℕ) → length s ≤ i → span (drop i s) ≡ 0
 unfolding span
 span-none s i h = rw (drop-of-length-le s h)

@@ -137,6 +137,7 @@ module _ (s : List ℕ) (at : ℕ) where
   marked-true (b ∷ []) h = never h
   marked-true (b ∷ (c ∷ r)) h = omega arith
 
+  -- a mark has two bytes
   pub marked-room : marked (drop at s) ≡ true → at + 2 ≤ length s
   marked-room h = omega (arith, length-drop at s, marked-true (drop at s) h)
 
@@ -149,6 +150,7 @@ module _ (s : List ℕ) (at : ℕ) where
         go true e g l = two l ∙ (λ i. eqb-true (getD s at 0) 83 e i ∷ (eqb-true (getD s (at + 1) 0) tab g i ∷ drop (at + 2) s))
         go false e g l = never g
 
+  -- and none of them ends the line
   pub front-up : (r : List ℕ) → upTo feed (83 ∷ (tab ∷ r)) ≡ 83 ∷ (tab ∷ upTo feed r)
   unfolding upTo
   front-up r = refl

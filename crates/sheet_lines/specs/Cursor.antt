@@ -61,6 +61,7 @@ weightAt s at = weightOf at (field (drop at s))
 
 -- ─── lines ───────────────────────────────────────────────────────────────────
 
+-- no byte
 abbrev pub isEmpty : List ℕ → Bool
 isEmpty [] = true
 isEmpty (b ∷ bs) = false

@@ -90,7 +90,7 @@ fn head_end(s: &[u8], k: usize, i: usize) -> Head
     Head::Wrong
 }
 
-// Line 1. A number of one or two digits other than 0 is a weight, so it is read as one.
+// Line 1. A number of one or two digits other than 0 is a weight, so it is read as one; it ends at place 4 at the latest.
 pub fn head_at(s: &[u8]) -> Head
     ensures { λ r. ⌜ r ≡ headIn (now (s .entry)) ⌝ }
 {

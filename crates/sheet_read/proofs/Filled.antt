@@ -59,6 +59,7 @@ pub record State (k : ℕ) (s : List ℕ) (a b c : ℕ) (A B C : List ℕ) (i n 
   pub ends : Storing b es B (endsIn n (stringsAt s i)) m
   pub weights : Storing c ws C (weightsIn (stringsAt s i)) w
 
+-- at the start nothing is stored
 pub begin-state : {k at : ℕ} {s : List ℕ} (ls es ws : List ℕ) → Fits k s at (length ls) (length es) (length ws)
     → State k s (length ls) (length es) (length ws) (fill (lettersIn (stringsAt s at)) ls) (fill (endsIn 0 (stringsAt s at)) es) (fill (weightsIn (stringsAt s at)) ws) at 0 0 0 ls es ws
 begin-state {k} {at} {s} ls es ws f =
@@ -87,6 +88,7 @@ module _ {k : ℕ} {s : List ℕ} {a b c : ℕ} {A B C : List ℕ} {i n m w : �
   pub mark-room : i < length s → i + 2 ≤ length s
   mark-room l = marked-room s i (row-marked k (m + 1) s i _ (st .lines) l refl)
 
+  -- and it can be split off
   pub split : {e : ℕ} → i < length s → (e ≡ i + 2 + span (drop (i + 2) s)) × (e ≤ length s) → Split k s a b c A B C i e n m w ls es ws
   split {e} l p =
       let r : Row k (m + 1) s i e = row k (m + 1) s i e (st .lines) l (p .0) in
@@ -123,6 +125,7 @@ module _ {k : ℕ} {s : List ℕ} {a b c : ℕ} {A B C : List ℕ} {i e n m w : 
     same-next : {x y : ℕ} → tail.Good x ≡ tail.Good y → x ≡ y
     same-next h = cc
 
+  -- the line ends inside the sheet
   pub feed-place : (f + 1 ≤ length s) × (i < f)
   feed-place = let z = same-feed in (omega (arith, sp .row .inside), omega (arith, sp .row .after))
 

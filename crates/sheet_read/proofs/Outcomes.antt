@@ -17,7 +17,7 @@ use Rattle.sheet_text.specs.Parts.{upTo, later, feed}
 use Rattle.sheet_text.specs.Read.{sheetN, sheetM, sheetWeights, tablesVerdict, readVerdict, readOutcome, readOf}
 use Rattle.sheet_text.specs.Sheet.{sheetK, sheetStrings, isHead, stringsOf, firstWrong, sheetVerdict}
 use Rattle.sheet_text.proofs.Accepted.{sheet-good}
-use Rattle.sheet_text.proofs.Calls.{read-takes}
+use Rattle.sheet_text.proofs.Taken.{read-takes}
 use Rattle.sheet_lines.specs.Cursor.{headOf, linesAt, stringsAt}
 use Rattle.sheet_read.specs.Judged.{judgedOf, judgedIn, held, countsVerdict}
 use Rattle.sheet_read.specs.Fits.{Fits}

@@ -2,19 +2,17 @@
 use mathlib.Core.Path.{_≡_, refl, sym, ap, _∙_}
 use mathlib.Core.Bool.{Bool, true, false}
 use mathlib.Core.List.{List, [], _∷_}
-use Prim.Native.Nat.{ℕ, zero, suc, _+_, _≤_}
+use Prim.Native.Nat.{ℕ, suc, _+_, _≤_}
 use native.Mathlib.Omega.{arith}
-use borrow.Author.Tests.{eqb-true}
-use lib.Dec.{eqb, eqb·suc-zero}
 use lib.ListN.{length, drop}
 use Rattle.lists.specs.Choose.{choose}
 use Rattle.collection.specs.declared.Verdict.{Verdict}
 use Rattle.collection.specs.declared.Verdict.the-variants.{Good, Bad}
 use Rattle.collection.specs.Judge.{kVerdict}
 use Rattle.collection.specs.Verdict.{andThen, atPlace, settle}
+use Rattle.collection.proofs.Verdicts.{place-none, place-some}
 use Rattle.sheet_text.specs.Parts.{upTo, later, feed}
-use Rattle.collection.specs.Strings.{lettersIn, weightsIn}
-use Rattle.sheet_text.specs.Sheet.{isKLine, firstWrong, sheetK, sheetStrings, isHead, sheetVerdict}
+use Rattle.sheet_text.specs.Sheet.{isKLine, firstWrong, sheetK, isHead, sheetVerdict}
 use Rattle.sheet_lines.specs.Cursor.{headOf, headIn, linesAt, countOf}
 use Rattle.sheet_read.specs.Judged.{judgedOf, held}
 use Rattle.sheet_lines.specs.declared.Head.the-variants as head
@@ -22,6 +20,7 @@ use Rattle.sheet_lines.specs.declared.Counted.the-variants as counted
 use Rattle.sheet_read.specs.declared.Judged.the-variants as judged
 use Rattle.sheet_text.proofs.Tests.{never}
 use Rattle.sheet_text.proofs.Parts.{parts, past-sep}
+use Rattle.sheet_lines.proofs.Counts.{counts-good, counts-wrong}
 
 -- line 1 is wrong
 pub head-wrong : (s : List ℕ) → headIn s ≡ head.Wrong → judged.Bad 11 1 ≡ judgedOf s
@@ -93,32 +92,14 @@ module _ (s : List ℕ) (k next : ℕ) (h : Headed s k next) where
 
     -- a later line is wrong
     pub line-bad : (x : ℕ) → countOf k 0 0 0 (linesAt s next) ≡ counted.Wrong x → judged.Bad 11 x ≡ judgedOf s
-    unfolding countOf settle atPlace
-    line-bad x c = go (firstWrong k 2 (later feed s)) refl (ap (countOf k 0 0 0) (sym (h .lines)) ∙ c) where
-      go : (w : ℕ) → firstWrong k 2 (later feed s) ≡ w → countOf k 0 0 0 (later feed s) ≡ counted.Wrong x → judged.Bad 11 x ≡ judgedOf s
-      go zero q r =
-          let g : choose (eqb 0 0) (counted.Good (0 + length (lettersIn (sheetStrings s))) (0 + length (sheetStrings s)) (0 + length (weightsIn (sheetStrings s)))) (counted.Wrong 0) ≡ counted.Wrong x =
-          ap (λ (y : ℕ). choose (eqb y 0) (counted.Good (0 + length (lettersIn (sheetStrings s))) (0 + length (sheetStrings s)) (0 + length (weightsIn (sheetStrings s)))) (counted.Wrong y)) (sym q) ∙ r in
-          let z : _≡_ {A = ℕ} 0 1 = cc in
-          absurd (omega arith)
-      go (suc w) q r =
-          let g : counted.Wrong (suc w) ≡ counted.Wrong x = sym (rw (eqb·suc-zero w) refl) ∙ (ap (λ (y : ℕ). choose (eqb y 0) (counted.Good (0 + length (lettersIn (sheetStrings s))) (0 + length (sheetStrings s)) (0 + length (weightsIn (sheetStrings s)))) (counted.Wrong y)) (sym q) ∙ r) in
-          let p : suc w ≡ x = cc in
-          sym (judged-is (Bad 11 x) (lines-is ∙ (ap (atPlace 11) q ∙ ap (Bad 11) p)))
+    unfolding settle
+    line-bad x c =
+        let w = counts-wrong k (later feed s) (ap (countOf k 0 0 0) (sym (h .lines)) ∙ c) in
+        sym (judged-is (Bad 11 x) (lines-is ∙ (ap (atPlace 11) (w .0) ∙ sym (place-some 11 x (w .1)))))
 
     -- none is
     pub all-lines : (a b c : ℕ) → countOf k 0 0 0 (linesAt s next) ≡ counted.Good a b c → judged.Good k next a b c ≡ judgedOf s
-    unfolding countOf settle atPlace
-    all-lines a b c g = go (eqb (firstWrong k 2 (later feed s)) 0) refl (ap (countOf k 0 0 0) (sym (h .lines)) ∙ g) where
-      go : (t : Bool) → eqb (firstWrong k 2 (later feed s)) 0 ≡ t
-          → choose t (counted.Good (0 + length (lettersIn (sheetStrings s))) (0 + length (sheetStrings s)) (0 + length (weightsIn (sheetStrings s)))) (counted.Wrong (firstWrong k 2 (later feed s))) ≡ counted.Good a b c
-          → judged.Good k next a b c ≡ judgedOf s
-      go true q r =
-          let x : a ≡ 0 + length (lettersIn (sheetStrings s)) = cc in
-          let y : b ≡ 0 + length (sheetStrings s) = cc in
-          let z : c ≡ 0 + length (weightsIn (sheetStrings s)) = cc in
-          let u : a ≡ length (lettersIn (sheetStrings s)) = omega arith in
-          let v : b ≡ length (sheetStrings s) = omega arith in
-          let w : c ≡ length (weightsIn (sheetStrings s)) = omega arith in
-          (λ i. judged.Good (h .k-is i) (h .next-is i) (u i) (v i) (w i)) ∙ sym (judged-is Good (lines-is ∙ ap (atPlace 11) (eqb-true (firstWrong k 2 (later feed s)) 0 q)))
-      go false q r = let z : _≡_ {A = ℕ} 0 1 = cc in absurd (omega arith)
+    unfolding settle
+    all-lines a b c g =
+        let w = counts-good k (later feed s) (ap (countOf k 0 0 0) (sym (h .lines)) ∙ g) in
+        (λ i. judged.Good (h .k-is i) (h .next-is i) (w .1 i) (w .2 i) (w .3 i)) ∙ sym (judged-is Good (lines-is ∙ sym (place-none 11 (w .0))))

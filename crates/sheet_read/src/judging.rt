@@ -41,26 +41,33 @@ fn judge_sheet(s: &[u8]) -> Judged
     }
 }
 
-// 3, then 1: n letters, m strings and w weights for tables of the lengths a, b and c.
-fn judge_tables(n: usize, m: usize, w: usize, a: usize, b: usize, c: usize) -> Verdict
-    ensures { λ r. ⌜ r ≡ countsVerdict n m w a b c ⌝ }
+// 3, then 1: so many letters, strings and weights for tables of the lengths a, b and c.
+fn judge_tables(
+    letters: usize,
+    strings: usize,
+    weights: usize,
+    a: usize,
+    b: usize,
+    c: usize,
+) -> Verdict
+    ensures { λ r. ⌜ r ≡ countsVerdict letters strings weights a b c ⌝ }
 {
-    let v = collection::judge_size(n, m);
+    let v = collection::judge_size(letters, strings);
     let Verdict::Good = v else {
         return v;
     };
-    let x = collection::judge_room(a, n);
+    let x = collection::judge_room(a, letters);
     let Verdict::Good = x else {
         return x;
     };
-    let y = collection::judge_room(b, m);
+    let y = collection::judge_room(b, strings);
     let Verdict::Good = y else {
         return y;
     };
-    collection::judge_room(c, w)
+    collection::judge_room(c, weights)
 }
 
-// All refusals, for tables of the lengths a, b and c for the letters, ends and weights.
+// A sheet and tables of the lengths a, b and c for its letters, ends and weights: what it holds, or the first refusal of all.
 pub(crate) fn judge_read(s: &[u8], a: usize, b: usize, c: usize) -> Judged
     ensures { λ r. ⌜ r ≡ judgedIn (now (s .entry)) a b c ⌝ }
 {

@@ -9,7 +9,7 @@ ghost use mathlib.Core.Path.{_≡_};
 ghost use Rattle.sheet_text.specs.Read.{readOutcome, readOf};
 
 // A judged sheet: k, where line 2 starts and what the lines hold; or the first refusal.
-pub enum Judged {
+pub(crate) enum Judged {
     Good {
         k: usize,
         next: usize,

@@ -1,79 +1,33 @@
--- READ and WRITE as calls: which sheets READ takes, that what it gives passes 2 to 6, and both round trips between them. Assumes nothing.
+-- READ and WRITE as calls: what READ gives passes 2 to 6, and both round trips between them. Assumes nothing.
 use mathlib.Core.Path.{_≡_, refl, sym, ap, _∙_}
 use mathlib.Core.Bool.{true}
 use mathlib.Core.List.{List, [], _∷_}
 use Prim.Native.Nat.{ℕ, _≤_}
 use native.Mathlib.Omega.{arith}
-use borrow.Author.Tests.{le-leb, le-ltb}
 use lib.ListN.{length, take}
 use lib.Seq.{take-at}
-use Rattle.lists.specs.Choose.{choose}
 use Rattle.lists.specs.Every.{All}
 use Rattle.lists.specs.Fill.{fill}
-use Rattle.lists.proofs.Every.{and-both, every-all, all-every, all-map}
+use Rattle.lists.proofs.Every.{every-all, all-every, all-map}
 use Rattle.alphabet.specs.Letter.{isLetter}
 use Rattle.collection.specs.declared.Verdict.{Verdict}
 use Rattle.collection.specs.declared.Verdict.the-variants.{Good, Bad}
-use Rattle.collection.specs.Judge.{kVerdict, sizeVerdict, shapeVerdict, collectionVerdict, Passes}
+use Rattle.collection.specs.Judge.{kVerdict, shapeVerdict, collectionVerdict, Passes}
 use Rattle.faults.specs.Faults.{isWeight}
 use Rattle.collection.specs.Strings.{Str, strings, lettersIn, weightsIn, endsIn}
-use Rattle.collection.specs.Verdict.{settle, roomVerdict}
-use Rattle.collection.proofs.Judged.{collection-good, size-good}
+use Rattle.collection.specs.Verdict.{settle}
+use Rattle.collection.proofs.Judged.{collection-good}
 use Rattle.collection.proofs.Strings.{Whole, strings-back, strings-letters, strings-ends, strings-weights, strings-whole, each-letters, each-weights, ends-length, tables-pass}
 use Rattle.collection.proofs.Verdicts.{both-good, room-good, then-good, settled}
 use Rattle.sheet_text.specs.declared.ReadAnswer.the-variants as read
 use Rattle.sheet_text.specs.declared.WriteAnswer.the-variants as write
-use Rattle.sheet_text.specs.Read.{sheetN, sheetM, sheetWeights, tablesVerdict, readVerdict, ReadOutcome, readOutcome, readOf}
-use Rattle.sheet_text.specs.Sheet.{sheetK, sheetStrings, sheetVerdict, Accepted}
+use Rattle.sheet_text.specs.Read.{sheetN, sheetM, sheetWeights, readVerdict, ReadOutcome, readOutcome, readOf}
+use Rattle.sheet_text.specs.Sheet.{sheetK, sheetStrings, Accepted}
 use Rattle.sheet_text.specs.Text.{sheetText, writeText}
 use Rattle.sheet_text.specs.Write.{writeVerdict, WriteOutcome, writeOutcome, writeOf}
 use Rattle.sheet_text.proofs.Accepted.{Holds, sheet-good, accepted-text, accepted-holds}
+use Rattle.sheet_text.proofs.Taken.{Within, good-size, good-room, read-takes, takes-read}
 use Rattle.sheet_text.proofs.Written.{text-k, text-strings, text-accepted}
-
--- ─── READ takes exactly the accepted sheets within the limits ────────────────
-
--- a sheet is not too large (3), and tables of these lengths hold it (1)
-pub record Within (bs : List ℕ) (letters ends weights : ℕ) : Type 0 where
-  pub few-letters : sheetN bs ≤ 1048576
-  pub few-strings : sheetM bs ≤ 65536
-  pub letters-room : sheetN bs ≤ letters
-  pub ends-room : sheetM bs ≤ ends
-  pub weights-room : sheetWeights bs ≤ weights
-
--- within the limits nothing is refused by 3
-good-size : {N m : ℕ} → N ≤ 1048576 → m ≤ 65536 → sizeVerdict N m ≡ Good
-unfolding sizeVerdict
-good-size {N} {m} a b = ap (λ t. choose t Good (Bad 3 0)) (and-both (le-leb N 1048576 a) (le-leb m 65536 b))
-
--- nor by 1 where there is room
-pub good-room : {have need : ℕ} → need ≤ have → roomVerdict have need ≡ Good
-unfolding roomVerdict
-good-room {have} {need} h = ap (λ t. choose t (Bad 1 0) Good) (le-ltb have need h)
-
--- what READ takes is an accepted sheet within the limits
-pub read-takes : (bs : List ℕ) (letters ends weights : ℕ) → readVerdict bs letters ends weights ≡ Good → Accepted bs × Within bs letters ends weights
-unfolding readVerdict tablesVerdict
-read-takes bs letters ends weights h =
-    let a = both-good (sheetVerdict bs) _ h in
-    let b = both-good (sizeVerdict (sheetN bs) (sheetM bs)) _ (a .1) in
-    let c = both-good (roomVerdict letters (sheetN bs)) _ (b .1) in
-    let d = both-good (roomVerdict ends (sheetM bs)) _ (c .1) in
-    let s = size-good _ _ (b .0) in (
-      a .0,
-      record {
-        few-letters = s .0;
-        few-strings = s .1;
-        letters-room = room-good _ _ (c .0);
-        ends-room = room-good _ _ (d .0);
-        weights-room = room-good _ _ (d .1);
-      },
-    )
-
--- and each such sheet is taken
-pub takes-read : (bs : List ℕ) (letters ends weights : ℕ) → Accepted bs → Within bs letters ends weights → readVerdict bs letters ends weights ≡ Good
-unfolding readVerdict tablesVerdict
-takes-read bs letters ends weights h w =
-    then-good _ h (then-good _ (good-size (w .few-letters) (w .few-strings)) (then-good _ (good-room (w .letters-room)) (then-good _ (good-room (w .ends-room)) (good-room (w .weights-room)))))
 
 -- ─── what a filled READ leaves ───────────────────────────────────────────────
 

@@ -38,6 +38,7 @@ digits-more (suc m) h =
 
 -- ─── how many ────────────────────────────────────────────────────────────────
 
+-- one below 10, else one more than a tenth has
 pub count-one : (n : ℕ) → n < 10 → length (digits n) ≡ 1
 count-one n h = ap length (digits-one n h)
 

@@ -73,6 +73,7 @@ module _ (sep : ℕ) where
   -- ─── one byte on, as a loop's index counts ─────────────────────────────────
 
   module _ (s : List ℕ) (i : ℕ) (h : i < length s) where
+    -- a byte that is no separator is in the first part
     pub up-next : (getD s i 0 ≡ sep → ⊥) → upTo sep (drop i s) ≡ getD s i 0 ∷ upTo sep (drop (i + 1) s)
     unfolding upTo
     up-next e = rw (drop-cons s i 0, ne-eqb _ _ e, add-one)
@@ -81,6 +82,7 @@ module _ (sep : ℕ) where
     unfolding later
     later-next e = rw (drop-cons s i 0, ne-eqb _ _ e, add-one)
 
+    -- a separator ends it
     pub up-stop : getD s i 0 ≡ sep → upTo sep (drop i s) ≡ []
     unfolding upTo
     up-stop e = rw (drop-cons s i 0, eq-eqb _ _ e)
@@ -124,6 +126,7 @@ module _ (sep : ℕ) where
     parts-size : length (upTo sep r) + length (joined sep (later sep r)) ≡ length r
     parts-size = omega (arith, length-append (upTo sep r) (joined sep (later sep r)), ap length (join-parts sep r))
 
+    -- a part is no longer than the bytes
     pub up-short : length (upTo sep r) ≤ length r
     up-short = omega (arith, parts-size)
 

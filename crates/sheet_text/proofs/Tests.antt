@@ -1,10 +1,10 @@
--- What tests tell: of two, of a length, of every element, of digits. Assumes nothing.
-use mathlib.Core.Path.{_≡_, refl, ap}
+-- What tests tell: of two, negated, of a length, of every element, of digits. Assumes nothing.
+use mathlib.Core.Path.{_≡_, refl, sym, ap, _∙_}
 use mathlib.Core.Bool.{Bool, true, false, not, _&&_, false≢true}
 use mathlib.Core.List.{List, [], _∷_, _++_}
 use Prim.Native.Nat.{ℕ, _≤_}
 use native.Mathlib.Omega.{arith}
-use borrow.Author.Tests.{le-leb, leb-true, ne-eqb}
+use borrow.Author.Tests.{le-leb, leb-true, ne-eqb, not-true, not-false}
 use lib.Dec.{leb, eqb}
 use lib.ListN.{length}
 use Rattle.lists.specs.Every.{every}
@@ -18,6 +18,13 @@ never e = absurd (false≢true e)
 -- two tests that passed together passed each
 pub both : (t u : Bool) → (t && u) ≡ true → (t ≡ true) × (u ≡ true)
 both t u e = (and-left t u e, and-right t u e)
+
+-- what a test tells that negates the answer r of a call which promises r ≡ t
+pub told-no : {r t : Bool} → r ≡ t → not r ≡ true → t ≡ false
+told-no {r} e h = sym e ∙ not-true r h
+
+pub told-yes : {r t : Bool} → r ≡ t → not r ≡ false → t ≡ true
+told-yes {r} e h = sym e ∙ not-false r h
 
 pub unequal : (a b : ℕ) → (a ≡ b → ⊥) → not (eqb a b) ≡ true
 unequal a b h = ap not (ne-eqb a b h)

@@ -15,9 +15,10 @@ unfoldable pub later : ℕ → List ℕ → List (List ℕ)
 later sep [] = []
 later sep (b ∷ bs) = choose (eqb b sep) (upTo sep bs ∷ later sep bs) (later sep bs)
 
--- the byte between two fields, and the one that ends a line
+-- the byte between two fields
 abbrev pub tab : ℕ
 tab = 9
 
+-- the byte that ends a line
 abbrev pub feed : ℕ
 feed = 10

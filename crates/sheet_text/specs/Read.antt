@@ -11,13 +11,15 @@ use Rattle.sheet_text.specs.Sheet.{sheetK, sheetStrings, sheetVerdict}
 use Rattle.sheet_text.specs.declared.ReadAnswer.{ReadAnswer}
 use Rattle.sheet_text.specs.declared.ReadAnswer.the-variants.{Filled, Refused}
 
--- how many letters, strings and weights a sheet has
+-- how many letters a sheet has
 abbrev pub sheetN : List ℕ → ℕ
 sheetN bs = length (lettersIn (sheetStrings bs))
 
+-- how many strings
 abbrev pub sheetM : List ℕ → ℕ
 sheetM bs = length (sheetStrings bs)
 
+-- how many weights
 abbrev pub sheetWeights : List ℕ → ℕ
 sheetWeights bs = length (weightsIn (sheetStrings bs))
 

@@ -38,6 +38,7 @@ weights-count ws i l =
     ap (λ (x : List ℕ). length (weightsText x)) (drop-next ws i 0 l)
     ∙ (ap length (weights-cons (getD ws i 0) (drop (i + 1) ws)) ∙ omega (arith, length-append (digits (getD ws i 0)) (weightsText (drop (i + 1) ws))))
 
+-- none is left
 pub weights-counted : (ws : List ℕ) (i : ℕ) → length ws ≤ i → length (weightsText (drop i ws)) ≡ 0
 weights-counted ws i l = ap (λ (x : List ℕ). length (weightsText x)) (drop-of-length-le ws l) ∙ ap length no-weights
 
@@ -65,11 +66,13 @@ sheet-lines k ss = ap (λ (x : List ℕ). 75 ∷ (tab ∷ x)) (sym (append-assoc
 
 -- ─── how long ────────────────────────────────────────────────────────────────
 
+-- a string's line has three bytes beside its letters and weights
 pub line-length : (s : Str) → length (stringLine s) ≡ 3 + length (s .letters) + length (weightsText (s .weights))
 unfolding stringLine
 line-length s =
     omega (arith, length-append (s .letters) (weightsText (s .weights) ++ (feed ∷ [])), length-append (weightsText (s .weights)) (feed ∷ []))
 
+-- line 1 has three beside k
 pub head-length : (k : ℕ) → length (headLine k) ≡ 3 + length (digits k)
 unfolding headLine
 head-length k = omega (arith, length-append (digits k) (feed ∷ []))

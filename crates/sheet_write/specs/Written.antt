@@ -1,12 +1,18 @@
--- The lines of a sheet with their line feeds, as the inner functions of WRITE store them; its promise (`sheet_text`, specs/Write) cites `writeText`.
+-- What the inner functions of WRITE store: lines with their line feeds. WRITE's promise (`sheet_text`, specs/Write) cites nothing of this.
 use mathlib.Core.List.{List, [], _∷_, _++_}
-use Prim.Native.Nat.{ℕ, _-_}
-use lib.ListN.{take, drop}
+use mathlib.Core.Path.{_≡_}
+use Prim.Native.Nat.{ℕ, _+_, _-_}
+use lib.ListN.{length, take, drop}
+use Rattle.lists.specs.Fill.{put}
 use Rattle.collection.specs.Strings.{Str}
 use Rattle.sheet_text.specs.Numbers.{digits}
 use Rattle.sheet_text.specs.Parts.{tab, feed}
 use Rattle.sheet_text.specs.Sheet.{string}
 use Rattle.sheet_text.specs.Text.{weightsText}
+
+-- bytes stored in a table from `at` on: where they end, and what the table is afterwards
+abbrev pub Stores : ℕ → List ℕ → List ℕ → ℕ → List ℕ → Type 0
+Stores at bytes table end table' = (end ≡ at + length bytes) × (table' ≡ put at bytes table)
 
 -- line 1: `K` (75), tab, k
 unfoldable pub headLine : ℕ → List ℕ

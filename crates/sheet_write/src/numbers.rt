@@ -2,9 +2,9 @@
 ghost use mathlib.Core.Path.{_≡_};
 ghost use Prim.Native.Nat.{_+_, _≤_};
 ghost use lib.ListN.{length, take, drop};
-ghost use Rattle.lists.specs.Fill.{put};
 ghost use Rattle.sheet_text.specs.Numbers.{digits};
 ghost use Rattle.sheet_text.specs.Text.{weightsText};
+ghost use Rattle.sheet_write.specs.Written.{Stores};
 
 // How many digits a number has.
 pub(crate) fn digit_count(n: u32) -> usize
@@ -43,7 +43,7 @@ pub(crate) fn digit_count(n: u32) -> usize
 // Stores a number in decimal from a place on, its last digit first; answers where it ends.
 pub(crate) fn put_number(n: u32, out: &mut [u8], at: usize) -> usize
     requires { ⌜ at + length (digits n) ≤ length (now out) ⌝ }
-    ensures { λ r. ⌜ (r ≡ at + length (digits n)) × (now (out .exit) ≡ put at (digits n) (now (out .entry))) ⌝ }
+    ensures { λ r. ⌜ Stores at (digits n) (now (out .entry)) r (now (out .exit)) ⌝ }
 {
     let e = at + digit_count(n);
     let mut v = n;
@@ -60,7 +60,7 @@ pub(crate) fn put_number(n: u32, out: &mut [u8], at: usize) -> usize
 // Stores n weights from entry w on, each behind a tab; answers where they end.
 pub(crate) fn put_weights(weights: &[u32], w: usize, n: usize, out: &mut [u8], at: usize) -> usize
     requires { ⌜ (w + n ≤ length (now weights)) × (at + length (weightsText (take n (drop w (now weights)))) ≤ length (now out)) ⌝ }
-    ensures { λ r. ⌜ (r ≡ at + length (weightsText (take n (drop w (now (weights .entry)))))) × (now (out .exit) ≡ put at (weightsText (take n (drop w (now (weights .entry))))) (now (out .entry))) ⌝ }
+    ensures { λ r. ⌜ Stores at (weightsText (take n (drop w (now (weights .entry))))) (now (out .entry)) r (now (out .exit)) ⌝ }
 {
     let e = w + n;
     let mut i = w;

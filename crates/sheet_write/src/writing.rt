@@ -7,7 +7,7 @@ ghost use Rattle.lists.specs.Fill.{put, fill};
 ghost use Rattle.collection.specs.Judge.{Passes};
 ghost use Rattle.collection.specs.Strings.{strings};
 ghost use Rattle.sheet_text.specs.Text.{weightsText, linesText, writeText};
-ghost use Rattle.sheet_write.specs.Written.{headLine, cutString, stringLine};
+ghost use Rattle.sheet_write.specs.Written.{Stores, headLine, cutString, stringLine};
 
 // How many bytes all weights take, each with its tab.
 fn weights_length(weights: &[u32]) -> usize
@@ -57,7 +57,7 @@ fn put_string(
 ) -> usize
     requires { ⌜ (b ≤ e) × (e ≤ length (now letters)) × (w + n ≤ length (now weights)) ⌝ }
     requires { ⌜ at + length (stringLine (cutString (now letters) b e (now weights) w n)) ≤ length (now out) ⌝ }
-    ensures { λ r. ⌜ (r ≡ at + length (stringLine (cutString (now (letters .entry)) b e (now (weights .entry)) w n))) × (now (out .exit) ≡ put at (stringLine (cutString (now (letters .entry)) b e (now (weights .entry)) w n)) (now (out .entry))) ⌝ }
+    ensures { λ r. ⌜ Stores at (stringLine (cutString (now (letters .entry)) b e (now (weights .entry)) w n)) (now (out .entry)) r (now (out .exit)) ⌝ }
 {
     out[at] = b'S';
     out[at + 1] = b'\t';
@@ -78,7 +78,7 @@ fn put_lines(
 ) -> usize
     requires { ⌜ Passes k (now letters) (now ends) (now weights) ⌝ }
     requires { ⌜ at + length (linesText (strings k (now letters) (now ends) (now weights))) ≤ length (now out) ⌝ }
-    ensures { λ r. ⌜ (r ≡ at + length (linesText (strings k (now (letters .entry)) (now (ends .entry)) (now (weights .entry))))) × (now (out .exit) ≡ put at (linesText (strings k (now (letters .entry)) (now (ends .entry)) (now (weights .entry)))) (now (out .entry))) ⌝ }
+    ensures { λ r. ⌜ Stores at (linesText (strings k (now (letters .entry)) (now (ends .entry)) (now (weights .entry)))) (now (out .entry)) r (now (out .exit)) ⌝ }
 {
     let mut before: usize = 0;
     let mut w: usize = 0;

@@ -1,132 +1,31 @@
--- What the calls answer comes to what `tally` says. Assumes nothing.
-use mathlib.Core.Path.{_≡_, refl, sym, ap, ap₂, subst, _∙_}
+-- What READ answers of a sheet, and what is said of its collection, come to what `tally` says. Assumes nothing.
+use mathlib.Core.Path.{_≡_, refl, sym, ap, ap₂, _∙_}
 use mathlib.Core.List.{List}
-use Prim.Native.Nat.{ℕ, _+_, _-_, _*_, _<_, _≤_}
+use Prim.Native.Nat.{ℕ, _*_, _<_, _≤_}
 use native.Mathlib.Omega.{arith}
 use borrow.Author.Tests.{le-leb, lt-leb}
-use lib.IntN.{ℤ}
 use lib.ListN.{length, take}
 use Rattle.lists.specs.Choose.{choose}
-use Rattle.lists.specs.Count.{sum}
 use Rattle.lists.specs.Fill.{fill}
 use Rattle.lists.proofs.Storing.{length-fill}
 use Rattle.collection.specs.declared.Verdict.{Verdict}
 use Rattle.collection.specs.declared.Verdict.the-variants.{Good, Bad}
-use Rattle.collection.specs.Judge.{Passes, sizeVerdict, kmerCount, collectionVerdict}
+use Rattle.collection.specs.Judge.{Passes, sizeVerdict, collectionVerdict}
 use Rattle.collection.specs.Strings.{lettersIn, endsIn, weightsIn}
-use Rattle.collection.specs.Verdict.{andThen, atPlace, settle}
-use Rattle.collection.proofs.Judged.{Judged, collection-good, shape-long}
-use Rattle.collection.proofs.Kmers.{kmers-counted}
+use Rattle.collection.specs.Verdict.{andThen, settle}
 use Rattle.collection.proofs.Strings.{ends-length}
 use Rattle.collection.proofs.Verdicts.{then-good, then-bad, refused, settled}
 use Rattle.sheet_text.specs.declared.ReadAnswer.{ReadAnswer}
 use Rattle.sheet_text.specs.declared.ReadAnswer.the-variants as read
 use Rattle.sheet_text.specs.Read.{sheetN, sheetM, sheetWeights, tablesVerdict, readVerdict, ReadOutcome, readOutcome, readOf}
 use Rattle.sheet_text.specs.Sheet.{sheetK, sheetStrings, sheetVerdict, Accepted}
-use Rattle.sheet_text.proofs.Calls.{good-room, ReadDone, read-done, read-passes, takes-read}
-use Rattle.repeats.specs.declared.CheckAnswer.{CheckAnswer}
-use Rattle.repeats.specs.declared.CheckAnswer.the-variants as check
-use Rattle.repeats.specs.Check.{firstRepeat, checkVerdict, checkOf, Outcome, outcome}
-use Rattle.trails.specs.Groups.{least}
-use Rattle.vertices.specs.EndWeights.{endWeights}
-use Rattle.vertices.specs.Promises.{Strung}
-use Rattle.cover.specs.declared.CoverAnswer.{CoverAnswer}
-use Rattle.cover.specs.declared.CoverAnswer.the-variants as cover
-use Rattle.cover.specs.Cover.{coverVerdict, Promise}
-use Rattle.cover.proofs.Laws.{cover-answers, ends-count}
-use Rattle.runs.specs.Runs.{runCount}
-use Rattle.counts.specs.Counts.{distinct, bitsOf}
-use Rattle.counts.specs.Inner.{innerFrom, Weighed}
-use Rattle.counts.proofs.Inside.{inner-runs}
+use Rattle.sheet_text.proofs.Calls.{ReadDone, read-done, read-passes}
+use Rattle.sheet_text.proofs.Taken.{good-room, takes-read}
 use Rattle.summary_text.specs.declared.Summary.{Summary}
-use Rattle.summary_text.specs.declared.Summary.the-variants.{Counted, Refused}
-use Rattle.summary.specs.Inner.{numbersFrom, Ample}
-use Rattle.summary.specs.Summary.{numbersOf, checkedOf, longVerdict, linesVerdict, summaryOf}
-use Rattle.summary.proofs.Fits.{sheet-size, least-few}
-
--- ─── the numbers ─────────────────────────────────────────────────────────────
-
--- each number is what its function counted
-pub counted-from : (k : ℕ) (ends weights : List ℕ) (paths : ℕ) {total inner given different bits : ℕ}
-    → total ≡ sum weights → inner ≡ innerFrom k 0 ends weights → given ≡ runCount weights → different ≡ distinct weights → bits ≡ bitsOf weights
-    → Counted (length ends) (length weights) total inner given paths (inner - length ends + paths) different bits ≡ numbersFrom k ends weights paths
-unfolding numbersFrom
-counted-from k ends weights paths t i g d b = λ j. Counted (length ends) (length weights) (t j) (i j) (g j) paths (i j - length ends + paths) (d j) (b j)
-
--- with the least number of paths they are the numbers of the collection
-numbers-are : (k : ℕ) (letters ends weights : List ℕ) {paths : ℕ} → paths ≡ least (endWeights k letters ends weights) → numbersFrom k ends weights paths ≡ numbersOf k letters ends weights
-unfolding numbersFrom numbersOf
-numbers-are k letters ends weights p =
-    λ j. Counted (length ends) (length weights) (sum weights) (sym (inner-runs k letters ends weights) j) (runCount weights) (p j) (sym (inner-runs k letters ends weights) j - length ends + p j) (distinct weights) (bitsOf weights)
-
--- ─── a judged collection ─────────────────────────────────────────────────────
-
-module _ (k : ℕ) (letters ends weights : List ℕ) (passes : Passes k letters ends weights) where
-  judged : Judged k letters ends weights
-  judged = collection-good k letters ends weights passes
-
-  -- what the counting functions ask
-  pub weighed : Weighed weights
-  weighed = record { few = omega (arith, judged .counted, judged .shape .N-high); in-range = judged .all-weights }
-
-  module _ (work : List ℕ) (room : 4 * length weights ≤ length work) {a : CheckAnswer} {work' : List ℕ} (e : outcome a work' ≡ checkOf k letters ends weights work) where
-    check-good : checkVerdict k letters ends weights (length work) ≡ Good
-    unfolding checkVerdict
-    check-good = then-good _ passes (good-room (subst (λ (n : ℕ). 4 * n ≤ length work) (judged .counted) room))
-
-    check-answers : a ≡ settle (atPlace 7 (firstRepeat k letters ends)) check.Refused (check.Checked (kmerCount k (length letters) (length ends)))
-    unfolding checkOf
-    check-answers = ap (λ (o : Outcome). o .answer) (e ∙ sym (settled _ refl check-good))
-
-    -- a refusal of CHECK is one of `tally`
-    pub check-refused : {number place : ℕ} → a ≡ check.Refused number place → Refused number place ≡ checkedOf k letters ends weights
-    unfolding checkedOf settle
-    check-refused {number} {place} q = go (atPlace 7 (firstRepeat k letters ends)) (sym check-answers ∙ q)
-      where
-        go : (v : Verdict) → settle v check.Refused (check.Checked (kmerCount k (length letters) (length ends))) ≡ check.Refused number place → Refused number place ≡ settle v Refused (numbersOf k letters ends weights)
-        go Good h = let z : _≡_ {A = ℕ} 0 1 = cc in absurd (omega arith)
-        go (Bad x y) h = let p : number ≡ x = cc in let q : place ≡ y = cc in ap₂ Refused p q
-
-    -- else the numbers count
-    pub check-passed : {n : ℕ} → a ≡ check.Checked n → {s : Summary} → s ≡ numbersOf k letters ends weights → s ≡ checkedOf k letters ends weights
-    unfolding checkedOf settle
-    check-passed {n} q {s} r = go (atPlace 7 (firstRepeat k letters ends)) (sym check-answers ∙ q)
-      where
-        go : (v : Verdict) → settle v check.Refused (check.Checked (kmerCount k (length letters) (length ends))) ≡ check.Checked n → s ≡ settle v Refused (numbersOf k letters ends weights)
-        go Good h = r
-        go (Bad x y) h = let z : _≡_ {A = ℕ} 0 1 = cc in absurd (omega arith)
-
-  pub strung : Strung k ends weights
-  strung = record {
-    ends-long = shape-long (judged .shape);
-    few-letters = omega (arith, judged .shape .last, judged .shape .N-high);
-    counted = judged .counted ∙ sym (kmers-counted (judged .shape));
-    in-range = judged .all-weights;
-  }
-
-  module _ {places : List ℤ} {work : List ℕ} {b : CoverAnswer} {places' : List ℤ} {work' : List ℕ} (p : Promise k letters ends weights places work b places' work')
-      (places-room : length ends ≤ length places) (work-room : 16 * length ends ≤ length work) where
-    covered : b ≡ cover.Covered (length ends) (least (endWeights k letters ends weights))
-    unfolding coverVerdict
-    covered = cover-answers k letters ends weights places work p (then-good _ passes (then-good _ (good-room places-room) (good-room work-room)))
-
-    -- COVER refuses nothing here
-    pub cover-refused : {number place : ℕ} {s : Summary} → b ≡ cover.Refused number place → s ≡ checkedOf k letters ends weights
-    cover-refused q = let h = covered in let z : _≡_ {A = ℕ} 0 1 = cc in absurd (omega arith)
-
-    module _ {m paths : ℕ} (q : b ≡ cover.Covered m paths) where
-      paths-least : paths ≡ least (endWeights k letters ends weights)
-      paths-least = let h = covered in cc
-
-      -- as few as the strings, so that no number wraps
-      pub paths-low : paths ≤ length ends
-      paths-low = omega (arith, paths-least, least-few (endWeights k letters ends weights), ends-count k letters ends weights)
-
-      -- the numbers from these paths are those of the collection
-      pub numbers-told : {s : Summary} → s ≡ numbersFrom k ends weights paths → s ≡ numbersOf k letters ends weights
-      numbers-told r = r ∙ numbers-are k letters ends weights paths-least
-
--- ─── a sheet ─────────────────────────────────────────────────────────────────
+use Rattle.summary_text.specs.declared.Summary.the-variants.{Refused}
+use Rattle.summary.specs.Inner.{Ample}
+use Rattle.summary.specs.Summary.{checkedOf, longVerdict, linesVerdict, summaryOf}
+use Rattle.summary.proofs.Fits.{sheet-size}
 
 -- too many bytes
 pub too-long : (bs : List ℕ) → 8192 < length bs → Refused 3 0 ≡ summaryOf bs

@@ -139,7 +139,7 @@ pub record Lining (size total : ℕ) (target : List ℕ) (ls : List (List ℕ ×
   pub storing : Storing size out target (lines ls) p
   pub place : p + length (lines ls) ≡ total
 
--- none is stored
+-- at the start none is stored
 pub lining : (ls : List (List ℕ × ℕ)) (at : ℕ) (out : List ℕ) → at + length (lines ls) ≤ length out → Lining (length out) (at + length (lines ls)) (put at (lines ls) out) ls out at
 lining ls at out h = record { storing = begin-at at out (lines ls) h; place = refl }
 
@@ -151,11 +151,11 @@ module _ {size total : ℕ} {target : List ℕ} {label : List ℕ} {n : ℕ} {ls
   pub line-room : p + length (line label n) ≤ length out
   line-room = block-room (line label n) (lines ls) here
 
-  -- the first one is
+  -- one line more is stored
   pub lined : {p' : ℕ} {out' : List ℕ} → p' ≡ p + length (line label n) → out' ≡ put p (line label n) out → Lining size total target ls out' p'
   lined q f = record { storing = store-block (line label n) (lines ls) here f q; place = omega (arith, q, s .place, lines-more label n ls) }
 
--- all are
+-- at the end all are
 pub lined-all : {size total : ℕ} {target out : List ℕ} {p : ℕ} → Lining size total target [] out p → (p ≡ total) × (out ≡ target)
 unfolding lines
 lined-all s = (omega (arith, s .place, lines-none), stored (s .storing))

@@ -12,6 +12,7 @@ pub record Outcome : Type 0 where
   pub answer : ReportAnswer
   pub text : List ℕ
 
+-- an outcome from its parts, as the promise of a report gives them
 abbrev pub outcome : ReportAnswer → List ℕ → Outcome
 outcome answer text = record { answer = answer; text = text }
 

@@ -82,7 +82,7 @@ fn put_counted(
     )
 }
 
-// Writes the nine lines, where they have room.
+// Writes the nine lines, where they have room. The nine labels have 49 letters.
 fn write_counted(
     strings: usize,
     kmers: usize,
@@ -129,7 +129,7 @@ fn put_refused(number: usize, place: usize, text: &mut [u8]) -> usize
     lines::put_line(b"", place, text, a)
 }
 
-// Writes the line of a refusal, where it has room.
+// Writes the line of a refusal, where it has room. The label, two tabs and the line feed are ten bytes.
 fn write_refused(number: usize, place: usize, text: &mut [u8]) -> ReportAnswer
     ensures { λ r. ⌜ outcome r (now (text .exit)) ≡ writtenOf (refusedText number place) (now (text .entry)) ⌝ }
     ensures { λ _. ⌜ length (refusedText number place) ≤ 247 ⌝ }

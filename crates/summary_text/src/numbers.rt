@@ -2,8 +2,8 @@
 ghost use mathlib.Core.Path.{_≡_};
 ghost use Prim.Native.Nat.{_+_, _≤_};
 ghost use lib.ListN.{length};
-ghost use Rattle.lists.specs.Fill.{put};
 ghost use Rattle.sheet_text.specs.Numbers.{digits};
+ghost use Rattle.sheet_write.specs.Written.{Stores};
 
 // How many digits a number has.
 pub(crate) fn digit_count(n: usize) -> usize
@@ -21,7 +21,7 @@ pub(crate) fn digit_count(n: usize) -> usize
 // Stores a number in decimal from a place on, its last digit first; answers where it ends.
 pub(crate) fn put_number(n: usize, out: &mut [u8], at: usize) -> usize
     requires { ⌜ at + length (digits n) ≤ length (now out) ⌝ }
-    ensures { λ r. ⌜ (r ≡ at + length (digits n)) × (now (out .exit) ≡ put at (digits n) (now (out .entry))) ⌝ }
+    ensures { λ r. ⌜ Stores at (digits n) (now (out .entry)) r (now (out .exit)) ⌝ }
 {
     let e = at + digit_count(n);
     let mut v = n;

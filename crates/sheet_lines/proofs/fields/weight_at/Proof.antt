@@ -3,10 +3,9 @@ use Prim.Native.Nat.{_-_, _≤_}
 use mathlib.Core.Path.{_≡_, sym, _∙_}
 use native.Mathlib.Omega.{arith}
 use borrow.Author.Needs.{needs}
-use borrow.Author.Tests.{not-true, not-false}
 use lib.ListN.{length, drop}
 use Rattle.sheet_lines.specs.Cursor.{field, weightAt}
-use Rattle.sheet_text.proofs.Tests.{digit-range}
+use Rattle.sheet_text.proofs.Tests.{told-no, told-yes, digit-range}
 use Rattle.sheet_lines.proofs.OneWeight.{weightFrom, walk-field, walk-end, walk-bad, walk-next, walk-none, weight-range}
 use Rattle.sheet_lines.proofs.fields.weight_at.Statement.{statement}
 use Rattle.sheet_lines.proofs.fields.weight_at.Tie as tie
@@ -33,11 +32,11 @@ returns : tie.Need-returns Inv-loop μ-loop
 returns c =
     let at = c .before .before .before .before .before in
     c .weight-end .ensures
-    ∙ (walk-end _ _ (c .before .before .before .before .loop-test .taken) (at .loop .v) (sym (c .before .before .is-digit .ensures) ∙ not-true (c .before .before .is-digit .result) (c .before .if1 .taken)) ∙ sym (at .loop .inv .1))
+    ∙ (walk-end _ _ (c .before .before .before .before .loop-test .taken) (at .loop .v) (told-no (c .before .before .is-digit .ensures) (c .before .if1 .taken)) ∙ sym (at .loop .inv .1))
 
 with-digit-requires : tie.Need-with-digit-requires Inv-loop μ-loop
 with-digit-requires c κs =
-    let d = digit-range _ (sym (c .before .is-digit .ensures) ∙ not-false (c .before .is-digit .result) (c .if1 .left)) in
+    let d = digit-range _ (told-yes (c .before .is-digit .ensures) (c .if1 .left)) in
     (c .before .before .before .before .loop .inv .0, d .0, d .1)
 
 add-i : tie.Need-add-i Inv-loop μ-loop
@@ -50,7 +49,7 @@ returns-2 : tie.Need-returns-2 Inv-loop μ-loop
 returns-2 c =
     let e = c .before .before .before in
     let at = e .before .before .before .before in
-    sym (at .loop .inv .1 ∙ walk-bad _ _ (e .before .before .before .loop-test .taken) (at .loop .v) _ (c .before .before .with-digit .ensures) (sym (e .before .is-digit .ensures) ∙ not-false (e .before .is-digit .result) (e .if1 .left)) (sym (c .before .is-weight .ensures) ∙ not-true (c .before .is-weight .result) (c .if2 .taken)))
+    sym (at .loop .inv .1 ∙ walk-bad _ _ (e .before .before .before .loop-test .taken) (at .loop .v) _ (c .before .before .with-digit .ensures) (told-yes (e .before .is-digit .ensures) (e .if1 .left)) (told-no (c .before .is-weight .ensures) (c .if2 .taken)))
 
 loop-less : tie.Need-loop-less Inv-loop μ-loop
 loop-less c = search needs
@@ -59,8 +58,8 @@ loop-again : tie.Need-loop-again Inv-loop μ-loop
 loop-again c =
     let e = c .before .before .before in
     let at = e .before .before .before .before in
-    let w = sym (c .before .is-weight .ensures) ∙ not-false (c .before .is-weight .result) (c .if2 .left) in
-    (weight-range _ w .1, at .loop .inv .1 ∙ walk-next _ _ (e .before .before .before .loop-test .taken) (at .loop .v) _ (c .before .before .with-digit .ensures) (sym (e .before .is-digit .ensures) ∙ not-false (e .before .is-digit .result) (e .if1 .left)) w)
+    let w = told-yes (c .before .is-weight .ensures) (c .if2 .left) in
+    (weight-range _ w .1, at .loop .inv .1 ∙ walk-next _ _ (e .before .before .before .loop-test .taken) (at .loop .v) _ (c .before .before .with-digit .ensures) (told-yes (e .before .is-digit .ensures) (e .if1 .left)) w)
 
 ended-requires : tie.Need-ended-requires Inv-loop μ-loop
 ended-requires c κs = search needs

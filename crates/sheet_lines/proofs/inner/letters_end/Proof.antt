@@ -1,10 +1,10 @@
 -- `letters_end` meets its contract. Invariant: the letters passed and those in front together are the letters at the start. Assumes nothing.
 use Prim.Native.Nat.{_+_, _-_, _≤_}
-use mathlib.Core.Path.{_≡_, refl, sym, _∙_}
+use mathlib.Core.Path.{_≡_, refl}
 use native.Mathlib.Omega.{arith}
 use borrow.Author.Needs.{needs}
-use borrow.Author.Tests.{not-true, not-false}
 use lib.ListN.{length, drop}
+use Rattle.sheet_text.proofs.Tests.{told-no, told-yes}
 use Rattle.sheet_lines.specs.Cursor.{span}
 use Rattle.sheet_lines.proofs.Letters.{span-stop, span-next, span-none}
 use Rattle.sheet_lines.proofs.inner.letters_end.Statement.{statement}
@@ -28,7 +28,7 @@ is-letter-requires c κs = search needs
 returns : tie.Need-returns Inv-loop μ-loop
 returns c =
     let at = c .before .before .before .before in
-    let e = span-stop (at .before .before .args .s .now) (at .loop .i) (c .before .before .before .loop-test .taken) (sym (c .before .is-letter .ensures) ∙ not-true (c .before .is-letter .result) (c .if1 .taken)) in
+    let e = span-stop (at .before .before .args .s .now) (at .loop .i) (c .before .before .before .loop-test .taken) (told-no (c .before .is-letter .ensures) (c .if1 .taken)) in
     (omega (arith, at .loop .inv .1, e), at .loop .inv .0)
 
 add-i : tie.Need-add-i Inv-loop μ-loop
@@ -40,7 +40,7 @@ loop-less c = search needs
 loop-again : tie.Need-loop-again Inv-loop μ-loop
 loop-again c =
     let at = c .before .before .before .before in
-    let e = span-next (at .before .before .args .s .now) (at .loop .i) (c .before .before .before .loop-test .taken) (sym (c .before .is-letter .ensures) ∙ not-false (c .before .is-letter .result) (c .if1 .left)) in
+    let e = span-next (at .before .before .args .s .now) (at .loop .i) (c .before .before .before .loop-test .taken) (told-yes (c .before .is-letter .ensures) (c .if1 .left)) in
     (omega arith, omega (arith, at .loop .inv .1, e))
 
 returns-2 : tie.Need-returns-2 Inv-loop μ-loop

@@ -1,7 +1,7 @@
 -- `head_at` meets its contract: each test rules out a text of line 1, or finds it. Assumes nothing.
 use mathlib.Core.Path.{sym, _∙_}
 use borrow.Author.Needs.{needs}
-use borrow.Author.Tests.{not-true, not-false}
+use Rattle.sheet_text.proofs.Tests.{told-no, told-yes}
 use Rattle.sheet_lines.proofs.Heads.{not-k, not-tab, zero-head, no-number, too-long, number-head}
 use Rattle.sheet_lines.proofs.lines.head_at.Statement.{statement}
 use Rattle.sheet_lines.proofs.lines.head_at.Tie as tie
@@ -10,13 +10,13 @@ byte-is-requires : tie.Need-byte-is-requires
 byte-is-requires c κs = search needs
 
 returns : tie.Need-returns
-returns c = sym (not-k _ (sym (c .before .byte-is .ensures) ∙ not-true (c .before .byte-is .result) (c .if1 .taken)))
+returns c = sym (not-k _ (told-no (c .before .byte-is .ensures) (c .if1 .taken)))
 
 byte-is-requires-2 : tie.Need-byte-is-requires-2
 byte-is-requires-2 c κs = search needs
 
 returns-2 : tie.Need-returns-2
-returns-2 c = sym (not-tab _ (sym (c .before .byte-is2 .ensures) ∙ not-true (c .before .byte-is2 .result) (c .if2 .taken)))
+returns-2 c = sym (not-tab _ (told-no (c .before .byte-is2 .ensures) (c .if2 .taken)))
 
 byte-is-requires-3 : tie.Need-byte-is-requires-3
 byte-is-requires-3 c κs = search needs
@@ -28,9 +28,9 @@ returns-3 : tie.Need-returns-3
 returns-3 c =
     let e2 = c .before .before .before in
     let e1 = e2 .before .before in
-    let kh = (sym (e1 .before .byte-is .ensures) ∙ not-false (e1 .before .byte-is .result) (e1 .if1 .left)) in
-    let th = (sym (e2 .before .byte-is2 .ensures) ∙ not-false (e2 .before .byte-is2 .result) (e2 .if2 .left)) in
-    c .head-end .ensures ∙ zero-head _ kh th (sym (c .before .before .byte-is3 .ensures) ∙ c .before .if3 .taken)
+    let k-here = told-yes (e1 .before .byte-is .ensures) (e1 .if1 .left) in
+    let tab-here = told-yes (e2 .before .byte-is2 .ensures) (e2 .if2 .left) in
+    c .head-end .ensures ∙ zero-head _ k-here tab-here (sym (c .before .before .byte-is3 .ensures) ∙ c .before .if3 .taken)
 
 weight-at-requires : tie.Need-weight-at-requires
 weight-at-requires c κs = search needs
@@ -46,20 +46,20 @@ returns-4 c =
     let e3 = c .before .before .before in
     let e2 = e3 .before .before in
     let e1 = e2 .before .before in
-    let kh = (sym (e1 .before .byte-is .ensures) ∙ not-false (e1 .before .byte-is .result) (e1 .if1 .left)) in
-    let th = (sym (e2 .before .byte-is2 .ensures) ∙ not-false (e2 .before .byte-is2 .result) (e2 .if2 .left)) in
-    let nz = sym (e3 .before .byte-is3 .ensures) ∙ e3 .if3 .left in
-    sym (no-number _ kh th nz (sym (c .before .before .weight-at .ensures) ∙ c .enum-told .given .1))
+    let k-here = told-yes (e1 .before .byte-is .ensures) (e1 .if1 .left) in
+    let tab-here = told-yes (e2 .before .byte-is2 .ensures) (e2 .if2 .left) in
+    let no-zero = sym (e3 .before .byte-is3 .ensures) ∙ e3 .if3 .left in
+    sym (no-number _ k-here tab-here no-zero (sym (c .before .before .weight-at .ensures) ∙ c .enum-told .given .1))
 
 returns-5 : tie.Need-returns-5
 returns-5 c =
     let e3 = c .before .before .before .before .before in
     let e2 = e3 .before .before in
     let e1 = e2 .before .before in
-    let kh = (sym (e1 .before .byte-is .ensures) ∙ not-false (e1 .before .byte-is .result) (e1 .if1 .left)) in
-    let th = (sym (e2 .before .byte-is2 .ensures) ∙ not-false (e2 .before .byte-is2 .result) (e2 .if2 .left)) in
-    let nz = sym (e3 .before .byte-is3 .ensures) ∙ e3 .if3 .left in
-    sym (too-long _ kh th nz _ _ (sym (c .before .before .before .before .weight-at .ensures) ∙ c .before .before .w .given .1) (c .if4 .taken))
+    let k-here = told-yes (e1 .before .byte-is .ensures) (e1 .if1 .left) in
+    let tab-here = told-yes (e2 .before .byte-is2 .ensures) (e2 .if2 .left) in
+    let no-zero = sym (e3 .before .byte-is3 .ensures) ∙ e3 .if3 .left in
+    sym (too-long _ k-here tab-here no-zero _ _ (sym (c .before .before .before .before .weight-at .ensures) ∙ c .before .before .w .given .1) (c .if4 .taken))
 
 cast-head-end : tie.Need-cast-head-end
 cast-head-end c = search needs
@@ -72,10 +72,10 @@ returns-6 c =
     let e3 = c .before .before .before .before .before .before in
     let e2 = e3 .before .before in
     let e1 = e2 .before .before in
-    let kh = (sym (e1 .before .byte-is .ensures) ∙ not-false (e1 .before .byte-is .result) (e1 .if1 .left)) in
-    let th = (sym (e2 .before .byte-is2 .ensures) ∙ not-false (e2 .before .byte-is2 .result) (e2 .if2 .left)) in
-    let nz = sym (e3 .before .byte-is3 .ensures) ∙ e3 .if3 .left in
-    c .head-end2 .ensures ∙ number-head _ kh th nz _ _ (sym (c .before .before .before .before .before .weight-at .ensures) ∙ c .before .before .before .w .given .1) (c .before .if4 .left)
+    let k-here = told-yes (e1 .before .byte-is .ensures) (e1 .if1 .left) in
+    let tab-here = told-yes (e2 .before .byte-is2 .ensures) (e2 .if2 .left) in
+    let no-zero = sym (e3 .before .byte-is3 .ensures) ∙ e3 .if3 .left in
+    c .head-end2 .ensures ∙ number-head _ k-here tab-here no-zero _ _ (sym (c .before .before .before .before .before .weight-at .ensures) ∙ c .before .before .before .w .given .1) (c .before .if4 .left)
 
 pub head-at-spec : {M : Type 1} → statement M
 head-at-spec =

@@ -1,7 +1,7 @@
 -- `line_at` meets its contract: each step is a part of the line. Assumes nothing.
 use mathlib.Core.Path.{refl, sym, _∙_}
 use borrow.Author.Needs.{needs}
-use borrow.Author.Tests.{not-true, not-false}
+use Rattle.sheet_text.proofs.Tests.{told-no, told-yes}
 use Rattle.sheet_lines.proofs.OneLine.{marked-room, line-few, line-bad, line-good, line-unmarked}
 use Rattle.sheet_lines.proofs.lines.line_at.Statement.{statement}
 use Rattle.sheet_lines.proofs.lines.line_at.Tie as tie
@@ -10,13 +10,13 @@ is-marked-requires : tie.Need-is-marked-requires
 is-marked-requires c κs = search needs
 
 returns : tie.Need-returns
-returns c = sym (line-unmarked _ _ (c .before .before .before .args .k) (sym (c .before .is-marked .ensures) ∙ not-true (c .before .is-marked .result) (c .if1 .taken)))
+returns c = sym (line-unmarked _ _ (c .before .before .before .args .k) (told-no (c .before .is-marked .ensures) (c .if1 .taken)))
 
 add-b : tie.Need-add-b
 add-b c = search needs
 
 letters-end-requires : tie.Need-letters-end-requires
-letters-end-requires c κs = marked-room _ _ (sym (c .before .is-marked .ensures) ∙ not-false (c .before .is-marked .result) (c .if1 .left))
+letters-end-requires c κs = marked-room _ _ (told-yes (c .before .is-marked .ensures) (c .if1 .left))
 
 sub-n : tie.Need-sub-n
 sub-n c = search needs
@@ -24,7 +24,7 @@ sub-n c = search needs
 returns-2 : tie.Need-returns-2
 returns-2 c =
     let e = c .before .before in
-    let h = sym (e .before .is-marked .ensures) ∙ not-false (e .before .is-marked .result) (e .if1 .left) in
+    let h = told-yes (e .before .is-marked .ensures) (e .if1 .left) in
     sym (line-few _ _ (e .before .before .before .args .k) _ (c .before .letters-end .result) _ h (c .before .letters-end .ensures .0) refl refl (c .if2 .taken))
 
 add-w : tie.Need-add-w
@@ -46,14 +46,14 @@ returns-3 : tie.Need-returns-3
 returns-3 c =
     let l = c .before .before .before .before in
     let e = l .before in
-    let h = sym (e .before .is-marked .ensures) ∙ not-false (e .before .is-marked .result) (e .if1 .left) in
+    let h = told-yes (e .before .is-marked .ensures) (e .if1 .left) in
     sym (line-bad _ _ (e .before .before .before .args .k) _ (l .letters-end .result) _ h (l .letters-end .ensures .0) refl refl (c .before .before .before .if2 .left) (sym (c .before .before .tail-at .ensures) ∙ c .enum-told .given .1))
 
 returns-4 : tie.Need-returns-4
 returns-4 c =
     let l = c .before .before .before .before .before in
     let e = l .before in
-    let h = sym (e .before .is-marked .ensures) ∙ not-false (e .before .is-marked .result) (e .if1 .left) in
+    let h = told-yes (e .before .is-marked .ensures) (e .if1 .left) in
     sym (line-good _ _ (e .before .before .before .args .k) _ (l .letters-end .result) _ h (l .letters-end .ensures .0) refl refl _ (c .before .before .before .before .if2 .left) (sym (c .before .before .before .tail-at .ensures) ∙ c .before .t .given .1))
 
 pub line-at-spec : {M : Type 1} → statement M

@@ -2,7 +2,7 @@
 use mathlib.Core.Path.{_≡_, refl, sym, ap, _∙_}
 use native.Mathlib.Omega.{arith}
 use borrow.Author.Needs.{needs}
-use borrow.Author.Tests.{not-true, not-false}
+use Rattle.sheet_text.proofs.Tests.{told-no, told-yes}
 use Rattle.sheet_lines.specs.Cursor.{tailAt}
 use Rattle.sheet_lines.proofs.Bytes.{byte-here}
 use Rattle.sheet_lines.proofs.Tails.{tail-no-tab, tail-bad, tail-next}
@@ -24,12 +24,12 @@ byte-is-requires c κs = search needs
 returns : tie.Need-returns Inv-loop μ-loop
 returns c =
     let at = c .before .before .before in
-    sym (at .loop .inv ∙ tail-no-tab _ (at .loop .i) (at .loop .j) (c .before .before .loop-test .taken) (sym (c .before .byte-is .ensures) ∙ not-true (c .before .byte-is .result) (c .if1 .taken)))
+    sym (at .loop .inv ∙ tail-no-tab _ (at .loop .i) (at .loop .j) (c .before .before .loop-test .taken) (told-no (c .before .byte-is .ensures) (c .if1 .taken)))
 
 add-weight-at : tie.Need-add-weight-at Inv-loop μ-loop
 add-weight-at c =
     let at = c .before .before .before in
-    let b = byte-here (at .before .before .args .s .now) (at .loop .i) 9 (sym (c .before .byte-is .ensures) ∙ not-false (c .before .byte-is .result) (c .if1 .left)) in
+    let b = byte-here (at .before .before .args .s .now) (at .loop .i) 9 (told-yes (c .before .byte-is .ensures) (c .if1 .left)) in
     omega (arith, b .0)
 
 weight-at-requires : tie.Need-weight-at-requires Inv-loop μ-loop
@@ -45,7 +45,7 @@ returns-2 : tie.Need-returns-2 Inv-loop μ-loop
 returns-2 c =
     let e = c .before .before .before in
     let at = e .before .before .before in
-    sym (at .loop .inv ∙ tail-bad _ (at .loop .i) (at .loop .j) (e .before .before .loop-test .taken) (sym (e .before .byte-is .ensures) ∙ not-false (e .before .byte-is .result) (e .if1 .left)) (sym (c .before .before .weight-at .ensures) ∙ c .enum-told .given .1))
+    sym (at .loop .inv ∙ tail-bad _ (at .loop .i) (at .loop .j) (e .before .before .loop-test .taken) (told-yes (e .before .byte-is .ensures) (e .if1 .left)) (sym (c .before .before .weight-at .ensures) ∙ c .enum-told .given .1))
 
 sub-j : tie.Need-sub-j Inv-loop μ-loop
 sub-j c = search needs
@@ -57,7 +57,7 @@ loop-again : tie.Need-loop-again Inv-loop μ-loop
 loop-again c =
     let e = c .before .before .before .before in
     let at = e .before .before .before in
-    at .loop .inv ∙ tail-next _ (at .loop .i) (at .loop .j) (e .before .before .loop-test .taken) _ _ (sym (e .before .byte-is .ensures) ∙ not-false (e .before .byte-is .result) (e .if1 .left)) (sym (c .before .before .before .weight-at .ensures) ∙ c .before .w .given .1)
+    at .loop .inv ∙ tail-next _ (at .loop .i) (at .loop .j) (e .before .before .loop-test .taken) _ _ (told-yes (e .before .byte-is .ensures) (e .if1 .left)) (sym (c .before .before .before .weight-at .ensures) ∙ c .before .w .given .1)
 
 tail-end-requires : tie.Need-tail-end-requires Inv-loop μ-loop
 tail-end-requires c κs = search needs

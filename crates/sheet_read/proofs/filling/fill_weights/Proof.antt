@@ -4,10 +4,10 @@ use mathlib.Core.Path.{_≡_, refl, sym, ap, _∙_}
 use mathlib.Core.Bool.{true}
 use native.Mathlib.Omega.{arith}
 use borrow.Author.Needs.{needs}
-use borrow.Author.Tests.{not-true, not-false}
 use lib.ListN.{length}
 use Rattle.lists.specs.Fill.{put}
 use Rattle.lists.proofs.Storing.{Storing, begin-at, inside, store, restated, stored}
+use Rattle.sheet_text.proofs.Tests.{told-no, told-yes}
 use Rattle.sheet_lines.specs.Cursor.{tailAt, fine, weightsAt}
 use Rattle.sheet_lines.proofs.Bytes.{byte-here}
 use Rattle.sheet_lines.proofs.Tails.{tail-no-tab, tail-bad, tail-next}
@@ -33,12 +33,12 @@ same-length c = c .before .before .before .loop .inv .1 .size-kept
 returns : tie.Need-returns Inv-loop μ-loop
 returns c =
     let at = c .before .before .before in
-    absurd (not-fine (tail-no-tab (at .before .before .before .args .s .now) (at .loop .i) (at .loop .j) (c .before .before .loop-test .taken) (sym (c .before .byte-is .ensures) ∙ not-true (c .before .byte-is .result) (c .if1 .taken))) (at .loop .inv .0))
+    absurd (not-fine (tail-no-tab (at .before .before .before .args .s .now) (at .loop .i) (at .loop .j) (c .before .before .loop-test .taken) (told-no (c .before .byte-is .ensures) (c .if1 .taken))) (at .loop .inv .0))
 
 add-weight-at : tie.Need-add-weight-at Inv-loop μ-loop
 add-weight-at c =
     let at = c .before .before .before in
-    let b = byte-here (at .before .before .before .args .s .now) (at .loop .i) 9 (sym (c .before .byte-is .ensures) ∙ not-false (c .before .byte-is .result) (c .if1 .left)) in
+    let b = byte-here (at .before .before .before .args .s .now) (at .loop .i) 9 (told-yes (c .before .byte-is .ensures) (c .if1 .left)) in
     omega (arith, b .0)
 
 weight-at-requires : tie.Need-weight-at-requires Inv-loop μ-loop
@@ -57,7 +57,7 @@ returns-2 : tie.Need-returns-2 Inv-loop μ-loop
 returns-2 c =
     let e = c .before .before .before in
     let at = e .before .before .before in
-    absurd (not-fine (tail-bad (at .before .before .before .args .s .now) (at .loop .i) (at .loop .j) (e .before .before .loop-test .taken) (sym (e .before .byte-is .ensures) ∙ not-false (e .before .byte-is .result) (e .if1 .left)) (sym (c .before .before .weight-at .ensures) ∙ c .enum-told .given .1)) (at .loop .inv .0))
+    absurd (not-fine (tail-bad (at .before .before .before .args .s .now) (at .loop .i) (at .loop .j) (e .before .before .loop-test .taken) (told-yes (e .before .byte-is .ensures) (e .if1 .left)) (sym (c .before .before .weight-at .ensures) ∙ c .enum-told .given .1)) (at .loop .inv .0))
 
 mul-out : tie.Need-mul-out Inv-loop μ-loop
 mul-out c = search needs
@@ -67,7 +67,7 @@ slice-write-out c =
     let e = c .before .before .before .before in
     let at = e .before .before .before in
     let w = sym (c .before .before .before .weight-at .ensures) ∙ c .before .w .given .1 in
-    let st = restated (weights-next (at .before .before .before .args .s .now) (at .loop .i) (c .before .w .given .0 .0) (c .before .w .given .0 .1 .0) (sym (e .before .byte-is .ensures) ∙ not-false (e .before .byte-is .result) (e .if1 .left)) w) (at .loop .inv .1) in
+    let st = restated (weights-next (at .before .before .before .args .s .now) (at .loop .i) (c .before .w .given .0 .0) (c .before .w .given .0 .1 .0) (told-yes (e .before .byte-is .ensures) (e .if1 .left)) w) (at .loop .inv .1) in
     inside st
 
 add-p : tie.Need-add-p Inv-loop μ-loop
@@ -75,7 +75,7 @@ add-p c =
     let e = c .before .before .before .before in
     let at = e .before .before .before in
     let w = sym (c .before .before .before .weight-at .ensures) ∙ c .before .w .given .1 in
-    let st = restated (weights-next (at .before .before .before .args .s .now) (at .loop .i) (c .before .w .given .0 .0) (c .before .w .given .0 .1 .0) (sym (e .before .byte-is .ensures) ∙ not-false (e .before .byte-is .result) (e .if1 .left)) w) (at .loop .inv .1) in
+    let st = restated (weights-next (at .before .before .before .args .s .now) (at .loop .i) (c .before .w .given .0 .0) (c .before .w .given .0 .1 .0) (told-yes (e .before .byte-is .ensures) (e .if1 .left)) w) (at .loop .inv .1) in
     omega (arith, inside st)
 
 sub-j : tie.Need-sub-j Inv-loop μ-loop
@@ -89,8 +89,8 @@ loop-again c =
     let e = c .before .before .before .before in
     let at = e .before .before .before in
     let w = sym (c .before .before .before .weight-at .ensures) ∙ c .before .w .given .1 in
-    let st = restated (weights-next (at .before .before .before .args .s .now) (at .loop .i) (c .before .w .given .0 .0) (c .before .w .given .0 .1 .0) (sym (e .before .byte-is .ensures) ∙ not-false (e .before .byte-is .result) (e .if1 .left)) w) (at .loop .inv .1) in
-    let tn = tail-next (at .before .before .before .args .s .now) (at .loop .i) (at .loop .j) (e .before .before .loop-test .taken) _ _ (sym (e .before .byte-is .ensures) ∙ not-false (e .before .byte-is .result) (e .if1 .left)) w in
+    let st = restated (weights-next (at .before .before .before .args .s .now) (at .loop .i) (c .before .w .given .0 .0) (c .before .w .given .0 .1 .0) (told-yes (e .before .byte-is .ensures) (e .if1 .left)) w) (at .loop .inv .1) in
+    let tn = tail-next (at .before .before .before .args .s .now) (at .loop .i) (at .loop .j) (e .before .before .loop-test .taken) _ _ (told-yes (e .before .byte-is .ensures) (e .if1 .left)) w in
     (sym (ap fine tn) ∙ at .loop .inv .0, store st, at .loop .inv .2 ∙ tn)
 
 same-length-3 : tie.Need-same-length-3 Inv-loop μ-loop

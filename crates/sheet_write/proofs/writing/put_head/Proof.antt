@@ -6,7 +6,7 @@ use Rattle.sheet_text.specs.Numbers.{digits}
 use Rattle.sheet_text.specs.Parts.{feed}
 use Rattle.lists.proofs.Storing.{inside, store, stored}
 use Rattle.sheet_text.proofs.Blocks.{block-room}
-use Rattle.sheet_write.proofs.Lines.{head-marked, head-ended}
+use Rattle.sheet_write.proofs.Line.{head-marked, head-ended}
 use Rattle.sheet_write.proofs.Texts.{head-length}
 use Rattle.sheet_write.proofs.writing.put_head.Statement.{statement}
 use Rattle.sheet_write.proofs.writing.put_head.Tie as tie

@@ -2,7 +2,7 @@
 use native.Mathlib.Omega.{arith}
 use lib.ListN.{length-set}
 use Rattle.lists.proofs.Storing.{inside, store, stored}
-use Rattle.sheet_write.proofs.Lines.{marks-room, letters-room, weights-room, line-weighed, line-end, line-fits}
+use Rattle.sheet_write.proofs.Line.{marks-room, letters-room, weights-room, line-weighed, line-end, line-fits}
 use Rattle.sheet_write.proofs.writing.put_string.Statement.{statement}
 use Rattle.sheet_write.proofs.writing.put_string.Tie as tie
 

@@ -1,5 +1,5 @@
 -- `count_all` meets its contract: each number is what its function counts. Assumes nothing.
-use Rattle.summary.proofs.Told.{counted-from}
+use Rattle.summary.proofs.Checked.{counted-from}
 use borrow.Author.Needs.{needs}
 use Rattle.summary.proofs.telling.count_all.Statement.{statement}
 use Rattle.summary.proofs.telling.count_all.Tie as tie

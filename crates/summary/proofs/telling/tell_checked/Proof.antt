@@ -1,6 +1,6 @@
 -- `tell_checked` meets its contract, by what CHECK and COVER answer. Assumes nothing.
 use native.Mathlib.Omega.{arith}
-use Rattle.summary.proofs.Told.{weighed, check-refused, check-passed, strung, cover-refused, paths-low, numbers-told}
+use Rattle.summary.proofs.Checked.{weighed, check-refused, check-passed, strung, cover-refused, paths-low, numbers-told}
 use borrow.Author.Needs.{needs}
 use Rattle.summary.proofs.telling.tell_checked.Statement.{statement}
 use Rattle.summary.proofs.telling.tell_checked.Tie as tie
