@@ -1,19 +1,19 @@
 -- What good verdicts tell a caller, and how loops over the ends find the first short string. Assumes nothing.
-use mathlib.Core.Path.{_≡_, refl}
+use mathlib.Core.Path.{_≡_, refl, ap}
 use mathlib.Core.Bool.{Bool, true, false, not, _&&_}
 use mathlib.Core.List.{List, [], _∷_}
 use Prim.Native.Nat.{ℕ, suc, _+_, _*_, _≤_}
 use native.Mathlib.Nat.{zero-mul, suc-mul, add-zero, le-refl}
 use native.Mathlib.Omega.{arith}
-use borrow.Author.Tests.{ltb-false, leb-true, eqb-true, not-false}
+use borrow.Author.Tests.{le-leb, ltb-false, leb-true, eqb-true, not-false}
 use lib.Dec.{leb, ltb, eqb}
 use lib.ListN.{length}
 use Rattle.lists.specs.Choose.{choose}
 use Rattle.lists.specs.Every.{All, every}
-use Rattle.lists.proofs.Every.{and-left, and-right, all-map}
+use Rattle.lists.proofs.Every.{and-left, and-right, and-both, all-map}
 use Rattle.lists.proofs.First.{first-none}
 use Rattle.alphabet.specs.Letter.{isLetter}
-use Rattle.collection.specs.declared.Verdict.the-variants.{Good}
+use Rattle.collection.specs.declared.Verdict.the-variants.{Good, Bad}
 use Rattle.collection.specs.Verdict.{atPlace}
 use Rattle.collection.specs.Judge.{kVerdict, sizeVerdict, endsVerdict, shapeVerdict, kmerCount, lettersVerdict, weightsVerdict, collectionVerdict, Passes, handleVerdict, wordVerdict}
 use Rattle.faults.specs.Faults.{firstShort, lastEnd, isWeight}
@@ -35,6 +35,11 @@ unfolding sizeVerdict
 size-good N m h =
     let t = test-good (leb N 1048576 && leb m 65536) 3 0 Good h .0 in
     (leb-true N 1048576 (and-left (leb N 1048576) (leb m 65536) t), leb-true m 65536 (and-right (leb N 1048576) (leb m 65536) t))
+
+-- within the limits nothing is refused by 3
+pub good-size : {N m : ℕ} → N ≤ 1048576 → m ≤ 65536 → sizeVerdict N m ≡ Good
+unfolding sizeVerdict
+good-size {N} {m} a b = ap (λ t. choose t Good (Bad 3 0)) (and-both (le-leb N 1048576 a) (le-leb m 65536 b))
 
 -- ─── 4 ───────────────────────────────────────────────────────────────────────
 

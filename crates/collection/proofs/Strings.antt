@@ -84,6 +84,12 @@ weights-length k (s ∷ ss) l h =
 pub weights-counted : (k : ℕ) (ss : List Str) → 1 ≤ k → All (Whole k) ss → length (weightsIn ss) ≡ kmerCount k (length (lettersIn ss)) (length (endsIn 0 ss))
 weights-counted k ss l h = omega (arith, weights-length k ss l h, ap (λ (m : ℕ). m * (k - 1)) (ends-length 0 ss))
 
+-- as many strings as ends
+pub strings-count : (k before : ℕ) (letters ends weights : List ℕ) → length (stringsFrom k before letters ends weights) ≡ length ends
+unfolding stringsFrom
+strings-count k before letters [] weights = refl
+strings-count k before letters (e ∷ ends) weights = ap suc (strings-count k e (drop (e - before) letters) ends (drop (within k before e) weights))
+
 -- ─── what holds of each letter and weight ────────────────────────────────────
 
 pub all-letters-in : (P : ℕ → Type 0) (ss : List Str) → All (λ s. All P (s .letters)) ss → All P (lettersIn ss)

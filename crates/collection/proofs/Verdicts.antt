@@ -3,7 +3,7 @@ use mathlib.Core.Path.{_≡_, refl, sym, ap, _∙_}
 use mathlib.Core.Bool.{Bool, true, false}
 use Prim.Native.Nat.{ℕ, zero, suc, _≤_}
 use native.Mathlib.Omega.{arith}
-use borrow.Author.Tests.{ltb-false}
+use borrow.Author.Tests.{ltb-false, le-ltb}
 use lib.Dec.{ltb}
 use Rattle.lists.specs.Choose.{choose}
 use Rattle.collection.specs.declared.Verdict.{Verdict}
@@ -74,6 +74,11 @@ room-good have need h = go (ltb have need) refl h
     go : (t : Bool) → ltb have need ≡ t → choose t (Bad 1 0) Good ≡ Good → need ≤ have
     go true e g = absurd (bad-good g)
     go false e g = ltb-false have need e
+
+-- a table that is long enough is not refused by 1
+pub good-room : {have need : ℕ} → need ≤ have → roomVerdict have need ≡ Good
+unfolding roomVerdict
+good-room {have} {need} h = ap (λ t. choose t (Bad 1 0) Good) (le-ltb have need h)
 
 -- ─── what a call comes to ────────────────────────────────────────────────────
 

@@ -2,7 +2,7 @@
 use mathlib.Core.Path.{_≡_, refl, sym, ap, subst, _∙_}
 use mathlib.Core.Logic.{inl}
 use mathlib.Core.List.{List, [], _∷_, _++_, map, append-nil}
-use Prim.Native.Nat.{ℕ, zero, suc, _+_, _-_, _*_, _<_, _≤_}
+use Prim.Native.Nat.{ℕ, _+_, _-_, _*_, _<_, _≤_}
 use native.Mathlib.Omega.{arith}
 use lib.ListN.{length, take, drop, getD, set, length-map, drop-of-length-le}
 use lib.Seq.{getD-set-other}
@@ -22,6 +22,7 @@ use Rattle.sorting.specs.Keys.{keyAt}
 use Rattle.sorting.specs.Layout.{Laid}
 use Rattle.sorting.specs.Promises.{Sorted}
 use Rattle.vertices.specs.Ladder.{ladder}
+use Rattle.vertices.proofs.Ordering.{ladder-count}
 use Rattle.vertices.proofs.Ladder.{length-ladder, ladder-part, ladder-other}
 use Rattle.counts.specs.Counts.{distinct}
 use Rattle.counts.specs.Inner.{Weighed}
@@ -63,12 +64,6 @@ module _ {ws ids₀ ids : List ℕ} {i : ℕ} (g : Weighing ws ids₀ ids i) whe
       stored (restated z (g .storing)) ∙ (ap (λ (r : List ℕ). map (keyAt ws) ids₀ ++ r) (drop-of-length-le ids₀ n) ∙ append-nil (map (keyAt ws) ids₀))
 
 -- ─── weights, ids and the sort ───────────────────────────────────────────────
-
--- the ids are the numbers from 0 on
-ladder-count : (i n : ℕ) → ladder i 1 n ≡ countFrom i n
-unfolding ladder countFrom
-ladder-count i zero = refl
-ladder-count i (suc n) = let e : i + 1 ≡ suc i = omega arith in ap (λ (l : List ℕ). i ∷ l) (ap (λ (j : ℕ). ladder j 1 n) e ∙ ladder-count (suc i) n)
 
 -- w₁ has the weights, w₂ the ids behind them, w₃ these in the order of their weights
 module _ (ws w₀ : List ℕ) {w₁ : List ℕ} (g : Weighed ws) (room : 3 * length ws ≤ length w₀) (a : w₁ ≡ fill ws w₀) where

@@ -11,9 +11,8 @@ use Rattle.faults.specs.Faults.{lastEnd}
 use Rattle.collection.specs.Kmers.{within, kmersFrom}
 use Rattle.collection.specs.Strings.{stringsFrom}
 use Rattle.collection.proofs.Kmers.{Strings-left, strings-begin, Next, next-string, strings-on}
-use Rattle.lists.proofs.Agree.{agree-le}
 use Rattle.runs.specs.Runs.{runCount, innerRuns}
-use Rattle.runs.proofs.Joined.{count-none, count-one, count-cons}
+use Rattle.runs.proofs.Joined.{count-none, count-one, count-cons, runs-some}
 use Rattle.vertices.specs.Promises.{Strung}
 use Rattle.vertices.proofs.EndWeights.{left-next}
 use Rattle.counts.specs.Inner.{innerFrom}
@@ -36,11 +35,6 @@ runs-few : (ws : List ℕ) → runCount ws ≤ length ws
 runs-few [] = omega (arith, count-none)
 runs-few (w ∷ []) = omega (arith, count-one w)
 runs-few (w ∷ (v ∷ ws)) = omega (arith, count-cons w v ws, runs-few (v ∷ ws))
-
-runs-some : (ws : List ℕ) → 1 ≤ length ws → 1 ≤ runCount ws
-runs-some [] h = absurd (omega arith)
-runs-some (w ∷ []) h = omega (arith, count-one w)
-runs-some (w ∷ (v ∷ ws)) h = omega (arith, count-cons w v ws, agree-le w v, runs-some (v ∷ ws) (omega arith))
 
 -- ─── the loop ────────────────────────────────────────────────────────────────
 

@@ -1,14 +1,14 @@
 -- What a caller reads off COVER's promise: no order and turning has fewer paths, and the promise determines all but which of the best orders is filled in.
-use mathlib.Core.Path.{_≡_, refl, ap, sym, _∙_, subst}
-use mathlib.Core.List.{List, [], _∷_}
-use Prim.Native.Nat.{ℕ, suc, _+_, _-_, _/_, _≤_}
+use mathlib.Core.Path.{_≡_, refl, sym, _∙_, subst}
+use mathlib.Core.List.{List}
+use Prim.Native.Nat.{ℕ, _+_, _/_, _≤_}
 use lib.IntN.{ℤ}
-use lib.ListN.{length, drop, length-map}
+use lib.ListN.{length, length-map}
 use Rattle.lists.specs.Fill.{fill}
 use Rattle.collection.specs.declared.Verdict.{Verdict}
 use Rattle.collection.specs.declared.Verdict.the-variants.{Good}
-use Rattle.collection.specs.Kmers.{within}
-use Rattle.collection.specs.Strings.{stringsFrom, strings}
+use Rattle.collection.specs.Strings.{strings}
+use Rattle.collection.proofs.Strings.{strings-count}
 use Rattle.trails.specs.Groups.{evenGroups, oddWeights, least}
 use Rattle.trails.specs.Paths.{pathCount}
 use Rattle.trails.specs.Places.{SignedPermutation, arranged}
@@ -21,12 +21,6 @@ use Rattle.cover.specs.Cover.{coverVerdict, Fewest, PlacesAfter, Promise
 use Rattle.collection.proofs.Verdicts.{settled}
 
 -- ─── the strings ─────────────────────────────────────────────────────────────
-
--- there are m strings
-pub strings-count : (k before : ℕ) (letters ends weights : List ℕ) → length (stringsFrom k before letters ends weights) ≡ length ends
-unfolding stringsFrom
-strings-count k before letters [] weights = refl
-strings-count k before letters (e ∷ ends) weights = ap suc (strings-count k e (drop (e - before) letters) ends (drop (within k before e) weights))
 
 -- each of the m strings has its end weights
 pub ends-count : (k : ℕ) (letters ends weights : List ℕ) → length (endWeights k letters ends weights) ≡ length ends

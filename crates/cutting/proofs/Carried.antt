@@ -6,15 +6,15 @@ use mathlib.Core.List.{List, map}
 use Prim.Native.Nat.{ℕ, _+_, _-_, _^_, _≤_, _<_}
 use native.Mathlib.Nat.{add-zero, mod-lt}
 use native.Mathlib.Omega.{arith}
-use lib.ListN.{length, getD, take, drop, length-map, length-drop}
-use lib.Seq.{length-take-le}
+use lib.ListN.{length, getD, take, drop}
 use Rattle.lists.specs.Every.{All}
 use Rattle.lists.proofs.Every.{all-take, all-drop}
-use Rattle.alphabet.specs.Letter.{letter, isLetter, twoBits}
+use Rattle.alphabet.specs.Letter.{isLetter, twoBits}
 use Rattle.words.specs.Turned.{rolled}
-use Rattle.words.specs.Word.{Letters, code, wordAt}
+use Rattle.words.specs.Word.{code, wordAt}
 use Rattle.alphabet.proofs.Letters.{bits-lt}
-use Rattle.words.proofs.Spelled.{spell-letters, spell-bits}
+use Rattle.words.proofs.Spelled.{spell-bits}
+use Rattle.words.proofs.Rolling.{length-word, letters-word}
 use Rattle.words.proofs.Along.{Rolls, word-here, word-on}
 use Rattle.minimizers.specs.Least.{least}
 use Rattle.minimizers.specs.Minimizer.{minimizerAt}
@@ -43,15 +43,9 @@ module _ {k p : ℕ} {letters : List ℕ} (a c v x b : ℕ) (s : Carried k p let
       (omega arith, s .is-least, omega (arith, bits-lt b), f ∙ ap (λ (m : ℕ). rolled m c x) q)
 
 module _ (k p : ℕ) (letters : List ℕ) (fits : p ≤ k) (good : All (λ b. isLetter b ≡ true) letters) where
-  word-length : (a : ℕ) → a + k ≤ length letters → length (wordAt k letters a) ≡ k
-  word-length a l = length-map (take k (drop a letters)) letter ∙ length-take-le k (drop a letters) (rw (length-drop a letters) (omega arith))
-
-  word-letters : (a : ℕ) → Letters (wordAt k letters a)
-  word-letters a = spell-letters (take k (drop a letters)) (all-take _ k (drop a letters) (all-drop _ a letters good))
-
   -- a minimizer is the code of p letters
   pub minimizer-below : (a : ℕ) → a + k ≤ length letters → minimizerAt k p letters a < 4 ^ p
-  minimizer-below a l = minimizer-lt p (wordAt k letters a) (word-letters a) (omega (arith, word-length a l))
+  minimizer-below a l = minimizer-lt p (wordAt k letters a) (letters-word k letters a good) (omega (arith, length-word k letters a l))
 
   module _ (k-low : 1 ≤ k) (k-high : k ≤ 31) where
     -- the least piece of a k-mer's code is its minimizer, and the pass goes on
@@ -59,8 +53,8 @@ module _ (k p : ℕ) (letters : List ℕ) (fits : p ≤ k) (good : All (λ b. is
         → (v ≡ minimizerAt k p letters (a + i)) × Carried k p letters (a + (i + 1)) c v
     carried-from a i c v l e f =
         let w = wordAt k letters (a + i) in
-        let n = word-length (a + i) l in (
-          f ∙ (ap (least p (k - p)) e ∙ (ap (λ (m : ℕ). least p (m - p) (code w)) (sym n) ∙ least-minimizer p w (word-letters (a + i)) (omega (arith, n)))),
+        let n = length-word k letters (a + i) l in (
+          f ∙ (ap (least p (k - p)) e ∙ (ap (λ (m : ℕ). least p (m - p) (code w)) (sym n) ∙ least-minimizer p w (letters-word k letters (a + i) good) (omega (arith, n)))),
           record { rolls = word-on k letters k-low k-high good a i c l e; is-least = f },
         )
 

@@ -13,9 +13,9 @@ use Rattle.lists.proofs.Every.{all-map}
 use Rattle.collection.specs.Judge.{Passes}
 use Rattle.collection.specs.Strings.{Str, strings, stringsFrom, weightsIn}
 use Rattle.collection.proofs.Judged.{Judged, collection-good}
-use Rattle.collection.proofs.Strings.{Whole, strings-whole}
+use Rattle.collection.proofs.Strings.{Whole, strings-whole, strings-count}
 use Rattle.runs.specs.Runs.{runCount, innerRuns}
-use Rattle.runs.proofs.Joined.{count-none, count-reverse}
+use Rattle.runs.proofs.Joined.{count-none, count-reverse, runs-some}
 use Rattle.trails.specs.Paths.{pathCount}
 use Rattle.trails.specs.Places.{SignedPermutation, arranged, arrangedTo}
 use Rattle.trails.specs.Strings.{Ends, turned}
@@ -24,7 +24,7 @@ use Rattle.trails.proofs.Bounds.{none-fewer, one-reaches, no-strings}
 use Rattle.trails.proofs.Kept.{all-arranged, total-arranged}
 use Rattle.vertices.specs.EndWeights.{endsOf, endWeights}
 use Rattle.cover.specs.Cover.{Fewest}
-use Rattle.cover.proofs.Laws.{strings-count, ends-count}
+use Rattle.cover.proofs.Laws.{ends-count}
 use Rattle.reordering.specs.Turned.{turnStr}
 use Rattle.fewest.specs.Fewest.{runsAt, leastRuns, FewestRuns}
 use Rattle.fewest.proofs.RunsPaths.{inside, HasWeight, runs-paths}
@@ -47,17 +47,11 @@ ends-turned s = λ i. (first-reversed (s .weights) i, last-reversed (s .weights)
 
 -- ─── runs of the reordered weights ───────────────────────────────────────────
 
--- weights have a run
-has-run : (ws : List ℕ) → 1 ≤ length ws → 1 ≤ runCount ws
-unfolding Rattle.runs.specs.Runs.runs
-has-run [] h = absurd (omega arith)
-has-run (w ∷ ws) h = omega arith
-
 -- strings with weights have as many runs inside them as there are strings
 inside-enough : (ss : List Str) → All HasWeight ss → length ss ≤ inside ss
 unfolding sum
 inside-enough [] h = omega arith
-inside-enough (s ∷ ss) h = omega (arith, has-run (s .weights) (h .0), inside-enough ss (h .1))
+inside-enough (s ∷ ss) h = omega (arith, runs-some (s .weights) (h .0), inside-enough ss (h .1))
 
 module _ (k : ℕ) (letters ends weights : List ℕ) (passes : Passes k letters ends weights) where
   ss : List Str

@@ -18,13 +18,14 @@ use Rattle.collection.specs.Kmers.{within, kmersFrom, kmers}
 use Rattle.collection.specs.Ready.{Long}
 use Rattle.collection.specs.Strings.{Str, strings, lettersIn, endsIn, weightsIn}
 use Rattle.collection.proofs.Judged.{Judged, collection-good, shape-long}
+use Rattle.collection.proofs.Strings.{strings-count}
 use Rattle.collection.proofs.Kmers.{kmers-split, kmers-next, start-count}
 use Rattle.trails.specs.Places.{SignedPermutation}
 use Rattle.reordering.specs.Reordered.{reordered}
 use Rattle.reordering.specs.Parts.{startOf, firstOf}
 use Rattle.reordering.specs.Weighs.{none, Weighs, WeighsAt}
 use Rattle.reordering.proofs.Parts.{string-at, string-long, last-inside}
-use Rattle.reordering.proofs.Reordered.{strings-number, reordered-passes, reordered-strings, weighs-after, weighs-before}
+use Rattle.reordering.proofs.Reordered.{reordered-passes, reordered-strings, weighs-after, weighs-before}
 
 -- ─── from a string to a handle ───────────────────────────────────────────────
 
@@ -106,7 +107,7 @@ module _ (k : ℕ) (letters ends weights : List ℕ) (passes : Passes k letters 
   long = shape-long (judged .shape)
 
   number : length (strings k letters ends weights) ≡ length ends
-  number = strings-number k letters ends weights passes
+  number = strings-count k 0 letters ends weights
 
   weights-within : (i : ℕ) → i < length ends → length (getD (strings k letters ends weights) i none .weights) ≡ within k (startOf ends i) (getD ends i 0)
   weights-within i l =

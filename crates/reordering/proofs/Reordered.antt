@@ -14,7 +14,7 @@ use Rattle.collection.specs.Judge.{Passes, collectionVerdict, shapeVerdict, kVe
 use Rattle.faults.specs.Faults.{isWeight}
 use Rattle.collection.specs.Strings.{Str, strings, lettersIn, endsIn, weightsIn}
 use Rattle.collection.proofs.Judged.{Judged, collection-good}
-use Rattle.collection.proofs.Strings.{Whole, strings-letters, strings-ends, strings-weights, strings-whole, strings-back, each-letters, each-weights, ends-length, tables-pass}
+use Rattle.collection.proofs.Strings.{strings-count, Whole, strings-letters, strings-weights, strings-whole, strings-back, each-letters, each-weights, ends-length, tables-pass}
 use Rattle.collection.proofs.Verdicts.{both-good}
 use Rattle.trails.specs.Places.{SignedPermutation, turnedBy}
 use Rattle.trails.proofs.Arranged.{arranged-at, length-arranged}
@@ -33,12 +33,6 @@ pub record Sizes (letters ends weights : List ℕ) (ss : List Str) : Type 0 wher
   pub ends-number : length (endsIn 0 ss) ≡ length ends
   pub weights-number : length (weightsIn ss) ≡ length weights
 
--- as many strings as ends
-pub strings-number : (k : ℕ) (letters ends weights : List ℕ) → Passes k letters ends weights → length (strings k letters ends weights) ≡ length ends
-strings-number k letters ends weights passes =
-    let j = collection-good k letters ends weights passes in
-    sym (ends-length 0 (strings k letters ends weights)) ∙ ap length (strings-ends weights (j .shape) (j .counted))
-
 module _ (k : ℕ) (letters ends weights : List ℕ) (places : List ℤ) (passes : Passes k letters ends weights) (permutation : SignedPermutation (length ends) places) where
   judged : Judged k letters ends weights
   judged = collection-good k letters ends weights passes
@@ -46,7 +40,7 @@ module _ (k : ℕ) (letters ends weights : List ℕ) (places : List ℤ) (passes
   -- ─── how many there are ────────────────────────────────────────────────────
 
   many : length (strings k letters ends weights) ≡ length ends
-  many = strings-number k letters ends weights passes
+  many = strings-count k 0 letters ends weights
 
   -- as many letters, ends and weights as before
   pub reordered-sizes : Sizes letters ends weights (reordered k letters ends weights places)

@@ -22,14 +22,14 @@ use Rattle.faults.specs.Faults.{lastEnd, firstShort}
 use Rattle.collection.specs.Kmers.{within, kmersFrom}
 use Rattle.collection.specs.Strings.{Str, strings, stringsFrom, lettersIn, endsIn}
 use Rattle.collection.proofs.Judged.{collection-good, long-cons, ends-room}
-use Rattle.collection.proofs.Strings.{each-letters}
+use Rattle.collection.proofs.Strings.{strings-count, each-letters}
 use Rattle.trails.specs.Places.{SignedPermutation, arranged}
 use Rattle.trails.proofs.Arranged.{map-arranged}
 use Rattle.trails.proofs.Kept.{total-arranged}
 use Rattle.reordering.specs.Reordered.{reordered}
 use Rattle.reordering.specs.Stands.{once, timesAt}
 use Rattle.reordering.specs.Turned.{turnLetters, turnStr}
-use Rattle.reordering.proofs.Reordered.{strings-number, reordered-passes, reordered-strings}
+use Rattle.reordering.proofs.Reordered.{reordered-passes, reordered-strings}
 use Rattle.reordering.proofs.TurnedStrings.{turned-letters, turned-word}
 use Rattle.reordering.proofs.Turning.{length-turned}
 
@@ -182,5 +182,5 @@ module _ (word : List ℕ) where
       let new = reordered-passes k letters ends weights places passes perm in
       by-strings k _ _ _ new
       ∙ (ap (timesAll k) (reordered-strings k letters ends weights places passes perm)
-      ∙ (times-arranged k (length ends) places (strings k letters ends weights) (each-letters (λ b. isLetter b ≡ true) k 0 letters ends weights (collection-good k letters ends weights passes .all-letters)) perm (strings-number k letters ends weights passes)
+      ∙ (times-arranged k (length ends) places (strings k letters ends weights) (each-letters (λ b. isLetter b ≡ true) k 0 letters ends weights (collection-good k letters ends weights passes .all-letters)) perm (strings-count k 0 letters ends weights)
       ∙ sym (by-strings k letters ends weights passes)))

@@ -4,15 +4,14 @@ use mathlib.Core.Path.{_≡_, refl, sym, ap, _∙_}
 use mathlib.Core.List.{List}
 use Prim.Native.Nat.{ℕ, _*_, _≤_}
 use native.Mathlib.Omega.{arith}
-use borrow.Author.Tests.{le-ltb}
 use lib.ListN.{length}
 use Rattle.collection.specs.declared.Verdict.the-variants.{Good}
 use Rattle.collection.specs.Judge.{kmerCount, collectionVerdict, Passes}
 use Rattle.collection.specs.Kmers.{kmers}
-use Rattle.collection.specs.Verdict.{atPlace, roomVerdict}
+use Rattle.collection.specs.Verdict.{atPlace}
 use Rattle.collection.proofs.Judged.{collection-good}
 use Rattle.collection.proofs.Kmers.{kmers-counted}
-use Rattle.collection.proofs.Verdicts.{both-good, room-good, then-good, settled, place-none, place-good, done-by}
+use Rattle.collection.proofs.Verdicts.{both-good, room-good, good-room, then-good, settled, place-none, place-good, done-by}
 use Rattle.collection.specs.Ready.{Ready}
 use Rattle.collection.proofs.Ready.{judged-ready}
 use Rattle.repeats.specs.declared.CheckAnswer.{CheckAnswer}
@@ -53,8 +52,8 @@ module _ (k : ℕ) (letters ends weights : List ℕ) where
       }
 
   check-good : (room : ℕ) → Passes k letters ends weights → 4 * n ≤ room → checkVerdict k letters ends weights room ≡ Good
-  unfolding checkVerdict roomVerdict
-  check-good room p l = then-good (roomVerdict room (4 * n)) p (rw (le-ltb room (4 * n) l))
+  unfolding checkVerdict
+  check-good room p l = then-good _ p (good-room l)
 
   -- ─── success ───────────────────────────────────────────────────────────────
 

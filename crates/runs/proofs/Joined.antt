@@ -1,12 +1,12 @@
 -- How many runs a row of weights has: the sum over its parts, less one where the parts' weights meet equal; and the same turned. Assumes nothing.
 use mathlib.Core.Path.{_≡_, refl, sym, ap, _∙_}
 use mathlib.Core.List.{List, [], _∷_, _++_, reverse, reverse-cons}
-use Prim.Native.Nat.{ℕ, suc, _+_}
+use Prim.Native.Nat.{ℕ, suc, _+_, _≤_}
 use native.Mathlib.Decide.{ℕ-discrete}
 use native.Mathlib.Omega.{arith}
 use lib.ListN.{length}
 use Rattle.lists.specs.Count.{agree}
-use Rattle.lists.proofs.Agree.{agree-same, agree-other, agree-turned}
+use Rattle.lists.proofs.Agree.{agree-same, agree-other, agree-turned, agree-le}
 use Rattle.runs.specs.Joins.{lastWeight}
 use Rattle.runs.specs.Runs.{laterRuns, runs, runCount}
 use Rattle.runs.proofs.Later.{later-nil, later-equal, later-other}
@@ -38,6 +38,12 @@ count-cons w v ws = go (ℕ-discrete v w)
     go : Dec (v ≡ w) → suc (length (laterRuns 1 w (v ∷ ws))) + agree w v ≡ suc (suc (length (laterRuns 1 v ws)))
     go (yes e) = omega (arith, agree-same w v (sym e), ap length (later-equal 1 w v ws e), later-count 2 1 w ws, ap (λ (x : ℕ). length (laterRuns 1 x ws)) e)
     go (no e) = omega (arith, agree-other w v (λ q. e (sym q)), ap length (later-other 1 w v ws e), later-count 2 1 v ws)
+
+-- where there is a weight there is a run
+pub runs-some : (ws : List ℕ) → 1 ≤ length ws → 1 ≤ runCount ws
+runs-some [] h = absurd (omega arith)
+runs-some (w ∷ []) h = omega (arith, count-one w)
+runs-some (w ∷ (v ∷ ws)) h = omega (arith, count-cons w v ws, agree-le w v, runs-some (v ∷ ws) (omega arith))
 
 -- ─── two rows ────────────────────────────────────────────────────────────────
 

@@ -16,9 +16,9 @@ use Rattle.collection.specs.Judge.{kVerdict, shapeVerdict, collectionVerdict, P
 use Rattle.faults.specs.Faults.{isWeight}
 use Rattle.collection.specs.Strings.{Str, strings, lettersIn, weightsIn, endsIn}
 use Rattle.collection.specs.Verdict.{settle}
-use Rattle.collection.proofs.Judged.{collection-good}
+use Rattle.collection.proofs.Judged.{collection-good, good-size}
 use Rattle.collection.proofs.Strings.{Whole, strings-back, strings-letters, strings-ends, strings-weights, strings-whole, each-letters, each-weights, ends-length, tables-pass}
-use Rattle.collection.proofs.Verdicts.{both-good, room-good, then-good, settled}
+use Rattle.collection.proofs.Verdicts.{both-good, room-good, then-good, settled, good-room}
 use Rattle.sheet_text.specs.declared.ReadAnswer.the-variants as read
 use Rattle.sheet_text.specs.declared.WriteAnswer.the-variants as write
 use Rattle.sheet_text.specs.Read.{sheetN, sheetM, sheetWeights, readVerdict, ReadOutcome, readOutcome, readOf}
@@ -26,7 +26,7 @@ use Rattle.sheet_text.specs.Sheet.{sheetK, sheetStrings, Accepted}
 use Rattle.sheet_text.specs.Text.{sheetText, writeText}
 use Rattle.sheet_text.specs.Write.{writeVerdict, WriteOutcome, writeOutcome, writeOf}
 use Rattle.sheet_text.proofs.Accepted.{Holds, sheet-good, accepted-text, accepted-holds}
-use Rattle.sheet_text.proofs.Taken.{Within, good-size, good-room, read-takes, takes-read}
+use Rattle.sheet_text.proofs.Taken.{Within, read-takes, takes-read}
 use Rattle.sheet_text.proofs.Written.{text-k, text-strings, text-accepted}
 
 -- ─── what a filled READ leaves ───────────────────────────────────────────────

@@ -1,15 +1,12 @@
 -- READ takes exactly the accepted sheets within the limits. Assumes nothing.
-use mathlib.Core.Path.{_≡_, ap}
+use mathlib.Core.Path.{_≡_}
 use mathlib.Core.List.{List}
 use Prim.Native.Nat.{ℕ, _≤_}
-use borrow.Author.Tests.{le-leb, le-ltb}
-use Rattle.lists.specs.Choose.{choose}
-use Rattle.lists.proofs.Every.{and-both}
-use Rattle.collection.specs.declared.Verdict.the-variants.{Good, Bad}
+use Rattle.collection.specs.declared.Verdict.the-variants.{Good}
+use Rattle.collection.proofs.Judged.{good-size, size-good}
+use Rattle.collection.proofs.Verdicts.{good-room, both-good, room-good, then-good}
 use Rattle.collection.specs.Judge.{sizeVerdict}
 use Rattle.collection.specs.Verdict.{roomVerdict}
-use Rattle.collection.proofs.Judged.{size-good}
-use Rattle.collection.proofs.Verdicts.{both-good, room-good, then-good}
 use Rattle.sheet_text.specs.Read.{sheetN, sheetM, sheetWeights, tablesVerdict, readVerdict}
 use Rattle.sheet_text.specs.Sheet.{sheetVerdict, Accepted}
 
@@ -20,16 +17,6 @@ pub record Within (bs : List ℕ) (letters ends weights : ℕ) : Type 0 where
   pub letters-room : sheetN bs ≤ letters
   pub ends-room : sheetM bs ≤ ends
   pub weights-room : sheetWeights bs ≤ weights
-
--- within the limits nothing is refused by 3
-pub good-size : {N m : ℕ} → N ≤ 1048576 → m ≤ 65536 → sizeVerdict N m ≡ Good
-unfolding sizeVerdict
-good-size {N} {m} a b = ap (λ t. choose t Good (Bad 3 0)) (and-both (le-leb N 1048576 a) (le-leb m 65536 b))
-
--- nor by 1 where there is room
-pub good-room : {have need : ℕ} → need ≤ have → roomVerdict have need ≡ Good
-unfolding roomVerdict
-good-room {have} {need} h = ap (λ t. choose t (Bad 1 0) Good) (le-ltb have need h)
 
 -- what READ takes is an accepted sheet within the limits
 pub read-takes : (bs : List ℕ) (letters ends weights : ℕ) → readVerdict bs letters ends weights ≡ Good → Accepted bs × Within bs letters ends weights

@@ -13,7 +13,7 @@ use Rattle.collection.specs.Verdict.{atPlace, settle}
 use Rattle.collection.proofs.Judged.{Judged, collection-good, shape-long}
 use Rattle.collection.proofs.Kmers.{kmers-counted}
 use Rattle.collection.proofs.Verdicts.{then-good, settled}
-use Rattle.sheet_text.proofs.Taken.{good-room}
+use Rattle.collection.proofs.Verdicts.{good-room}
 use Rattle.repeats.specs.declared.CheckAnswer.{CheckAnswer}
 use Rattle.repeats.specs.declared.CheckAnswer.the-variants as check
 use Rattle.repeats.specs.Check.{firstRepeat, checkVerdict, checkOf, Outcome, outcome}

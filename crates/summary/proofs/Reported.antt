@@ -10,7 +10,7 @@ use Rattle.collection.specs.declared.Verdict.{Verdict}
 use Rattle.collection.specs.declared.Verdict.the-variants.{Good, Bad}
 use Rattle.collection.specs.Verdict.{settle, roomVerdict}
 use Rattle.collection.proofs.Verdicts.{room-good, settled}
-use Rattle.sheet_text.proofs.Taken.{good-room}
+use Rattle.collection.proofs.Verdicts.{good-room}
 use Rattle.summary_text.specs.declared.ReportAnswer.{ReportAnswer}
 use Rattle.summary_text.specs.declared.ReportAnswer.the-variants.{Written, Refused}
 use Rattle.summary_text.specs.Written.{Outcome, outcome, writtenOf}

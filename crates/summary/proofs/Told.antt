@@ -20,7 +20,8 @@ use Rattle.sheet_text.specs.declared.ReadAnswer.the-variants as read
 use Rattle.sheet_text.specs.Read.{sheetN, sheetM, sheetWeights, tablesVerdict, readVerdict, ReadOutcome, readOutcome, readOf}
 use Rattle.sheet_text.specs.Sheet.{sheetK, sheetStrings, sheetVerdict, Accepted}
 use Rattle.sheet_text.proofs.Calls.{ReadDone, read-done, read-passes}
-use Rattle.sheet_text.proofs.Taken.{good-room, takes-read}
+use Rattle.collection.proofs.Verdicts.{good-room}
+use Rattle.sheet_text.proofs.Taken.{takes-read}
 use Rattle.summary_text.specs.declared.Summary.{Summary}
 use Rattle.summary_text.specs.declared.Summary.the-variants.{Refused}
 use Rattle.summary.specs.Inner.{Ample}

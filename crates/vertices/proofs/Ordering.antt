@@ -48,7 +48,7 @@ keys-low k ends ws s = ends-low k 0 ends ws (weight-low ws (s .in-range))
 
 -- ─── the writes ──────────────────────────────────────────────────────────────
 
-ladder-count : (i n : ℕ) → ladder i 1 n ≡ countFrom i n
+pub ladder-count : (i n : ℕ) → ladder i 1 n ≡ countFrom i n
 unfolding ladder countFrom
 ladder-count i zero = refl
 ladder-count i (suc n) = let e : i + 1 ≡ suc i = omega arith in ap (λ (l : List ℕ). i ∷ l) (ap (λ (j : ℕ). ladder j 1 n) e ∙ ladder-count (suc i) n)

@@ -1,6 +1,7 @@
 -- Laws of rolling codes: over a list xs of letters' codes, the code of the k letters from a on gives that of the k letters from a + 1 on.
 -- Assumes nothing.
-use mathlib.Core.Path.{_≡_, refl, sym, ap, ap₂, _∙_}
+use mathlib.Core.Path.{_≡_, refl, sym, ap, ap₂, _∙_, subst}
+use mathlib.Core.Bool.{true}
 use mathlib.Core.List.{List, [], _∷_, _++_, map}
 use Prim.Native.Nat.{ℕ, zero, suc, _+_, _-_, _*_, _/_, _%_, _^_, _≤_, _<_}
 use native.Mathlib.Omega.{arith}
@@ -12,12 +13,15 @@ use lib.Dec.{lit<, lit≤}
 use lib.ListN.{length, getD, take, drop, length-drop, length-map}
 use lib.Pow.{shl-exact}
 use lib.Seq.{take-suc, drop-cons, getD-drop, length-take-le}
+use Rattle.lists.specs.Every.{All}
+use Rattle.lists.proofs.Cuts.{map-cut}
 use Rattle.lists.proofs.Every.{all-take, all-drop, all-at}
-use Rattle.alphabet.specs.Letter.{letter, twoBits, paired}
+use Rattle.alphabet.specs.Letter.{isLetter, letter, twoBits, paired}
 use Rattle.words.specs.Word.{Letters, code, turn, spell, wordAt}
 use Rattle.words.specs.Turned.{rolled, rolledTurned}
 use Rattle.words.proofs.Codes.{code-snoc, code-cons, code-lt, code-room}
 use Rattle.alphabet.proofs.Letters.{bits-lt}
+use Rattle.words.proofs.Spelled.{spell-letters}
 use Rattle.words.proofs.Turning.{turn-cons, turn-snoc, length-turn}
 
 -- ─── a word without its first letter, with one more behind ───────────────────
@@ -85,17 +89,15 @@ module _ (xs : List ℕ) where
 
 -- the word at a position is a part of the word that all letters spell
 pub word-part : (k : ℕ) (letters : List ℕ) (a : ℕ) → wordAt k letters a ≡ take k (drop a (spell letters))
-word-part k letters a = map-take letter k (drop a letters) ∙ ap (take k) (map-drop letter a letters)
-  where
-    map-take : (f : ℕ → ℕ) (n : ℕ) (xs : List ℕ) → map f (take n xs) ≡ take n (map f xs)
-    map-take f zero xs = refl
-    map-take f (suc n) [] = refl
-    map-take f (suc n) (x ∷ xs) = ap (λ (l : List ℕ). f x ∷ l) (map-take f n xs)
+word-part k letters a = map-cut letter k a letters
 
-    map-drop : (f : ℕ → ℕ) (n : ℕ) (xs : List ℕ) → map f (drop n xs) ≡ drop n (map f xs)
-    map-drop f zero xs = refl
-    map-drop f (suc n) [] = refl
-    map-drop f (suc n) (x ∷ xs) = map-drop f n xs
+-- it has k letters
+pub length-word : (k : ℕ) (letters : List ℕ) (a : ℕ) → a + k ≤ length letters → length (wordAt k letters a) ≡ k
+length-word k letters a l = ap length (word-part k letters a) ∙ length-at (spell letters) k a (omega (arith, length-map letters letter))
+
+-- and each is the code of a letter, where the bytes are letters
+pub letters-word : (k : ℕ) (letters : List ℕ) (a : ℕ) → All (λ b. isLetter b ≡ true) letters → Letters (wordAt k letters a)
+letters-word k letters a good = subst Letters (sym (word-part k letters a)) (letters-at (spell letters) (spell-letters letters good) k a)
 
 -- ─── masks and shifts ────────────────────────────────────────────────────────
 
