@@ -1,4 +1,4 @@
--- What the search for a handle's string finds.
+-- Inner: what the search for a handle's string finds.
 use mathlib.Core.List.{List}
 use Prim.Native.Nat.{ℕ, _+_, _≤_, _<_}
 use lib.ListN.{length, take}

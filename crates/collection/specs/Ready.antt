@@ -1,4 +1,4 @@
--- What inner functions ask of judged ends and letters.
+-- Inner: what functions ask of judged ends and letters.
 use mathlib.Core.Bool.{true}
 use mathlib.Core.Path.{_≡_}
 use mathlib.Core.List.{List}

@@ -1,4 +1,4 @@
--- What only the contracts of the counting functions cite: R from ends and weights alone, and what these functions ask.
+-- Inner: R from ends and weights alone, and what the counting functions ask.
 use mathlib.Core.Bool.{true}
 use mathlib.Core.List.{List, [], _∷_}
 use mathlib.Core.Path.{_≡_}

@@ -1,4 +1,4 @@
--- For the contracts of inner functions: stretches as four tables hold them, which are first handles, positions, numbers of k-mers, and minimizers.
+-- Inner: stretches as four tables hold them, which are first handles, positions, numbers of k-mers, and minimizers.
 use mathlib.Core.Path.{_≡_}
 use mathlib.Core.List.{List, map}
 use Prim.Native.Nat.{ℕ, _+_, _≤_}

@@ -1,4 +1,4 @@
--- For the contracts of inner functions: the answer where no word repeats, what 2 to 6 and 1 leave to do, and what that comes to.
+-- Inner: the answer where no word repeats, what 2 to 6 and 1 leave to do, and what that comes to.
 use mathlib.Core.Path.{_≡_}
 use mathlib.Core.List.{List}
 use Prim.Native.Nat.{ℕ, _+_, _*_, _^_, _≤_}

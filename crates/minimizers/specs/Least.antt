@@ -1,4 +1,4 @@
--- For the contracts of inner functions: the minimizer of a word that is given by its code.
+-- Inner: the minimizer of a word that is given by its code.
 use Prim.Native.Nat.{ℕ, zero, suc, _/_, _%_, _^_, min}
 
 -- A piece of a code c is p letters of it. Of the n + 1 pieces in the last n + p letters, the smallest.

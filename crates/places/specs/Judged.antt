@@ -1,4 +1,4 @@
--- What judging the places gives: the verdict, and in work, where it is good, the string of each place.
+-- Inner: what judging the places gives: the verdict, and in work, where it is good, the string of each place.
 use mathlib.Core.Path.{_≡_}
 use mathlib.Core.List.{List, map}
 use Prim.Native.Nat.{ℕ}

@@ -1,4 +1,4 @@
--- What the work table holds while places are judged.
+-- Inner: what the work table holds while places are judged.
 use mathlib.Core.Path.{_≡_}
 use mathlib.Core.List.{List, [], map}
 use Prim.Native.Nat.{ℕ, suc, _<_}

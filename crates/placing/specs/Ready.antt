@@ -1,4 +1,4 @@
--- What the inner function asks that judges the places and writes the strings.
+-- Inner: what the function asks that judges the places and writes the strings.
 use mathlib.Core.List.{List}
 use Prim.Native.Nat.{ℕ, _≤_}
 use lib.ListN.{length}

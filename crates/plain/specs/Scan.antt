@@ -1,4 +1,4 @@
--- The pass over the k-mers that the inner functions make for PLAIN.
+-- Inner: the pass over the k-mers that PLAIN makes.
 use mathlib.Core.Bool.{Bool, _&&_}
 use mathlib.Core.List.{List, [], _∷_}
 use Prim.Native.Nat.{ℕ, suc}

@@ -1,4 +1,4 @@
--- For the contracts of inner functions: a question by codes. A word and its reverse complement, each with its code and its minimizer.
+-- Inner: a question by codes. A word and its reverse complement, each with its code and its minimizer.
 use mathlib.Core.List.{List}
 use Prim.Native.Nat.{ℕ}
 use Rattle.words.specs.Word.{code, turn}

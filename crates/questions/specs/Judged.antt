@@ -1,4 +1,4 @@
--- For the contracts of inner functions: what asking wants of a question.
+-- Inner: what asking wants of a question.
 use mathlib.Core.List.{List}
 use Prim.Native.Nat.{ℕ, _^_, _<_, _≤_}
 use lib.ListN.{length}

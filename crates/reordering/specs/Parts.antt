@@ -1,4 +1,4 @@
--- Where a string of a collection stands in its tables.
+-- Inner: where a string of a collection stands in its tables.
 use mathlib.Core.Path.{_≡_}
 use mathlib.Core.List.{List}
 use Prim.Native.Nat.{ℕ, _+_, _-_, _*_}

@@ -1,4 +1,4 @@
--- What the inner functions ask that write all strings.
+-- Inner: what the functions ask that write all strings.
 use mathlib.Core.List.{List, map}
 use Prim.Native.Nat.{ℕ, _≤_}
 use lib.IntN.{ℤ, natAbs}

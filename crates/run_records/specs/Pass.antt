@@ -1,4 +1,4 @@
--- The one pass over a list of records: what is known before any, after one more, and what is answered after all.
+-- Inner: the one pass over a list of records: what is known before any, after one more, and what is answered after all.
 use mathlib.Core.Bool.{Bool, true, false, _&&_, _||_}
 use mathlib.Core.List.{List, [], _∷_}
 use Prim.Native.Nat.{ℕ}

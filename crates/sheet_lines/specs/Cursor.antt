@@ -1,4 +1,4 @@
--- What the steps of READ find at a place of a sheet, for the contracts of these steps alone: READ's promise (`sheet_text`, specs/Read) cites nothing of
+-- Inner: what the steps of READ find at a place of a sheet. READ's promise (`sheet_text`, specs/Read) cites nothing of
 -- this. Each is said by the sheet's parts: the line is what stands up to the next line feed, the field what stands in it up to the next tab.
 use Prim.Native.Nat.{ℕ, suc, _+_}
 use mathlib.Core.Bool.{Bool, true, false, _&&_}

@@ -11,7 +11,7 @@ use Rattle.collection.specs.declared.Verdict.{Verdict}
 use Rattle.collection.specs.declared.Verdict.the-variants.{Good, Bad}
 use Rattle.collection.specs.Strings.{Str, lettersIn, endsIn, weightsIn}
 use Rattle.collection.specs.Verdict.{settle}
-use Rattle.collection.proofs.Verdicts.{both-good, test-good, then-bad, then-good, refused, settled}
+use Rattle.collection.proofs.Verdicts.{both-good, test-good, then-bad, then-good, refused, settled, done-by}
 use Rattle.sheet_text.specs.declared.ReadAnswer.the-variants as answer
 use Rattle.sheet_text.specs.Parts.{upTo, later, feed}
 use Rattle.sheet_text.specs.Read.{sheetN, sheetM, sheetWeights, tablesVerdict, readVerdict, readOutcome, readOf}
@@ -38,12 +38,9 @@ module _ (s : List ℕ) (v : Verdict) where
       go (Bad n p) e q = let a : n ≡ number = cc in let b : p ≡ place = cc in e ∙ (λ i. Bad (a i) (b i))
 
   was-good : {k next n m w : ℕ} → settle v judged.Bad (held s) ≡ judged.Good k next n m w → (v ≡ Good) × (held s ≡ judged.Good k next n m w)
-  unfolding settle
-  was-good {k} {next} {n} {m} {w} h = go v refl h
-    where
-      go : (x : Verdict) → v ≡ x → settle x judged.Bad (held s) ≡ judged.Good k next n m w → (v ≡ Good) × (held s ≡ judged.Good k next n m w)
-      go Good e q = (e, q)
-      go (Bad a b) e q = let z : _≡_ {A = ℕ} 0 1 = cc in absurd (omega arith)
+  was-good {k} {next} {n} {m} {w} h =
+      let a = done-by (λ (j : Judged). j) v judged.Bad (held s) (judged.Good k next n m w) (λ number place q. let z : _≡_ {A = ℕ} 0 1 = cc in let y : ⊥ = omega arith in y) h in
+      (a .0, a .2)
 
 -- what the lines hold, and where line 2 starts
 record Holding (s : List ℕ) (k next n m w : ℕ) : Type 0 where

@@ -1,4 +1,4 @@
--- What the inner functions of READ that fill the tables ask: judged lines, and room for what they hold.
+-- Inner: what the functions of READ that fill the tables ask: judged lines, and room for what they hold.
 use Prim.Native.Nat.{ℕ, _≤_}
 use mathlib.Core.Path.{_≡_}
 use mathlib.Core.List.{List}

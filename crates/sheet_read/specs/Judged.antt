@@ -1,4 +1,4 @@
--- A sheet judged, for the inner functions of READ: what it holds, or its first refusal.
+-- Inner: a sheet judged: what it holds, or its first refusal.
 use mathlib.Core.List.{List}
 use Prim.Native.Nat.{ℕ, _+_}
 use lib.ListN.{length}

@@ -10,15 +10,13 @@ use Rattle.lists.specs.Every.{All}
 use Rattle.lists.specs.Fill.{fill}
 use Rattle.lists.proofs.Every.{every-all, all-every, all-map}
 use Rattle.alphabet.specs.Letter.{isLetter}
-use Rattle.collection.specs.declared.Verdict.{Verdict}
-use Rattle.collection.specs.declared.Verdict.the-variants.{Good, Bad}
+use Rattle.collection.specs.declared.Verdict.the-variants.{Good}
 use Rattle.collection.specs.Judge.{kVerdict, shapeVerdict, collectionVerdict, Passes}
 use Rattle.faults.specs.Faults.{isWeight}
 use Rattle.collection.specs.Strings.{Str, strings, lettersIn, weightsIn, endsIn}
-use Rattle.collection.specs.Verdict.{settle}
 use Rattle.collection.proofs.Judged.{collection-good, good-size}
 use Rattle.collection.proofs.Strings.{Whole, strings-back, strings-letters, strings-ends, strings-weights, strings-whole, each-letters, each-weights, ends-length, tables-pass}
-use Rattle.collection.proofs.Verdicts.{both-good, room-good, then-good, settled, good-room}
+use Rattle.collection.proofs.Verdicts.{both-good, room-good, then-good, settled, good-room, done-by}
 use Rattle.sheet_text.specs.declared.ReadAnswer.the-variants as read
 use Rattle.sheet_text.specs.declared.WriteAnswer.the-variants as write
 use Rattle.sheet_text.specs.Read.{sheetN, sheetM, sheetWeights, readVerdict, ReadOutcome, readOutcome, readOf}
@@ -51,14 +49,8 @@ module _ (bs letters ends weights : List ℕ) where
   read-good h = sym (settled _ refl h)
 
   filled-good : (k a b c : ℕ) → (readOf bs letters ends weights) .answer ≡ read.Filled k a b c → readVerdict bs (length letters) (length ends) (length weights) ≡ Good
-  unfolding readOf settle readDone
-  filled-good k a b c e = go (readVerdict bs (length letters) (length ends) (length weights)) refl e
-    where
-      go : (v : Verdict) → readVerdict bs (length letters) (length ends) (length weights) ≡ v
-          → (settle v (λ number place. readOutcome (read.Refused number place) letters ends weights) readDone) .answer ≡ read.Filled k a b c
-          → readVerdict bs (length letters) (length ends) (length weights) ≡ Good
-      go Good h q = h
-      go (Bad number place) h q = let z : _≡_ {A = ℕ} 0 1 = cc in absurd (omega arith)
+  unfolding readOf
+  filled-good k a b c e = done-by (λ (o : ReadOutcome). o .answer) _ _ _ (read.Filled k a b c) (λ number place q. let z : _≡_ {A = ℕ} 0 1 = cc in let y : ⊥ = omega arith in y) e .0
 
   -- where READ answers `Filled`, it took the sheet, and its tables start with what the sheet means
   pub read-done : (k a b c : ℕ) → (readOf bs letters ends weights) .answer ≡ read.Filled k a b c → ReadDone bs letters ends weights k a b c
@@ -128,14 +120,8 @@ module _ (bs letters ends weights : List ℕ) (k a b c : ℕ) (e : (readOf bs le
 
 module _ (k : ℕ) (letters ends weights sheet : List ℕ) (n : ℕ) (e : (writeOf k letters ends weights sheet) .answer ≡ write.Written n) where
   written-good : writeVerdict k letters ends weights (length sheet) ≡ Good
-  unfolding writeOf settle
-  written-good = go (writeVerdict k letters ends weights (length sheet)) refl e
-    where
-      go : (v : Verdict) → writeVerdict k letters ends weights (length sheet) ≡ v
-          → (settle v (λ number place. writeOutcome (write.Refused number place) sheet) (writeOutcome (write.Written (length (writeText k letters ends weights))) (fill (writeText k letters ends weights) sheet))) .answer ≡ write.Written n
-          → writeVerdict k letters ends weights (length sheet) ≡ Good
-      go Good h q = h
-      go (Bad number place) h q = let z : _≡_ {A = ℕ} 0 1 = cc in absurd (omega arith)
+  unfolding writeOf
+  written-good = done-by (λ (o : WriteOutcome). o .answer) _ _ _ (write.Written n) (λ number place q. let z : _≡_ {A = ℕ} 0 1 = cc in let y : ⊥ = omega arith in y) e .0
 
   -- what was written passes 2 to 6
   pub written-passes : Passes k letters ends weights

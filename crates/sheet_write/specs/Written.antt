@@ -1,4 +1,4 @@
--- What the inner functions of WRITE store: lines with their line feeds. WRITE's promise (`sheet_text`, specs/Write) cites nothing of this.
+-- Inner: what the functions of WRITE store: lines with their line feeds. WRITE's promise (`sheet_text`, specs/Write) cites nothing of this.
 use mathlib.Core.List.{List, [], _∷_, _++_}
 use mathlib.Core.Path.{_≡_}
 use Prim.Native.Nat.{ℕ, _+_, _-_}

@@ -1,4 +1,4 @@
--- What only the contracts of inner functions cite: the numbers as they are counted, and tables that hold every sheet.
+-- Inner: the numbers as they are counted, and tables that hold every sheet.
 use mathlib.Core.List.{List}
 use Prim.Native.Nat.{ℕ, _+_, _-_, _≤_}
 use lib.ListN.{length}

@@ -1,4 +1,4 @@
--- For the contracts of inner functions: what the walks ask of a judged index.
+-- Inner: what the walks ask of a judged index.
 use mathlib.Core.Bool.{true}
 use mathlib.Core.Path.{_≡_}
 use Prim.Native.Nat.{ℕ, _+_, _<_, _≤_}
