@@ -35,7 +35,7 @@ pub extern "C" fn corrivume_read(
         return 1;
     }
     let a = sheet_read::read(sheet, letters, ends, weights);
-    let reply = replies::read_reply(a);
+    let reply = replies::inner::read_reply(a);
     replies::inner::tell(answer, reply)
 }
 
@@ -55,7 +55,7 @@ pub extern "C" fn corrivume_write(
         return 1;
     }
     let a = sheet_write::write(k, letters, ends, weights, sheet);
-    let reply = replies::write_reply(a);
+    let reply = replies::inner::write_reply(a);
     replies::inner::tell(answer, reply)
 }
 
@@ -75,7 +75,7 @@ pub extern "C" fn corrivume_check(
         return 1;
     }
     let a = repeats::check(k, letters, ends, weights, work);
-    let reply = replies::check_reply(a);
+    let reply = replies::inner::check_reply(a);
     replies::inner::tell(answer, reply)
 }
 
@@ -96,7 +96,7 @@ pub extern "C" fn corrivume_cover(
         return 1;
     }
     let a = cover::cover(k, letters, ends, weights, places, work);
-    let reply = replies::cover_reply(a);
+    let reply = replies::inner::cover_reply(a);
     replies::inner::tell(answer, reply)
 }
 
@@ -130,7 +130,7 @@ pub extern "C" fn corrivume_apply(
         new_weights,
         work,
     );
-    let reply = replies::apply_reply(a);
+    let reply = replies::inner::apply_reply(a);
     replies::inner::tell(answer, reply)
 }
 
@@ -151,7 +151,7 @@ pub extern "C" fn corrivume_runs(
         return 1;
     }
     let a = runs::runs(k, letters, ends, weights, run_weights, run_firsts);
-    let reply = replies::runs_reply(a);
+    let reply = replies::inner::runs_reply(a);
     replies::inner::tell(answer, reply)
 }
 
@@ -170,7 +170,7 @@ pub extern "C" fn corrivume_weight(
         return 1;
     }
     let a = run_lists::weight(run_weights, run_firsts, n, handle);
-    let reply = replies::weight_reply(a);
+    let reply = replies::inner::weight_reply(a);
     replies::inner::tell(answer, reply)
 }
 
@@ -189,7 +189,7 @@ pub extern "C" fn corrivume_access(
         return 1;
     }
     let a = access::access_at(k, letters, ends, handle);
-    let reply = replies::access_reply(k, a);
+    let reply = replies::inner::access_reply(k, a);
     replies::inner::tell(answer, reply)
 }
 
@@ -209,7 +209,7 @@ pub extern "C" fn corrivume_plain(
         return 1;
     }
     let a = plain::plain(k, letters, ends, weights, word);
-    let reply = replies::plain_reply(a);
+    let reply = replies::inner::plain_reply(a);
     replies::inner::tell(answer, reply)
 }
 
@@ -245,7 +245,7 @@ pub extern "C" fn corrivume_index(
         before,
         work,
     );
-    let reply = replies::index_reply(a);
+    let reply = replies::inner::index_reply(a);
     replies::inner::tell(answer, reply)
 }
 
@@ -268,7 +268,7 @@ pub extern "C" fn corrivume_quick(
         return 1;
     }
     let a = questions::quick(k, p, word, letters, firsts, positions, numbers, before);
-    let reply = replies::quick_reply(a);
+    let reply = replies::inner::quick_reply(a);
     replies::inner::tell(answer, reply)
 }
 
@@ -306,6 +306,6 @@ pub extern "C" fn corrivume_weigh(
         run_firsts,
         n,
     );
-    let reply = replies::weigh_reply(a);
+    let reply = replies::inner::weigh_reply(a);
     replies::inner::tell(answer, reply)
 }

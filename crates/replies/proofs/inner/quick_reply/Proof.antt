@@ -4,8 +4,8 @@ use Prim.Native.Nat.{ℕ}
 use Rattle.replies.specs.declared.Reply.the-variants.{Three}
 use Rattle.replies.specs.Replies.{quickReply}
 use borrow.Author.Needs.{needs}
-use Rattle.replies.proofs.quick_reply.Statement.{statement}
-use Rattle.replies.proofs.quick_reply.Tie as tie
+use Rattle.replies.proofs.inner.quick_reply.Statement.{statement}
+use Rattle.replies.proofs.inner.quick_reply.Tie as tie
 
 enum-known-answer : tie.Need-enum-known-answer
 enum-known-answer c = search needs

@@ -2,8 +2,8 @@
 use mathlib.Core.Path.{sym, ap}
 use Rattle.replies.specs.Replies.{applyReply}
 use borrow.Author.Needs.{needs}
-use Rattle.replies.proofs.apply_reply.Statement.{statement}
-use Rattle.replies.proofs.apply_reply.Tie as tie
+use Rattle.replies.proofs.inner.apply_reply.Statement.{statement}
+use Rattle.replies.proofs.inner.apply_reply.Tie as tie
 
 enum-known-answer : tie.Need-enum-known-answer
 enum-known-answer c = search needs

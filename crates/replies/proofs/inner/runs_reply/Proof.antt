@@ -2,8 +2,8 @@
 use mathlib.Core.Path.{sym, ap}
 use Rattle.replies.specs.Replies.{runsReply}
 use borrow.Author.Needs.{needs}
-use Rattle.replies.proofs.runs_reply.Statement.{statement}
-use Rattle.replies.proofs.runs_reply.Tie as tie
+use Rattle.replies.proofs.inner.runs_reply.Statement.{statement}
+use Rattle.replies.proofs.inner.runs_reply.Tie as tie
 
 enum-known-answer : tie.Need-enum-known-answer
 enum-known-answer c = search needs
