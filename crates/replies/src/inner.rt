@@ -207,9 +207,12 @@ pub fn tell(answer: &mut [u64], reply: Reply) -> u32
     ensures { λ r. ⌜ told r (now (answer .exit)) ≡ toldOf reply (now (answer .entry)) ⌝ }
 {
     match reply {
-        Reply::Refused { number, place } => {
+        Reply::Refused {
+            number: refusal,
+            place,
+        } => {
             answer[0] = place;
-            number
+            refusal
         }
         Reply::One(a) => {
             answer[0] = a;
