@@ -6,10 +6,11 @@ use native.Mathlib.Nat.{add-sub-cancel-left, add-zero, add-comm}
 use native.Mathlib.Omega.{arith}
 use lib.ListN.{length, take, drop}
 use Rattle.words.specs.Word.{spell}
+use Rattle.collection.specs.Collection.{Spelling}
 use Rattle.collection.specs.declared.Verdict.{Verdict}
 use Rattle.collection.specs.declared.Verdict.the-variants.{Good, Bad}
 use Rattle.access.specs.Access.{accessVerdict, accessPart}
-use Rattle.collection.specs.Judge.{shapeVerdict, kmerCount}
+use Rattle.collection.specs.Judge.{shapeVerdict, kmersIn}
 use Rattle.collection.specs.Kmers.{kmers, wordOf}
 use Rattle.collection.specs.Verdict.{settle}
 use Rattle.collection.proofs.Judged.{Shape, shape-good, handle-good}
@@ -17,24 +18,24 @@ use Rattle.collection.proofs.Kmers.{kmers-counted}
 use Rattle.collection.proofs.Verdicts.{both-good, settled}
 
 -- what a call of ACCESS that is not refused may rely on
-pub record Accessed (k : ℕ) (letters ends : List ℕ) (handle : ℕ) : Type 0 where
-  pub shape : Shape k letters ends
+pub record Accessed (t : Spelling) (handle : ℕ) : Type 0 where
+  pub shape : Shape t
   pub low : 1 ≤ handle
-  pub high : handle ≤ length (kmers k ends)
+  pub high : handle ≤ length (kmers t.k t.ends)
 
 -- what passes the verdict of ACCESS
-pub access-good : (k : ℕ) (letters ends : List ℕ) (handle : ℕ) → accessVerdict k letters ends handle ≡ Good → Accessed k letters ends handle
+pub access-good : (t : Spelling) (handle : ℕ) → accessVerdict t handle ≡ Good → Accessed t handle
 unfolding accessVerdict
-access-good k letters ends handle h =
-    let a = both-good (shapeVerdict k letters ends) _ h in
-    let s = shape-good k letters ends (a .0) in
-    let b = handle-good (kmerCount k (length letters) (length ends)) handle (a .1) in
+access-good t handle h =
+    let a = both-good (shapeVerdict t) _ h in
+    let s = shape-good t (a .0) in
+    let b = handle-good (kmersIn t) handle (a .1) in
     record { shape = s; low = b .0; high = omega (arith, kmers-counted s) }
 
 -- each handle's ACCESS is its word
-pub access-word : (k : ℕ) (letters ends : List ℕ) (handle : ℕ) → accessVerdict k letters ends handle ≡ Good → spell (accessPart k letters ends handle) ≡ wordOf k letters ends handle
+pub access-word : (t : Spelling) (handle : ℕ) → accessVerdict t handle ≡ Good → spell (accessPart t handle) ≡ wordOf t handle
 unfolding accessPart
-access-word k letters ends handle h = ap spell (sym (settled (λ number place. _) refl h))
+access-word t handle h = ap spell (sym (settled (λ number place. _) refl h))
 
 -- ─── the part as the code lends it ───────────────────────────────────────────
 

@@ -9,7 +9,7 @@ use lib.ListN.{length, take, drop, getD, length-append, List·getD-append, take-
 use lib.Seq.{getD-append-add, drop-cons, take-suc, take-length}
 use Rattle.lists.specs.Count.{countFrom}
 use Rattle.lists.proofs.Count.{length-count, count-at}
-use Rattle.faults.specs.Faults.{lastEnd}
+use Rattle.collection_faults.specs.Faults.{lastEnd}
 use Rattle.collection.specs.Kmers.{within, kmersFrom, kmers, positionOf}
 use Rattle.collection.specs.Ready.{Long}
 use Rattle.collection.proofs.Kmers.{kmers-split, up-to-count, start-count}

@@ -4,13 +4,14 @@ ghost use mathlib.Core.Path.{_≡_};
 ghost use Prim.Native.Nat.{_+_, _<_, _≤_};
 ghost use lib.ListN.{length, take};
 ghost use Rattle.access.specs.Access.{accessVerdict};
+ghost use Rattle.collection.specs.Collection.{spelling};
 ghost use Rattle.collection.specs.Kmers.{kmers, positionOf};
 ghost use Rattle.collection.specs.Ready.{Long};
 ghost use Rattle.access.specs.Located.{Holds};
 
 // The verdict of ACCESS: 2, 3, 4, then 9.
 pub(crate) fn judge_access(k: usize, letters: &[u8], ends: &[u32], handle: usize) -> Verdict
-    ensures { λ r. ⌜ r ≡ accessVerdict k (now (letters .entry)) (now (ends .entry)) handle ⌝ }
+    ensures { λ r. ⌜ r ≡ accessVerdict (spelling k (now (letters .entry)) (now (ends .entry))) handle ⌝ }
 {
     let a = collection::judge_shape(k, letters, ends);
     let Verdict::Good = a else {

@@ -9,14 +9,14 @@ use Rattle.lists.specs.Choose.{choose}
 use Rattle.lists.specs.Every.{All}
 use Rattle.words.specs.Word.{turn}
 use Rattle.collection.specs.declared.Side.the-variants.{Asked, Turned}
-use Rattle.stretches.specs.Index.{Index, rowOf}
-use Rattle.stretches.specs.Stretches.{Kmer, walk}
-use Rattle.walks.specs.declared.Met.{Met}
-use Rattle.walks.specs.declared.Met.the-variants.{Hit, Miss}
-use Rattle.questions.specs.declared.QuickAnswer.{QuickAnswer}
-use Rattle.questions.specs.declared.QuickAnswer.the-variants.{Found, Absent}
-use Rattle.walks.specs.Walk.{isWord, seek}
-use Rattle.questions.specs.Quick.{metOr, quickFound}
+use Rattle.index_stretches.specs.Index.{Index, rowOf}
+use Rattle.index_stretches.specs.Stretches.{Kmer, walk}
+use Rattle.quick_walks.specs.declared.Met.{Met}
+use Rattle.quick_walks.specs.declared.Met.the-variants.{Hit, Miss}
+use Rattle.quick.specs.declared.QuickAnswer.{QuickAnswer}
+use Rattle.quick.specs.declared.QuickAnswer.the-variants.{Found, Absent}
+use Rattle.quick_walks.specs.Walk.{isWord, seek}
+use Rattle.quick.specs.Quick.{metOr, quickFound}
 
 -- ─── one walk ────────────────────────────────────────────────────────────────
 

@@ -12,6 +12,7 @@ use Rattle.lists.specs.Pick.{pick}
 use Rattle.lists.proofs.Every.{and-both, same-is}
 use Rattle.lists.proofs.Picks.{pick-nil, pick-here, pick-other}
 use Rattle.words.specs.Word.{wordAt, turn}
+use Rattle.collection.specs.Collection.{spelling}
 use Rattle.collection.specs.declared.Side.{Side}
 use Rattle.collection.specs.declared.Side.the-variants.{Asked, Turned}
 use Rattle.collection.specs.declared.Verdict.the-variants.{Good, Bad}
@@ -22,14 +23,14 @@ use Rattle.plain.specs.declared.PlainAnswer.the-variants as plain
 use Rattle.plain.specs.Plain.{lowest, foundOr, plainFound}
 use Rattle.plain.specs.Says.{Says}
 use Rattle.plain.proofs.Found.{plain-says}
-use Rattle.stretches.specs.Index.{Index, indexed, rowOf}
-use Rattle.stretches.specs.Stretches.{Kmer, numbered, walk}
-use Rattle.stretches.proofs.Fits.{tables-fit, row-fits}
-use Rattle.stretches.proofs.Rows.{row-walks}
-use Rattle.questions.specs.declared.QuickAnswer.{QuickAnswer}
-use Rattle.questions.specs.declared.QuickAnswer.the-variants.{Absent}
-use Rattle.walks.specs.Walk.{isWord, seek}
-use Rattle.questions.specs.Quick.{metOr, quickFound, rowsVerdict, indexVerdict}
+use Rattle.index_stretches.specs.Index.{Index, indexed, rowOf}
+use Rattle.index_stretches.specs.Stretches.{Kmer, numbered, walk}
+use Rattle.index_stretches.proofs.Fits.{tables-fit, row-fits}
+use Rattle.index_stretches.proofs.Rows.{row-walks}
+use Rattle.quick.specs.declared.QuickAnswer.{QuickAnswer}
+use Rattle.quick.specs.declared.QuickAnswer.the-variants.{Absent}
+use Rattle.quick_walks.specs.Walk.{isWord, seek}
+use Rattle.quick.specs.Quick.{metOr, quickFound, rowsVerdict, indexVerdict}
 use Rattle.agreement.specs.Agreement.{unnumbered}
 
 -- ─── a row is enough ─────────────────────────────────────────────────────────
@@ -68,25 +69,25 @@ module _ (z : List ℕ → ℕ) (d k : ℕ) (letters ends : List ℕ) where
   index = indexed minimizerOf d k ends
 
   row-first : (side : Side) (next : ℕ → QuickAnswer) (other : PlainAnswer) → ((c : ℕ) → unnumbered (next c) ≡ other)
-      → (c : ℕ) (w : List ℕ) → z w < d → unnumbered (metOr side (seek (isWord k letters w) c (walk (rowOf index (z w)))) next) ≡ foundOr side (lowest k letters ends w) other
+      → (c : ℕ) (w : List ℕ) → z w < d → unnumbered (metOr side (seek (isWord k letters w) c (walk (rowOf index (z w)))) next) ≡ foundOr side (lowest (spelling k letters ends) w) other
   unfolding lowest isWord
   row-first side next other on c w l =
       ap (λ (xs : List Kmer). unnumbered (metOr side (seek (isWord k letters w) c xs) next)) (row-walks minimizerOf d k ends (z w) l)
       ∙ seek-first minimizerOf (z w) (isWord k letters w) (λ a e. ap z (same-is (wordAt k letters a) w e)) side next other on c 0 (kmers k ends)
 
   -- for every collection, every choice z of minimizers below d and every word
-  pub quick-plain : (w : List ℕ) → z w < d → z (turn w) < d → unnumbered (quickFound z k letters (indexed (λ a. z (wordAt k letters a)) d k ends) w) ≡ plainFound k letters ends w
+  pub quick-plain : (w : List ℕ) → z w < d → z (turn w) < d → unnumbered (quickFound z k letters (indexed (λ a. z (wordAt k letters a)) d k ends) w) ≡ plainFound (spelling k letters ends) w
   unfolding quickFound plainFound unnumbered
   quick-plain w l m =
       row-first Asked (λ c. metOr Turned (seek (isWord k letters (turn w)) c (walk (rowOf index (z (turn w))))) Absent)
-      (foundOr Turned (lowest k letters ends (turn w)) plain.Absent) (λ c. row-first Turned Absent plain.Absent (λ n. refl) c (turn w) m) 0 w l
+      (foundOr Turned (lowest (spelling k letters ends) (turn w)) plain.Absent) (λ c. row-first Turned Absent plain.Absent (λ n. refl) c (turn w) m) 0 w l
 
   -- it finds exactly the words that stand in the collection, as asked or turned, with their lowest handles
-  pub quick-says : (w : List ℕ) → z w < d → z (turn w) < d → Says k letters ends w (unnumbered (quickFound z k letters (indexed (λ a. z (wordAt k letters a)) d k ends) w))
-  quick-says w l m = subst (Says k letters ends w) (sym (quick-plain w l m)) (plain-says k letters ends w)
+  pub quick-says : (w : List ℕ) → z w < d → z (turn w) < d → Says (spelling k letters ends) w (unnumbered (quickFound z k letters (indexed (λ a. z (wordAt k letters a)) d k ends) w))
+  quick-says w l m = subst (Says (spelling k letters ends) w) (sym (quick-plain w l m)) (plain-says (spelling k letters ends) w)
 
   -- 10 is never given for the index of a collection whose shape passes
-  pub never-ten : Shape k letters ends → (w : List ℕ) → z w < d → z (turn w) < d → indexVerdict z d k (length letters) (indexed (λ a. z (wordAt k letters a)) d k ends) w ≡ Good
+  pub never-ten : Shape (spelling k letters ends) → (w : List ℕ) → z w < d → z (turn w) < d → indexVerdict z d k (length letters) (indexed (λ a. z (wordAt k letters a)) d k ends) w ≡ Good
   unfolding rowsVerdict
   never-ten s w l m =
       ap (λ (t : Bool). choose t Good (Bad 10 0)) (and-both (tables-fit minimizerOf d s) (and-both (row-fits minimizerOf d s (z w) l) (row-fits minimizerOf d s (z (turn w)) m)))

@@ -1,6 +1,5 @@
 // The four letters: which byte is which, their codes, and their pairs.
 ghost use mathlib.Core.Path.{_≡_};
-ghost use Prim.Native.Nat.{_<_};
 ghost use Rattle.lists.specs.Every.{every};
 ghost use Rattle.alphabet.specs.Letter.{isLetter, capital, twoBits, paired};
 
@@ -31,9 +30,8 @@ pub fn letter_code(b: u8) -> u64
     (((b >> 1) & 3) ^ ((b >> 2) & 1)) as u64
 }
 
-// The capital of a code.
-fn capital_of(x: u64) -> u8
-    requires { ⌜ x < 4 ⌝ }
+// The capital of a code; of a number that is no code, T.
+pub fn capital_of(x: u64) -> u8
     ensures { λ r. ⌜ r ≡ capital x ⌝ }
 {
     if x == 0 {

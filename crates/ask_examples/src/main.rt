@@ -3,8 +3,8 @@
 use collection::Side;
 use index::IndexAnswer;
 use libc::STDOUT_FILENO;
-use questions::QuickAnswer;
-use questions::WordAnswer;
+use quick::QuickAnswer;
+use quick::WordAnswer;
 
 const LETTERS: [u8; 18] = *b"AAACCTGTAGGCTGAGAT";
 
@@ -91,7 +91,7 @@ fn show_weight(asked: &[u8], answer: WordAnswer) {
 
 // Asks a word, with p = 2.
 fn ask_word(word: &[u8], firsts: &[u32], positions: &[u32], numbers: &[u32], before: &[u32]) {
-    let answer = questions::quick(3, 2, word, &LETTERS, firsts, positions, numbers, before);
+    let answer = quick::quick(3, 2, word, &LETTERS, firsts, positions, numbers, before);
     show_quick(word, answer);
 }
 
@@ -104,7 +104,7 @@ fn ask_with(
     numbers: &[u32],
     before: &[u32],
 ) {
-    let answer = questions::quick(3, p, b"CAG", &LETTERS, firsts, positions, numbers, before);
+    let answer = quick::quick(3, p, b"CAG", &LETTERS, firsts, positions, numbers, before);
     show_quick(asked, answer);
 }
 
@@ -128,7 +128,7 @@ fn weigh(
     numbers: &[u32],
     before: &[u32],
 ) {
-    let answer = questions::weigh(
+    let answer = quick::weigh(
         3,
         2,
         word,

@@ -7,7 +7,7 @@ use collection::Verdict;
 use libc::STDOUT_FILENO;
 use plain::PlainAnswer;
 use repeats::CheckAnswer;
-use run_lists::WeightAnswer;
+use weight::WeightAnswer;
 use runs::RunsAnswer;
 
 // The sheet of 01 after the places +1 +4 -3 -2.
@@ -99,7 +99,7 @@ fn runs_all() {
 
 // The weight of a handle in the run list of the sheet, or 100 + number and the place if refused.
 fn show_weight(asked: &[u8], n: usize, handle: usize) {
-    match run_lists::weight(&[2, 5, 3, 7, 2], &[1, 3, 5, 7, 10], n, handle) {
+    match weight::weight(&[2, 5, 3, 7, 2], &[1, 3, 5, 7, 10], n, handle) {
         WeightAnswer::Found { weight } => show(asked, weight as u64, 0),
         WeightAnswer::Refused { number, place } => show(asked, 100 + number as u64, place as u64),
     }

@@ -2,7 +2,7 @@
 use crate::show;
 use crate::show_count;
 use cover::CoverAnswer;
-use placing::ApplyAnswer;
+use apply::ApplyAnswer;
 
 const LETTERS: [u8; 18] = *b"AAACCAGATCAGCCTACA";
 
@@ -24,7 +24,7 @@ fn show_applied(asked: &[u8], places: &[i32]) {
     let mut ends = [0u32; 4];
     let mut weights = [0u32; 10];
     let mut work = [0u32; 4];
-    let answer = placing::apply(
+    let answer = apply::apply(
         3,
         &LETTERS,
         &ENDS,

@@ -13,10 +13,11 @@ use Rattle.lists.specs.Every.{All, every}
 use Rattle.lists.proofs.Every.{and-left, and-right, and-both, all-map}
 use Rattle.lists.proofs.First.{first-none}
 use Rattle.alphabet.specs.Letter.{isLetter}
+use Rattle.collection.specs.Collection.{Spelling, Collection, spellingOf}
 use Rattle.collection.specs.declared.Verdict.the-variants.{Good, Bad}
 use Rattle.collection.specs.Verdict.{atPlace}
-use Rattle.collection.specs.Judge.{kVerdict, sizeVerdict, endsVerdict, shapeVerdict, kmerCount, lettersVerdict, weightsVerdict, collectionVerdict, Passes, handleVerdict, wordVerdict}
-use Rattle.faults.specs.Faults.{firstShort, lastEnd, isWeight}
+use Rattle.collection.specs.Judge.{kVerdict, sizeVerdict, endsVerdict, shapeVerdict, kmersIn, lettersVerdict, weightsVerdict, collectionVerdict, Passes, handleVerdict, wordVerdict}
+use Rattle.collection_faults.specs.Faults.{firstShort, lastEnd, isWeight}
 use Rattle.collection.specs.Ready.{Long}
 use Rattle.collection.proofs.Verdicts.{both-good, test-good, place-good}
 
@@ -71,27 +72,27 @@ ends-good k N ends h =
 -- ─── 2, 3, 4 together ────────────────────────────────────────────────────────
 
 -- the strings have their places
-pub record Shape (k : ℕ) (letters ends : List ℕ) : Type 0 where
-  pub k-low : 3 ≤ k
-  pub k-high : k ≤ 31
-  pub N-high : length letters ≤ 1048576
-  pub m-high : length ends ≤ 65536
-  pub long : firstShort k 0 0 ends ≡ 0
-  pub last : lastEnd 0 ends ≡ length letters
-  pub room : length ends * k ≤ length letters
+pub record Shape (t : Spelling) : Type 0 where
+  pub k-low : 3 ≤ t.k
+  pub k-high : t.k ≤ 31
+  pub N-high : length t.letters ≤ 1048576
+  pub m-high : length t.ends ≤ 65536
+  pub long : firstShort t.k 0 0 t.ends ≡ 0
+  pub last : lastEnd 0 t.ends ≡ length t.letters
+  pub room : length t.ends * t.k ≤ length t.letters
 
 -- what passes 2, 3 and 4
-pub shape-good : (k : ℕ) (letters ends : List ℕ) → shapeVerdict k letters ends ≡ Good → Shape k letters ends
+pub shape-good : (t : Spelling) → shapeVerdict t ≡ Good → Shape t
 unfolding shapeVerdict
-shape-good k letters ends h =
-    let a = both-good (kVerdict k) _ h in
-    let b = both-good (sizeVerdict (length letters) (length ends)) _ (a .1) in
+shape-good t h =
+    let a = both-good (kVerdict t.k) _ h in
+    let b = both-good (sizeVerdict (length t.letters) (length t.ends)) _ (a .1) in
     let s = size-good _ _ (b .0) in
     let e = ends-good _ _ _ (b .1) in
-    let r = ends-room k 0 0 ends (e .0) in
+    let r = ends-room t.k 0 0 t.ends (e .0) in
     record {
-      k-low = k-good k (a .0) .0;
-      k-high = k-good k (a .0) .1;
+      k-low = k-good t.k (a .0) .0;
+      k-high = k-good t.k (a .0) .1;
       N-high = s .0;
       m-high = s .1;
       long = e .0;
@@ -99,7 +100,7 @@ shape-good k letters ends h =
       room = omega arith;
     }
 
-pub shape-long : {k : ℕ} {letters ends : List ℕ} → Shape k letters ends → Long k ends
+pub shape-long : {t : Spelling} → Shape t → Long t.k t.ends
 shape-long s = record { k-low = omega (arith, s .k-low); k-high = s .k-high; few = s .m-high; long = s .long }
 
 -- ─── 5 and 6 ─────────────────────────────────────────────────────────────────
@@ -118,20 +119,20 @@ weights-good n weights h =
     (eqb-true _ _ (a .0), all-map (λ w e. not-false (isWeight w) e) weights (first-none (λ w. not (isWeight w)) weights (place-good 6 _ (a .1))))
 
 -- what a collection that passes 2 to 6 keeps to
-pub record Judged (k : ℕ) (letters ends weights : List ℕ) : Type 0 where
-  pub shape : Shape k letters ends
-  pub all-letters : All (λ b. isLetter b ≡ true) letters
-  pub counted : length weights ≡ kmerCount k (length letters) (length ends)
-  pub all-weights : All (λ w. isWeight w ≡ true) weights
+pub record Judged (c : Collection) : Type 0 where
+  pub shape : Shape (spellingOf c)
+  pub all-letters : All (λ b. isLetter b ≡ true) c.letters
+  pub counted : length c.weights ≡ kmersIn (spellingOf c)
+  pub all-weights : All (λ w. isWeight w ≡ true) c.weights
 
 -- what passes 2 to 6
-pub collection-good : (k : ℕ) (letters ends weights : List ℕ) → Passes k letters ends weights → Judged k letters ends weights
+pub collection-good : (c : Collection) → Passes c → Judged c
 unfolding collectionVerdict
-collection-good k letters ends weights h =
-    let a = both-good (shapeVerdict k letters ends) _ h in
-    let b = both-good (lettersVerdict letters) _ (a .1) in
-    let w = weights-good _ weights (b .1) in
-    record { shape = shape-good k letters ends (a .0); all-letters = letters-good letters (b .0); counted = w .0; all-weights = w .1 }
+collection-good c h =
+    let a = both-good (shapeVerdict (spellingOf c)) _ h in
+    let b = both-good (lettersVerdict c.letters) _ (a .1) in
+    let w = weights-good _ c.weights (b .1) in
+    record { shape = shape-good (spellingOf c) (a .0); all-letters = letters-good c.letters (b .0); counted = w .0; all-weights = w .1 }
 
 -- ─── 9 ───────────────────────────────────────────────────────────────────────
 

@@ -13,8 +13,9 @@ use Rattle.lists.specs.Every.{All}
 use Rattle.lists.proofs.Count.{length-count, all-count}
 use Rattle.lists.proofs.Every.{all-append, all-at}
 use Rattle.lists.proofs.Storing.{drop-next}
-use Rattle.faults.specs.Faults.{firstShort, lastEnd}
-use Rattle.collection.specs.Judge.{kmerCount}
+use Rattle.collection_faults.specs.Faults.{firstShort, lastEnd}
+use Rattle.collection.specs.Collection.{Spelling}
+use Rattle.collection.specs.Judge.{kmersIn}
 use Rattle.collection.specs.Kmers.{within, kmersFrom, kmers, positionOf}
 use Rattle.collection.specs.Ready.{Long}
 use Rattle.collection.proofs.Judged.{long-cons, Shape, ends-room}
@@ -33,8 +34,8 @@ kmers-length k i before (e ∷ ends) k1 h =
     omega (arith, suc-mul (length ends) (k - 1), a .0)
 
 -- n = N - m(k-1) is the number of k-mers of a collection whose strings have their places
-pub kmers-counted : {k : ℕ} {letters ends : List ℕ} → Shape k letters ends → length (kmers k ends) ≡ kmerCount k (length letters) (length ends)
-kmers-counted {k} {letters} {ends} s = omega (arith, kmers-length k 0 0 ends (omega (arith, s .k-low)) (s .long), s .last)
+pub kmers-counted : {t : Spelling} → Shape t → length (kmers t.k t.ends) ≡ kmersIn t
+kmers-counted {t} s = omega (arith, kmers-length t.k 0 0 t.ends (omega (arith, s .k-low)) (s .long), s .last)
 
 -- ─── strings up to the i-th ──────────────────────────────────────────────────
 
@@ -88,9 +89,9 @@ kmers-fit k i before (e ∷ ends) h =
     (kmers-fit k (suc i) e ends (a .1))
 
 -- the k letters of a handle lie within the letters
-pub position-fits : {k : ℕ} {letters ends : List ℕ} → Shape k letters ends → (handle : ℕ) → 1 ≤ handle → handle ≤ length (kmers k ends) → positionOf k ends handle + k ≤ length letters
-position-fits {k} {letters} {ends} s handle h l =
-    omega (arith, all-at (λ a. a + k ≤ lastEnd 0 ends) (kmers k ends) (kmers-fit k 0 0 ends (s .long)) (handle - 1) 0 (omega arith), s .last)
+pub position-fits : {t : Spelling} → Shape t → (handle : ℕ) → 1 ≤ handle → handle ≤ length (kmers t.k t.ends) → positionOf t.k t.ends handle + t.k ≤ length t.letters
+position-fits {t} s handle h l =
+    omega (arith, all-at (λ a. a + t.k ≤ lastEnd 0 t.ends) (kmers t.k t.ends) (kmers-fit t.k 0 0 t.ends (s .long)) (handle - 1) 0 (omega arith), s .last)
 
 -- ─── one string after the other ──────────────────────────────────────────────
 

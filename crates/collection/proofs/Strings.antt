@@ -12,13 +12,14 @@ use Rattle.lists.specs.Choose.{choose}
 use Rattle.lists.specs.Every.{All}
 use Rattle.lists.proofs.Every.{all-append, all-take, all-drop}
 use Rattle.alphabet.specs.Letter.{isLetter}
+use Rattle.collection.specs.Collection.{Collection, spellingOf}
 use Rattle.collection.specs.declared.Verdict.the-variants.{Good, Bad}
-use Rattle.collection.specs.Judge.{kVerdict, sizeVerdict, endsVerdict, shapeVerdict, kmerCount, lettersVerdict, weightsVerdict, collectionVerdict, Passes}
-use Rattle.faults.specs.Faults.{firstShort, lastEnd, isWeight}
+use Rattle.collection.specs.Judge.{kVerdict, sizeVerdict, endsVerdict, shapeVerdict, kmersIn, lettersVerdict, weightsVerdict, collectionVerdict, Passes}
+use Rattle.collection_faults.specs.Faults.{firstShort, lastEnd, isWeight}
 use Rattle.collection.specs.Kmers.{within}
-use Rattle.collection.specs.Strings.{Str, stringsFrom, strings, lettersIn, weightsIn, endsIn}
+use Rattle.collection.specs.Strings.{Str, stringsFrom, strings, lettersIn, weightsIn, endsIn, joined}
 use Rattle.collection.proofs.Judged.{k-good, long-cons, ends-room, Shape}
-use Rattle.faults.proofs.Finding.{every-first}
+use Rattle.collection_faults.proofs.Finding.{every-first}
 use Rattle.collection.proofs.Verdicts.{then-good, place-none}
 
 -- a string of at least k letters, with a weight for each of its k-mers
@@ -48,7 +49,7 @@ strings-back-from k before (s ∷ ss) h =
     ∙ ap (λ (r : List Str). s ∷ r) (strings-back-from k (before + length (s .letters)) ss (h .1))
 
 -- the strings of the tables of strings are those strings
-pub strings-back : (k : ℕ) (ss : List Str) → All (Whole k) ss → strings k (lettersIn ss) (endsIn 0 ss) (weightsIn ss) ≡ ss
+pub strings-back : (k : ℕ) (ss : List Str) → All (Whole k) ss → strings (joined k ss) ≡ ss
 strings-back k ss h = strings-back-from k 0 ss h
 
 -- ─── the shape of the tables of strings ──────────────────────────────────────
@@ -81,7 +82,7 @@ weights-length k (s ∷ ss) l h =
     omega (arith, weights-length k ss l (h .1), h .0 .long, h .0 .counted, suc-mul (length ss) (k - 1), length-append (s .weights) (weightsIn ss), length-append (s .letters) (lettersIn ss))
 
 -- as many weights as k-mers
-pub weights-counted : (k : ℕ) (ss : List Str) → 1 ≤ k → All (Whole k) ss → length (weightsIn ss) ≡ kmerCount k (length (lettersIn ss)) (length (endsIn 0 ss))
+pub weights-counted : (k : ℕ) (ss : List Str) → 1 ≤ k → All (Whole k) ss → length (weightsIn ss) ≡ kmersIn (spellingOf (joined k ss))
 weights-counted k ss l h = omega (arith, weights-length k ss l h, ap (λ (m : ℕ). m * (k - 1)) (ends-length 0 ss))
 
 -- as many strings as ends
@@ -117,7 +118,7 @@ each-weights P k before letters (e ∷ ends) weights h =
 -- the tables of strings pass 2 to 6
 pub tables-pass : (k : ℕ) (ss : List Str) → kVerdict k ≡ Good → sizeVerdict (length (lettersIn ss)) (length ss) ≡ Good
     → All (Whole k) ss → All (λ s. All (λ b. isLetter b ≡ true) (s .letters)) ss → All (λ s. All (λ w. isWeight w ≡ true) (s .weights)) ss
-    → Passes k (lettersIn ss) (endsIn 0 ss) (weightsIn ss)
+    → Passes (joined k ss)
 unfolding collectionVerdict shapeVerdict endsVerdict lettersVerdict weightsVerdict
 tables-pass k ss range size whole letters weights =
     let last : lastEnd 0 (endsIn 0 ss) ≡ length (lettersIn ss) = ends-last 0 ss ∙ omega arith in
@@ -206,28 +207,23 @@ cut-same k i before letters (e ∷ ends) weights h =
     let f = first-cut k i before e letters ends weights h in
     same-next k i before e letters ends weights _ f (cut-same k (suc i) e (drop (e - before) letters) ends (drop (within k before e) weights) (f .left))
 
-module _ {k : ℕ} {letters ends : List ℕ} (weights : List ℕ) (s : Shape k letters ends) (n : length weights ≡ kmerCount k (length letters) (length ends)) where
-  cut : Same k 0 letters ends weights (strings k letters ends weights)
+module _ (c : Collection) (s : Shape (spellingOf c)) (n : length c.weights ≡ kmersIn (spellingOf c)) where
+  cut : Same c.k 0 c.letters c.ends c.weights (strings c)
   cut =
       let low = s .k-low in
       let last = s .last in
-      cut-same k 0 0 letters ends weights
+      cut-same c.k 0 0 c.letters c.ends c.weights
       (record {
         k-low = omega arith;
         long = s .long;
         last = omega arith;
-        counted = omega (arith, ends-room k 0 0 ends (s .long), mul-up (length ends) k (omega arith));
+        counted = omega (arith, ends-room c.k 0 0 c.ends (s .long), mul-up (length c.ends) c.k (omega arith));
       })
 
-  pub strings-letters : lettersIn (strings k letters ends weights) ≡ letters
-  strings-letters = cut .same-letters
-
-  pub strings-ends : endsIn 0 (strings k letters ends weights) ≡ ends
-  strings-ends = cut .same-ends
-
-  pub strings-weights : weightsIn (strings k letters ends weights) ≡ weights
-  strings-weights = cut .same-weights
+  -- the collection of the strings of a collection is that collection
+  pub strings-joined : joined c.k (strings c) ≡ c
+  strings-joined = λ i. record { k = c.k; letters = cut .same-letters i; ends = cut .same-ends i; weights = cut .same-weights i }
 
   -- each string has its letters and its weights
-  pub strings-whole : All (Whole k) (strings k letters ends weights)
+  pub strings-whole : All (Whole c.k) (strings c)
   strings-whole = cut .whole

@@ -9,7 +9,8 @@ use Rattle.lists.specs.Choose.{choose}
 use Rattle.lists.specs.Every.{every}
 use Rattle.lists.specs.First.{firstThat}
 use Rattle.alphabet.specs.Letter.{isLetter}
-use Rattle.faults.specs.Faults.{firstShort, lastEnd, isWeight}
+use Rattle.collection_faults.specs.Faults.{firstShort, lastEnd, isWeight}
+use Rattle.collection.specs.Collection.{Spelling, Collection, spellingOf}
 use Rattle.collection.specs.declared.Verdict.{Verdict}
 use Rattle.collection.specs.declared.Verdict.the-variants.{Good, Bad}
 use Rattle.collection.specs.Verdict.{andThen, atPlace}
@@ -31,12 +32,15 @@ unfoldable pub endsVerdict : ℕ → ℕ → List ℕ → Verdict
 endsVerdict k N ends = andThen (atPlace 4 (firstShort k 0 0 ends)) (choose (eqb (lastEnd 0 ends) N) Good (Bad 4 (length ends + 1)))
 
 -- 2, 3, 4: the strings have their places
-unfoldable pub shapeVerdict : ℕ → List ℕ → List ℕ → Verdict
-shapeVerdict k letters ends = andThen (kVerdict k) (andThen (sizeVerdict (length letters) (length ends)) (endsVerdict k (length letters) ends))
+unfoldable pub shapeVerdict : Spelling → Verdict
+shapeVerdict t = andThen (kVerdict t.k) (andThen (sizeVerdict (length t.letters) (length t.ends)) (endsVerdict t.k (length t.letters) t.ends))
 
 -- n = N - m(k-1): how many k-mers there are
 abbrev pub kmerCount : ℕ → ℕ → ℕ → ℕ
 kmerCount k N m = N - m * (k - 1)
+
+abbrev pub kmersIn : Spelling → ℕ
+kmersIn t = kmerCount t.k (length t.letters) (length t.ends)
 
 -- ─── 5 and 6 ─────────────────────────────────────────────────────────────────
 
@@ -49,13 +53,12 @@ unfoldable pub weightsVerdict : ℕ → List ℕ → Verdict
 weightsVerdict n weights = choose (eqb (length weights) n) (atPlace 6 (firstThat (λ w. not (isWeight w)) weights)) (Bad 6 0)
 
 -- 2 to 6
-unfoldable pub collectionVerdict : ℕ → List ℕ → List ℕ → List ℕ → Verdict
-collectionVerdict k letters ends weights =
-    andThen (shapeVerdict k letters ends) (andThen (lettersVerdict letters) (weightsVerdict (kmerCount k (length letters) (length ends)) weights))
+unfoldable pub collectionVerdict : Collection → Verdict
+collectionVerdict c = andThen (shapeVerdict (spellingOf c)) (andThen (lettersVerdict c.letters) (weightsVerdict (kmersIn (spellingOf c)) c.weights))
 
 -- a collection passes 2 to 6
-abbrev pub Passes : ℕ → List ℕ → List ℕ → List ℕ → Type 0
-Passes k letters ends weights = collectionVerdict k letters ends weights ≡ Good
+abbrev pub Passes : Collection → Type 0
+Passes c = collectionVerdict c ≡ Good
 
 -- ─── 9 ───────────────────────────────────────────────────────────────────────
 

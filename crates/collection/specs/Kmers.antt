@@ -6,6 +6,7 @@ use Prim.Native.Nat.{ℕ, _+_, _-_, _<_}
 use lib.ListN.{getD, length}
 use Rattle.lists.specs.Count.{countFrom}
 use Rattle.words.specs.Word.{wordAt, turn}
+use Rattle.collection.specs.Collection.{Spelling}
 
 -- how many k-mers the string from position `before` to its end e has
 abbrev pub within : ℕ → ℕ → ℕ → ℕ
@@ -26,16 +27,16 @@ abbrev pub positionOf : ℕ → List ℕ → ℕ → ℕ
 positionOf k ends handle = getD (kmers k ends) (handle - 1) 0
 
 -- the word of a handle
-abbrev pub wordOf : ℕ → List ℕ → List ℕ → ℕ → List ℕ
-wordOf k letters ends handle = wordAt k letters (positionOf k ends handle)
+abbrev pub wordOf : Spelling → ℕ → List ℕ
+wordOf t handle = wordAt t.k t.letters (positionOf t.k t.ends handle)
 
 -- the weight of a handle
 abbrev pub weightOf : List ℕ → ℕ → ℕ
 weightOf weights handle = getD weights (handle - 1) 0
 
 -- no k-mer equals another's word or reverse complement
-abbrev pub Distinct : ℕ → List ℕ → List ℕ → Type 0
-Distinct k letters ends =
-    (i j : ℕ) → i < length (kmers k ends) → j < length (kmers k ends)
-    → (wordOf k letters ends (i + 1) ≡ wordOf k letters ends (j + 1)) ⊎ (wordOf k letters ends (i + 1) ≡ turn (wordOf k letters ends (j + 1)))
+abbrev pub Distinct : Spelling → Type 0
+Distinct t =
+    (i j : ℕ) → i < length (kmers t.k t.ends) → j < length (kmers t.k t.ends)
+    → (wordOf t (i + 1) ≡ wordOf t (j + 1)) ⊎ (wordOf t (i + 1) ≡ turn (wordOf t (j + 1)))
     → i ≡ j

@@ -1,4 +1,5 @@
 -- What the four tables of a collection mean, and when a call refuses them.
+pub mod Collection
 pub mod Verdict
 pub mod Judge
 pub mod Kmers

@@ -5,8 +5,9 @@ use mathlib.Core.List.{List}
 use Prim.Native.Nat.{ℕ, _≤_}
 use lib.ListN.{length}
 use Rattle.lists.specs.Every.{every}
+use Rattle.collection.specs.Collection.{Spelling}
 use Rattle.alphabet.specs.Letter.{isLetter}
-use Rattle.faults.specs.Faults.{firstShort, lastEnd}
+use Rattle.collection_faults.specs.Faults.{firstShort, lastEnd}
 
 -- no string is shorter than k
 pub record Long (k : ℕ) (ends : List ℕ) : Type 0 where
@@ -16,8 +17,8 @@ pub record Long (k : ℕ) (ends : List ℕ) : Type 0 where
   pub long : firstShort k 0 0 ends ≡ 0
 
 -- judged letters and ends: what a pass over all k-mers goes by
-pub record Ready (k : ℕ) (letters ends : List ℕ) : Type 0 where
-  pub ends-long : Long k ends
-  pub ends-last : lastEnd 0 ends ≡ length letters
-  pub few-letters : length letters ≤ 1048576
-  pub all-letters : every isLetter letters ≡ true
+pub record Ready (t : Spelling) : Type 0 where
+  pub ends-long : Long t.k t.ends
+  pub ends-last : lastEnd 0 t.ends ≡ length t.letters
+  pub few-letters : length t.letters ≤ 1048576
+  pub all-letters : every isLetter t.letters ≡ true

@@ -2,6 +2,7 @@
 use mathlib.Core.List.{List, [], _∷_, _++_}
 use Prim.Native.Nat.{ℕ, _+_, _-_}
 use lib.ListN.{length, take, drop}
+use Rattle.collection.specs.Collection.{Collection, collection}
 use Rattle.collection.specs.Kmers.{within}
 
 -- a string: its letters, and the weights of its k-mers
@@ -17,8 +18,8 @@ stringsFrom k before letters (e ∷ ends) weights =
     ∷ stringsFrom k e (drop (e - before) letters) ends (drop (within k before e) weights)
 
 -- the strings of a collection
-abbrev pub strings : ℕ → List ℕ → List ℕ → List ℕ → List Str
-strings k letters ends weights = stringsFrom k 0 letters ends weights
+abbrev pub strings : Collection → List Str
+strings c = stringsFrom c.k 0 c.letters c.ends c.weights
 
 -- the letters of strings end to end
 unfoldable pub lettersIn : List Str → List ℕ
@@ -34,3 +35,7 @@ weightsIn (s ∷ ss) = s .weights ++ weightsIn ss
 unfoldable pub endsIn : ℕ → List Str → List ℕ
 endsIn before [] = []
 endsIn before (s ∷ ss) = (before + length (s .letters)) ∷ endsIn (before + length (s .letters)) ss
+
+-- the collection of strings
+abbrev pub joined : ℕ → List Str → Collection
+joined k ss = collection k (lettersIn ss) (endsIn 0 ss) (weightsIn ss)

@@ -20,14 +20,14 @@ pub(crate) fn judge_ends(k: usize, letters: usize, ends: &[u32]) -> Verdict
     requires { ⌜ k ≤ 31 ⌝ }
     ensures { λ r. ⌜ r ≡ endsVerdict k letters (now (ends .entry)) ⌝ }
 {
-    let short = faults::inner::first_short(k, ends);
+    let short = collection_faults::inner::first_short(k, ends);
     if short != 0 {
         return Verdict::Bad {
             number: 4,
             place: short,
         };
     }
-    let e = faults::inner::last_end(ends);
+    let e = collection_faults::inner::last_end(ends);
     if e != letters {
         return Verdict::Bad {
             number: 4,
@@ -41,7 +41,7 @@ pub(crate) fn judge_ends(k: usize, letters: usize, ends: &[u32]) -> Verdict
 pub(crate) fn judge_letters(letters: &[u8]) -> Verdict
     ensures { λ r. ⌜ r ≡ lettersVerdict (now (letters .entry)) ⌝ }
 {
-    at_place(5, faults::inner::first_other(letters))
+    at_place(5, collection_faults::inner::first_other(letters))
 }
 
 // 6: not as many weights as k-mers, or one out of range.
@@ -54,5 +54,5 @@ pub(crate) fn judge_weights(n: usize, weights: &[u32]) -> Verdict
             place: 0,
         };
     }
-    at_place(6, faults::inner::first_weight(weights))
+    at_place(6, collection_faults::inner::first_weight(weights))
 }

@@ -4,6 +4,7 @@ pub mod inner;
 mod judging;
 
 ghost use mathlib.Core.Path.{_≡_};
+ghost use Rattle.collection.specs.Collection.{spelling, collection};
 ghost use Rattle.collection.specs.Verdict.{roomVerdict};
 ghost use Rattle.collection.specs.Judge.{kVerdict, sizeVerdict, shapeVerdict, collectionVerdict, handleVerdict, wordVerdict};
 
@@ -53,7 +54,7 @@ pub fn judge_size(letters: usize, strings: usize) -> Verdict
 
 // 2, 3, 4: the strings have their places.
 pub fn judge_shape(k: usize, letters: &[u8], ends: &[u32]) -> Verdict
-    ensures { λ r. ⌜ r ≡ shapeVerdict k (now (letters .entry)) (now (ends .entry)) ⌝ }
+    ensures { λ r. ⌜ r ≡ shapeVerdict (spelling k (now (letters .entry)) (now (ends .entry))) ⌝ }
 {
     let a = judge_k(k);
     let Verdict::Good = a else {
@@ -68,7 +69,7 @@ pub fn judge_shape(k: usize, letters: &[u8], ends: &[u32]) -> Verdict
 
 // 2 to 6, in order.
 pub fn judge_collection(k: usize, letters: &[u8], ends: &[u32], weights: &[u32]) -> Verdict
-    ensures { λ r. ⌜ r ≡ collectionVerdict k (now (letters .entry)) (now (ends .entry)) (now (weights .entry)) ⌝ }
+    ensures { λ r. ⌜ r ≡ collectionVerdict (collection k (now (letters .entry)) (now (ends .entry)) (now (weights .entry))) ⌝ }
 {
     let a = judge_shape(k, letters, ends);
     let Verdict::Good = a else {

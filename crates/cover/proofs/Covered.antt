@@ -8,23 +8,23 @@ use native.Mathlib.Omega.{arith}
 use lib.IntN.{ℤ, pos}
 use lib.ListN.{length, getD, drop, replicate, length-map, length-drop, length-replicate, drop-of-length-le}
 use Rattle.lists.specs.Fill.{fill}
-use Rattle.trails.specs.Groups.{oddWeights, least}
-use Rattle.trails.specs.Paths.{pathCount}
-use Rattle.trails.specs.Places.{signed, SignedPermutation, arranged}
-use Rattle.trails.specs.Renamed.{Renamed}
-use Rattle.trails.specs.Strings.{Ends, turned}
-use Rattle.trails.specs.Hub.{unspoked}
-use Rattle.trails.proofs.Arranged.{marked, marked-permutation, marked-arranged}
-use Rattle.trails.proofs.Amounts.{paths-few, length-spoked}
-use Rattle.trails.proofs.Orders.{length-reordered}
-use Rattle.trails.proofs.Renamed.{renamed-length, renamed-paths, renamed-least}
-use Rattle.trails.proofs.Upper.{toured-reordered, toured-answer, toured-least}
-use Rattle.tours.specs.Layout.{Tables}
-use Rattle.tours.specs.Halves.{near, gone}
-use Rattle.tours.specs.Rows.{Graph}
-use Rattle.tours.specs.States.{along, strings, Done}
-use Rattle.tours.proofs.Halves.{length-numbered}
-use Rattle.tours.proofs.Tours.{hub-fresh}
+use Rattle.cover_trails.specs.Groups.{oddWeights, least}
+use Rattle.cover_trails.specs.Paths.{pathCount}
+use Rattle.cover_trails.specs.Places.{signed, SignedPermutation, arranged}
+use Rattle.cover_trails.specs.Renamed.{Renamed}
+use Rattle.cover_trails.specs.Strings.{Ends, turned}
+use Rattle.cover_trails.specs.Hub.{unspoked}
+use Rattle.cover_trails.proofs.Arranged.{marked, marked-permutation, marked-arranged}
+use Rattle.cover_trails.proofs.Amounts.{paths-few, length-spoked}
+use Rattle.cover_trails.proofs.Orders.{length-reordered}
+use Rattle.cover_trails.proofs.Renamed.{renamed-length, renamed-paths, renamed-least}
+use Rattle.cover_trails.proofs.Upper.{toured-reordered, toured-answer, toured-least}
+use Rattle.cover_tours.specs.Layout.{Tables}
+use Rattle.cover_tours.specs.Halves.{near, gone}
+use Rattle.cover_tours.specs.Rows.{Graph}
+use Rattle.cover_tours.specs.States.{along, strings, Done}
+use Rattle.cover_tours.proofs.Halves.{length-numbered}
+use Rattle.cover_tours.proofs.Tours.{hub-fresh}
 use Rattle.cover.specs.Cover.{Fewest}
 use Rattle.cover.specs.Covering.{placeAll, Covering}
 use Rattle.cover.proofs.PlacedHalves.{marks, marks-placed, length-all, unspoked-marks}

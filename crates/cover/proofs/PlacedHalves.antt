@@ -14,15 +14,15 @@ use Rattle.lists.proofs.Storing.{drop-next}
 use lib.Seq.{getD-set-same, getD-set-other}
 use Rattle.lists.specs.Choose.{choose}
 use Rattle.lists.specs.Count.{agree}
-use Rattle.trails.specs.Counting.{occurs}
-use Rattle.trails.specs.Places.{signed}
-use Rattle.trails.specs.Strings.{Ends, front, back, turned}
-use Rattle.trails.specs.Hub.{unspoked}
-use Rattle.trails.proofs.Arranged.{marked}
+use Rattle.cover_trails.specs.Counting.{occurs}
+use Rattle.cover_trails.specs.Places.{signed}
+use Rattle.cover_trails.specs.Strings.{Ends, front, back, turned}
+use Rattle.cover_trails.specs.Hub.{unspoked}
+use Rattle.cover_trails.proofs.Arranged.{marked}
 use Rattle.lists.proofs.Agree.{agree-same, agree-other, Agreeing, agree-cases}
-use Rattle.tours.specs.Halves.{near, other, gone, numbered}
-use Rattle.tours.specs.States.{numbers}
-use Rattle.tours.proofs.Halves.{near-string, near-hub}
+use Rattle.cover_tours.specs.Halves.{near, other, gone, numbered}
+use Rattle.cover_tours.specs.States.{numbers}
+use Rattle.cover_tours.proofs.Halves.{near-string, near-hub}
 use Rattle.cover.specs.Covering.{counted, placedBy, placeAll}
 
 -- ─── one half ────────────────────────────────────────────────────────────────

@@ -7,6 +7,7 @@ use lib.IntN.{ℤ}
 use lib.ListN.{length, take, drop, replicate, length-replicate}
 use lib.Seq.{length-take-le}
 use Rattle.lists.specs.Fill.{fill}
+use Rattle.collection.specs.Collection.{Collection, collection, spellingOf}
 use Rattle.collection.specs.declared.Verdict.{Verdict}
 use Rattle.collection.specs.declared.Verdict.the-variants.{Good, Bad}
 use Rattle.collection.specs.Judge.{collectionVerdict}
@@ -16,14 +17,14 @@ use Rattle.collection.specs.Verdict.{roomVerdict}
 use Rattle.collection.proofs.Judged.{Judged, collection-good, shape-long}
 use Rattle.collection.proofs.Kmers.{kmers-counted}
 use Rattle.collection.proofs.Verdicts.{both-good, room-good, refused, settled}
-use Rattle.trails.specs.Strings.{Ends}
-use Rattle.trails.specs.Places.{SignedPermutation, arrangedTo}
-use Rattle.trails.proofs.Bounds.{no-strings}
-use Rattle.trails.proofs.Paths.{paths-none}
-use Rattle.tours.specs.Layout.{Fits}
-use Rattle.vertices.specs.EndWeights.{endWeights}
-use Rattle.vertices.specs.Promises.{endsFrom, Strung}
-use Rattle.vertices.proofs.EndWeights.{end-weights}
+use Rattle.cover_trails.specs.Strings.{Ends}
+use Rattle.cover_trails.specs.Places.{SignedPermutation, arrangedTo}
+use Rattle.cover_trails.proofs.Bounds.{no-strings}
+use Rattle.cover_trails.proofs.Paths.{paths-none}
+use Rattle.cover_tours.specs.Layout.{Fits}
+use Rattle.cover_vertices.specs.EndWeights.{endWeights}
+use Rattle.cover_vertices.specs.Promises.{endsFrom, Strung}
+use Rattle.cover_vertices.proofs.EndWeights.{end-weights}
 use Rattle.cover.specs.declared.CoverAnswer.the-variants.{Covered, Refused}
 use Rattle.cover.specs.Cover.{coverVerdict, Fewest, PlacesAfter, CoverOf, Promise}
 use Rattle.cover.specs.Covering.{Covering}
@@ -31,29 +32,29 @@ use Rattle.cover.specs.Covering.{Covering}
 -- ─── what a good verdict tells ───────────────────────────────────────────────
 
 -- the collection passes, and there is room for the places and the work
-pub record Roomy (k : ℕ) (letters ends weights : List ℕ) (places : List ℤ) (work : List ℕ) : Type 0 where
-  pub judged : Judged k letters ends weights
-  pub places-room : length ends ≤ length places
-  pub work-room : 16 * length ends ≤ length work
+pub record Roomy (c : Collection) (places : List ℤ) (work : List ℕ) : Type 0 where
+  pub judged : Judged c
+  pub places-room : length c.ends ≤ length places
+  pub work-room : 16 * length c.ends ≤ length work
 
 -- which a good verdict tells
-pub cover-good : (k : ℕ) (letters ends weights : List ℕ) (places : List ℤ) (work : List ℕ) → coverVerdict k letters ends weights places work ≡ Good → Roomy k letters ends weights places work
+pub cover-good : (c : Collection) (places : List ℤ) (work : List ℕ) → coverVerdict c places work ≡ Good → Roomy c places work
 unfolding coverVerdict
-cover-good k letters ends weights places work h =
-    let a = both-good (collectionVerdict k letters ends weights) _ h in
-    let b = both-good (roomVerdict (length places) (length ends)) _ (a .1) in
+cover-good c places work h =
+    let a = both-good (collectionVerdict c) _ h in
+    let b = both-good (roomVerdict (length places) (length c.ends)) _ (a .1) in
     record {
-      judged = collection-good k letters ends weights (a .0);
-      places-room = room-good (length places) (length ends) (b .0);
-      work-room = room-good (length work) (16 * length ends) (b .1);
+      judged = collection-good c (a .0);
+      places-room = room-good (length places) (length c.ends) (b .0);
+      work-room = room-good (length work) (16 * length c.ends) (b .1);
     }
 
-module _ {k : ℕ} {letters ends weights : List ℕ} {places : List ℤ} {work : List ℕ} (r : Roomy k letters ends weights places work) where
-  counted : length weights ≡ length (kmers k ends)
+module _ {c : Collection} {places : List ℤ} {work : List ℕ} (r : Roomy c places work) where
+  counted : length c.weights ≡ length (kmers c.k c.ends)
   counted = r .judged .counted ∙ sym (kmers-counted (r .judged .shape))
 
   -- what `lay_out` asks
-  pub strung : Strung k ends weights
+  pub strung : Strung c.k c.ends c.weights
   strung = record {
     ends-long = shape-long (r .judged .shape);
     few-letters = omega (arith, r .judged .shape .last, r .judged .shape .N-high);
@@ -62,16 +63,16 @@ module _ {k : ℕ} {letters ends weights : List ℕ} {places : List ℤ} {work :
   }
 
   -- the end weights that are covered are those of the strings
-  pub same-ends : endsFrom k 0 ends weights ≡ endWeights k letters ends weights
-  same-ends = sym (end-weights k letters ends weights (r .judged .shape .long) counted)
+  pub same-ends : endsFrom c.k 0 c.ends c.weights ≡ endWeights c
+  same-ends = sym (end-weights (spellingOf c) c.weights (r .judged .shape .long) counted)
 
   -- the lent part of the work
-  pub work-fits : (length ends ≡ 0 → ⊥) → Fits (length ends) (take (16 * length ends) work)
-  work-fits h = record { some = omega arith; few = r .judged .shape .m-high; size = length-take-le (16 * length ends) work (r .work-room) }
+  pub work-fits : (length c.ends ≡ 0 → ⊥) → Fits (length c.ends) (take (16 * length c.ends) work)
+  work-fits h = record { some = omega arith; few = r .judged .shape .m-high; size = length-take-le (16 * length c.ends) work (r .work-room) }
 
   -- the lent part of the places
-  pub places-fit : length (take (length ends) places) ≡ length ends
-  places-fit = length-take-le (length ends) places (r .places-room)
+  pub places-fit : length (take (length c.ends) places) ≡ length c.ends
+  places-fit = length-take-le (length c.ends) places (r .places-room)
 
 -- ─── the three ends of a call ────────────────────────────────────────────────
 
@@ -106,22 +107,22 @@ fewest-none : Fewest [] []
 unfolding arrangedTo
 fewest-none = record { permutation = nothing-permuted; fewest = paths-none ∙ sym (no-strings .2) }
 
-no-ends : (k : ℕ) (letters ends weights : List ℕ) → length ends ≡ 0 → endWeights k letters ends weights ≡ []
+no-ends : (k : ℕ) (letters ends weights : List ℕ) → length ends ≡ 0 → endWeights (collection k letters ends weights) ≡ []
 unfolding endWeights stringsFrom
 no-ends k letters [] weights e = refl
 no-ends k letters (x ∷ ends) weights e = absurd (omega arith)
 
 -- so the promise is kept with no strings
 pub cover-none : {verdict : Verdict} (k : ℕ) (letters ends weights : List ℕ) {places : List ℤ} {work : List ℕ} → verdict ≡ Good → length ends ≡ 0
-    → CoverOf verdict (endWeights k letters ends weights) (length ends) places work (Covered 0 0) places work
+    → CoverOf verdict (endWeights (collection k letters ends weights)) (length ends) places work (Covered 0 0) places work
 cover-none {verdict} k letters ends weights {places} {work} e z =
-    subst (λ (m : ℕ). CoverOf verdict (endWeights k letters ends weights) m places work (Covered 0 0) places work) (sym z)
+    subst (λ (m : ℕ). CoverOf verdict (endWeights (collection k letters ends weights)) m places work (Covered 0 0) places work) (sym z)
     (subst (λ (L : List Ends). CoverOf verdict L 0 places work (Covered 0 0) places work) (sym (no-ends k letters ends weights z))
     (cover-done e (record { paths = sym (no-strings .2); places-fewest = fewest-none; places-size = refl; work-zero = refl }) refl refl))
 
 -- all strings covered, in parts of the lent tables
-pub cover-all : (k : ℕ) (letters ends weights : List ℕ) (places : List ℤ) (work : List ℕ) → coverVerdict k letters ends weights places work ≡ Good
-    → {qs : List ℤ} {v : List ℕ} {n : ℕ} → Covering (endsFrom k 0 ends weights) (length ends) qs v n
-    → Promise k letters ends weights places work (Covered (length ends) n) (qs ++ drop (length ends) places) (v ++ drop (16 * length ends) work)
-cover-all k letters ends weights places work e {qs} {v} {n} c =
-    cover-done e (subst (λ (L : List Ends). Covering L (length ends) qs v n) (same-ends (cover-good k letters ends weights places work e)) c) refl refl
+pub cover-all : (c : Collection) (places : List ℤ) (work : List ℕ) → coverVerdict c places work ≡ Good
+    → {qs : List ℤ} {v : List ℕ} {n : ℕ} → Covering (endsFrom c.k 0 c.ends c.weights) (length c.ends) qs v n
+    → Promise c places work (Covered (length c.ends) n) (qs ++ drop (length c.ends) places) (v ++ drop (16 * length c.ends) work)
+cover-all c places work e {qs} {v} {n} c₁ =
+    cover-done e (subst (λ (L : List Ends). Covering L (length c.ends) qs v n) (same-ends (cover-good c places work e)) c₁) refl refl

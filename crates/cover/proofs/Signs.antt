@@ -9,7 +9,7 @@ use lib.Signed.{mag}
 use mir.Syntax.{w32}
 use mir.Val.{SFits, toZ, ofZ}
 use mir.ValLaws.{toZ-ofZ, toZ-pos}
-use Rattle.trails.specs.Places.{signed}
+use Rattle.cover_trails.specs.Places.{signed}
 
 negative-mag : (n : ℕ) → n ≤ 1048576 → mag (negℤ (pos n)) < 2147483648
 negative-mag zero h = omega arith

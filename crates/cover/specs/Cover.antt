@@ -5,22 +5,23 @@ use Prim.Native.Nat.{ℕ, _*_}
 use lib.IntN.{ℤ}
 use lib.ListN.{length, replicate}
 use Rattle.lists.specs.Fill.{fill}
+use Rattle.collection.specs.Collection.{Collection}
 use Rattle.collection.specs.declared.Verdict.{Verdict}
 use Rattle.collection.specs.declared.Verdict.the-variants.{Good, Bad}
 use Rattle.collection.specs.Judge.{collectionVerdict}
 use Rattle.collection.specs.Verdict.{andThen, settle, roomVerdict}
-use Rattle.trails.specs.Groups.{least}
-use Rattle.trails.specs.Paths.{pathCount}
-use Rattle.trails.specs.Places.{SignedPermutation, arranged}
-use Rattle.trails.specs.Strings.{Ends, turned}
-use Rattle.vertices.specs.EndWeights.{endWeights}
+use Rattle.cover_trails.specs.Groups.{least}
+use Rattle.cover_trails.specs.Paths.{pathCount}
+use Rattle.cover_trails.specs.Places.{SignedPermutation, arranged}
+use Rattle.cover_trails.specs.Strings.{Ends, turned}
+use Rattle.cover_vertices.specs.EndWeights.{endWeights}
 use Rattle.cover.specs.declared.CoverAnswer.{CoverAnswer}
 use Rattle.cover.specs.declared.CoverAnswer.the-variants.{Covered, Refused}
 
 -- 2 to 6, then 1: m places, and 16m entries to work with
-unfoldable pub coverVerdict : ℕ → List ℕ → List ℕ → List ℕ → List ℤ → List ℕ → Verdict
-coverVerdict k letters ends weights places work =
-    andThen (collectionVerdict k letters ends weights) (andThen (roomVerdict (length places) (length ends)) (roomVerdict (length work) (16 * length ends)))
+unfoldable pub coverVerdict : Collection → List ℤ → List ℕ → Verdict
+coverVerdict c places work =
+    andThen (collectionVerdict c) (andThen (roomVerdict (length places) (length c.ends)) (roomVerdict (length work) (16 * length c.ends)))
 
 -- The places ps are a signed permutation with the least number of paths.
 pub record Fewest (strings : List Ends) (ps : List ℤ) : Type 0 where
@@ -41,6 +42,6 @@ pub record CoverOf (verdict : Verdict) (strings : List Ends) (m : ℕ) (places :
   pub placed : PlacesAfter verdict strings places places'
 
 -- the promise of a call
-abbrev pub Promise : ℕ → List ℕ → List ℕ → List ℕ → List ℤ → List ℕ → CoverAnswer → List ℤ → List ℕ → Type 0
-Promise k letters ends weights places work =
-    CoverOf (coverVerdict k letters ends weights places work) (endWeights k letters ends weights) (length ends) places work
+abbrev pub Promise : Collection → List ℤ → List ℕ → CoverAnswer → List ℤ → List ℕ → Type 0
+Promise c places work =
+    CoverOf (coverVerdict c places work) (endWeights c) (length c.ends) places work

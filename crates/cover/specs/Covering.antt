@@ -6,9 +6,9 @@ use lib.Dec.{eqb, ltb}
 use lib.IntN.{ℤ}
 use lib.ListN.{length, set, replicate}
 use Rattle.lists.specs.Choose.{choose}
-use Rattle.trails.specs.Groups.{least}
-use Rattle.trails.specs.Places.{signed}
-use Rattle.trails.specs.Strings.{Ends}
+use Rattle.cover_trails.specs.Groups.{least}
+use Rattle.cover_trails.specs.Places.{signed}
+use Rattle.cover_trails.specs.Strings.{Ends}
 use Rattle.cover.specs.Cover.{Fewest}
 
 -- n strings have their places, and half c comes next: a half of a string gives it the next place, turned if it is gone along from its back; a spoke gives none.

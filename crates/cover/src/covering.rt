@@ -2,9 +2,9 @@
 ghost use mathlib.Core.Path.{_≡_};
 ghost use Prim.Native.Nat.{_+_, _*_, _≤_, _<_};
 ghost use lib.ListN.{length, drop};
-ghost use Rattle.trails.specs.Places.{signed};
-ghost use Rattle.tours.specs.Layout.{Fits, tables};
-ghost use Rattle.vertices.specs.Promises.{endsFrom, Strung};
+ghost use Rattle.cover_trails.specs.Places.{signed};
+ghost use Rattle.cover_tours.specs.Layout.{Fits, tables};
+ghost use Rattle.cover_vertices.specs.Promises.{endsFrom, Strung};
 ghost use Rattle.cover.specs.Covering.{counted, placedBy, placeAll, Covering};
 
 // A number as an index.
@@ -64,8 +64,8 @@ pub(crate) fn cover_strings(
     ensures { λ r. ⌜ Covering (endsFrom k 0 (now (ends .entry)) (now (weights .entry))) (length (now (ends .entry))) (now (places .exit)) (now (work .exit)) r ⌝ }
 {
     let m = ends.len();
-    vertices::inner::lay_out(k, ends, weights, work);
-    let tour = tours::inner::walk_all(work, m);
+    cover_vertices::inner::lay_out(k, ends, weights, work);
+    let tour = cover_tours::inner::walk_all(work, m);
     let start = tour.start;
     write_places(work, m, start, places);
     collection::inner::zero_first(work, 16 * m);

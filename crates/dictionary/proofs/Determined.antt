@@ -7,30 +7,31 @@ use native.Mathlib.Omega.{arith}
 use lib.IntN.{ℤ}
 use lib.ListN.{length, replicate}
 use Rattle.lists.specs.Fill.{fill}
+use Rattle.collection.specs.Collection.{Collection, spellingOf}
 use Rattle.collection.specs.declared.Verdict.{Verdict}
 use Rattle.collection.specs.declared.Verdict.the-variants.{Good, Bad}
-use Rattle.collection.specs.Judge.{kmerCount}
+use Rattle.collection.specs.Judge.{kmersIn}
 use Rattle.collection.specs.Verdict.{atPlace, settle}
 use Rattle.collection.proofs.Verdicts.{refused-by}
-use Rattle.sheet_text.specs.declared.ReadAnswer.{ReadAnswer}
-use Rattle.sheet_text.specs.declared.ReadAnswer.the-variants as read
-use Rattle.sheet_text.specs.declared.WriteAnswer.{WriteAnswer}
-use Rattle.sheet_text.specs.declared.WriteAnswer.the-variants as write
-use Rattle.sheet_text.specs.Read.{ReadOutcome, readOutcome, readOf}
-use Rattle.sheet_text.specs.Write.{WriteOutcome, writeOutcome, writeOf}
+use Rattle.sheet.specs.declared.ReadAnswer.{ReadAnswer}
+use Rattle.sheet.specs.declared.ReadAnswer.the-variants as read
+use Rattle.sheet.specs.declared.WriteAnswer.{WriteAnswer}
+use Rattle.sheet.specs.declared.WriteAnswer.the-variants as write
+use Rattle.sheet.specs.Read.{ReadOutcome, readOutcome, readOf}
+use Rattle.sheet.specs.Write.{WriteOutcome, writeOutcome, writeOf}
 use Rattle.repeats.specs.declared.CheckAnswer.the-variants as check
 use Rattle.repeats.specs.Check as checking
 use Rattle.repeats.specs.Check.{firstRepeat, checkVerdict, checkOf}
-use Rattle.trails.specs.Strings.{Ends}
-use Rattle.vertices.specs.EndWeights.{endWeights}
+use Rattle.cover_trails.specs.Strings.{Ends}
+use Rattle.cover_vertices.specs.EndWeights.{endWeights}
 use Rattle.cover.specs.declared.CoverAnswer.the-variants as cover
 use Rattle.cover.specs.Cover.{CoverOf, Promise, coverVerdict}
 use Rattle.cover.proofs.Laws.{cover-only}
-use Rattle.placing.specs.declared.ApplyAnswer.{ApplyAnswer}
-use Rattle.placing.specs.declared.ApplyAnswer.the-variants as apply
-use Rattle.placing.specs.Apply as applying
-use Rattle.placing.specs.Apply.{placedOf, applyOf}
-use Rattle.places.specs.Places.{placesVerdict}
+use Rattle.apply.specs.declared.ApplyAnswer.{ApplyAnswer}
+use Rattle.apply.specs.declared.ApplyAnswer.the-variants as apply
+use Rattle.apply.specs.Apply as applying
+use Rattle.apply.specs.Apply.{placedOf, applyOf}
+use Rattle.apply_places.specs.Places.{placesVerdict}
 use Rattle.runs.specs.declared.RunsAnswer.{RunsAnswer}
 use Rattle.runs.specs.declared.RunsAnswer.the-variants as runs
 use Rattle.runs.specs.Calls as listing
@@ -44,22 +45,22 @@ pub one-outcome : OneOutcome
 one-outcome =
     record {
       read = λ sheet letters ends weights a b e f. e ∙ sym f;
-      write = λ k letters ends weights sheet a b e f. e ∙ sym f;
-      check = λ k letters ends weights work a b e f. e ∙ sym f;
-      apply = λ k letters ends weights places letters' ends' weights' work a b e f. e ∙ sym f;
-      runs = λ k letters ends weights runWeights runFirsts a b e f. e ∙ sym f;
-      index = λ k p letters ends weights t a b e f. e ∙ sym f;
-      access = λ k letters ends handle a b e f. e ∙ sym f;
-      access-start = λ k letters ends handle a b e f. e ∙ sym f;
-      access-at = λ k letters ends handle a b e f. e ∙ sym f;
-      access-told = λ k letters ends handle a b e f. e ∙ sym f;
-      plain = λ k letters ends weights word a b e f. e ∙ sym f;
+      write = λ c sheet a b e f. e ∙ sym f;
+      check = λ c work a b e f. e ∙ sym f;
+      apply = λ c places t a b e f. e ∙ sym f;
+      runs = λ c runWeights runFirsts a b e f. e ∙ sym f;
+      index = λ c p t a b e f. e ∙ sym f;
+      access = λ t handle a b e f. e ∙ sym f;
+      access-start = λ t handle a b e f. e ∙ sym f;
+      access-at = λ t handle a b e f. e ∙ sym f;
+      access-told = λ t handle a b e f. e ∙ sym f;
+      plain = λ c word a b e f. e ∙ sym f;
       quick = λ k p word letters t a b e f. e ∙ sym f;
       weigh = λ answer runWeights runFirsts n a b e f. e ∙ sym f;
       weight = λ runWeights runFirsts n handle a b e f. e ∙ sym f;
       weight-records = λ records n handle a b e f. e ∙ sym f;
       report = λ sheet text a b e f. e ∙ sym f;
-      cover = λ k letters ends weights places work a b places₁ places₂ work₁ work₂ p q. cover-only k letters ends weights places work p q;
+      cover = λ c places work a b places₁ places₂ work₁ work₂ p q. cover-only c places work p q;
     }
 
 -- ─── refusals ────────────────────────────────────────────────────────────────
@@ -92,85 +93,85 @@ read-kept sheet letters ends weights number place e =
     let t = refused-by (λ (o : ReadOutcome). o .answer) _ _ _ (read.Refused number place) (λ q. let z : _≡_ {A = ℕ} 0 1 = cc in let y : ⊥ = omega arith in y) e in
     t .2 ∙ ap (λ (r : ReadAnswer). readOutcome r letters ends weights) (t .3)
 
-write-kept : (k : ℕ) (letters ends weights sheet : List ℕ) (number place : ℕ) → writeOf k letters ends weights sheet .answer ≡ write.Refused number place
-    → writeOf k letters ends weights sheet ≡ writeOutcome (write.Refused number place) sheet
+write-kept : (c : Collection) (sheet : List ℕ) (number place : ℕ) → writeOf c sheet .answer ≡ write.Refused number place
+    → writeOf c sheet ≡ writeOutcome (write.Refused number place) sheet
 unfolding writeOf
-write-kept k letters ends weights sheet number place e =
+write-kept c sheet number place e =
     let t = refused-by (λ (o : WriteOutcome). o .answer) _ _ _ (write.Refused number place) (λ q. let z : _≡_ {A = ℕ} 0 1 = cc in let y : ⊥ = omega arith in y) e in
     t .2 ∙ ap (λ (r : WriteAnswer). writeOutcome r sheet) (t .3)
 
-runs-kept : (k : ℕ) (letters ends weights runWeights runFirsts : List ℕ) (number place : ℕ) → runsOf k letters ends weights runWeights runFirsts .answer ≡ runs.Refused number place
-    → runsOf k letters ends weights runWeights runFirsts ≡ listing.outcome (runs.Refused number place) runWeights runFirsts
+runs-kept : (c : Collection) (runWeights runFirsts : List ℕ) (number place : ℕ) → runsOf c runWeights runFirsts .answer ≡ runs.Refused number place
+    → runsOf c runWeights runFirsts ≡ listing.outcome (runs.Refused number place) runWeights runFirsts
 unfolding runsOf
-runs-kept k letters ends weights runWeights runFirsts number place e =
+runs-kept c runWeights runFirsts number place e =
     let t = refused-by (λ (o : listing.Outcome). o .answer) _ _ _ (runs.Refused number place) (λ q. let z : _≡_ {A = ℕ} 0 1 = cc in let y : ⊥ = omega arith in y) e in
     t .2 ∙ ap (λ (r : RunsAnswer). listing.outcome r runWeights runFirsts) (t .3)
 
-check-kept : (k : ℕ) (letters ends weights work : List ℕ) (number place : ℕ) → checkOf k letters ends weights work .answer ≡ check.Refused number place
-    → (checkOf k letters ends weights work .work ≡ work)
-    ⊎ ((number ≡ 7) × (checkOf k letters ends weights work .work ≡ fill (replicate (4 * kmerCount k (length letters) (length ends)) 0) work))
+check-kept : (c : Collection) (work : List ℕ) (number place : ℕ) → checkOf c work .answer ≡ check.Refused number place
+    → (checkOf c work .work ≡ work)
+    ⊎ ((number ≡ 7) × (checkOf c work .work ≡ fill (replicate (4 * kmersIn (spellingOf c)) 0) work))
 unfolding checkOf settle
-check-kept k letters ends weights work number place e = go (checkVerdict k letters ends weights (length work)) e
+check-kept c work number place e = go (checkVerdict c (length work)) e
   where
     n : ℕ
-    n = kmerCount k (length letters) (length ends)
+    n = kmersIn (spellingOf c)
 
     done : checking.Outcome
-    done = checking.outcome (settle (atPlace 7 (firstRepeat k letters ends)) check.Refused (check.Checked n)) (fill (replicate (4 * n) 0) work)
+    done = checking.outcome (settle (atPlace 7 (firstRepeat (spellingOf c))) check.Refused (check.Checked n)) (fill (replicate (4 * n) 0) work)
 
     go : (v : Verdict) → settle v (λ number place. checking.outcome (check.Refused number place) work) done .answer ≡ check.Refused number place
         → (settle v (λ number place. checking.outcome (check.Refused number place) work) done .work ≡ work)
         ⊎ ((number ≡ 7) × (settle v (λ number place. checking.outcome (check.Refused number place) work) done .work ≡ fill (replicate (4 * n) 0) work))
     go (Bad a b) q = inl refl
-    go Good q = inr (seven (refused-seven (firstRepeat k letters ends) check.Refused (check.Checked n)), refl)
+    go Good q = inr (seven (refused-seven (firstRepeat (spellingOf c)) check.Refused (check.Checked n)), refl)
       where
-        seven : ((at : ℕ) × (settle (atPlace 7 (firstRepeat k letters ends)) check.Refused (check.Checked n) ≡ check.Refused 7 at)) ⊎ (settle (atPlace 7 (firstRepeat k letters ends)) check.Refused (check.Checked n) ≡ check.Checked n)
+        seven : ((at : ℕ) × (settle (atPlace 7 (firstRepeat (spellingOf c))) check.Refused (check.Checked n) ≡ check.Refused 7 at)) ⊎ (settle (atPlace 7 (firstRepeat (spellingOf c))) check.Refused (check.Checked n) ≡ check.Checked n)
             → number ≡ 7
-        seven (inl t) = let c : check.Refused number place ≡ check.Refused 7 (t .0) = sym q ∙ t .1 in cc
-        seven (inr t) = let c : check.Refused number place ≡ check.Checked n = sym q ∙ t in let z : _≡_ {A = ℕ} 0 1 = cc in absurd (let y : ⊥ = omega arith in y)
+        seven (inl t) = let c₁ : check.Refused number place ≡ check.Refused 7 (t .0) = sym q ∙ t .1 in cc
+        seven (inr t) = let c₁ : check.Refused number place ≡ check.Checked n = sym q ∙ t in let z : _≡_ {A = ℕ} 0 1 = cc in absurd (let y : ⊥ = omega arith in y)
 
-apply-kept : (k : ℕ) (letters ends weights : List ℕ) (places : List ℤ) (letters' ends' weights' work : List ℕ) (number place : ℕ)
-    → applyOf k letters ends weights places letters' ends' weights' work .answer ≡ apply.Refused number place
-    → (applyOf k letters ends weights places letters' ends' weights' work ≡ applying.outcome (apply.Refused number place) letters' ends' weights' work)
-    ⊎ (applyOf k letters ends weights places letters' ends' weights' work ≡ applying.outcome (apply.Refused number place) letters' ends' weights' (applying.zeroed (length ends) work))
+apply-kept : (c : Collection) (places : List ℤ) (t : applying.Lent) (number place : ℕ)
+    → applyOf c places t .answer ≡ apply.Refused number place
+    → (applyOf c places t ≡ applying.outcome (apply.Refused number place) t)
+    ⊎ (applyOf c places t ≡ applying.outcome (apply.Refused number place) (applying.lent t.letters t.ends t.weights (applying.zeroed (length c.ends) t.work)))
 unfolding applyOf placedOf
-apply-kept k letters ends weights places letters' ends' weights' work number place e =
+apply-kept c places t number place e =
     go (refused-twice (λ (o : applying.Outcome). o .answer) _ _ _ _ _ (apply.Refused number place) (λ q. let z : _≡_ {A = ℕ} 0 1 = cc in let y : ⊥ = omega arith in y) e)
   where
-    go : ((a : ℕ) × (b : ℕ) × (applyOf k letters ends weights places letters' ends' weights' work ≡ applying.outcome (apply.Refused a b) letters' ends' weights' work) × (apply.Refused a b ≡ apply.Refused number place))
-        ⊎ ((a : ℕ) × (b : ℕ) × (applyOf k letters ends weights places letters' ends' weights' work ≡ applying.outcome (apply.Refused a b) letters' ends' weights' (applying.zeroed (length ends) work)) × (apply.Refused a b ≡ apply.Refused number place) × (placesVerdict (length ends) places ≡ Bad a b))
-        → (applyOf k letters ends weights places letters' ends' weights' work ≡ applying.outcome (apply.Refused number place) letters' ends' weights' work)
-        ⊎ (applyOf k letters ends weights places letters' ends' weights' work ≡ applying.outcome (apply.Refused number place) letters' ends' weights' (applying.zeroed (length ends) work))
-    go (inl t) = inl (t .2 ∙ ap (λ (r : ApplyAnswer). applying.outcome r letters' ends' weights' work) (t .3))
-    go (inr t) = inr (t .2 ∙ ap (λ (r : ApplyAnswer). applying.outcome r letters' ends' weights' (applying.zeroed (length ends) work)) (t .3))
+    go : ((a : ℕ) × (b : ℕ) × (applyOf c places t ≡ applying.outcome (apply.Refused a b) t) × (apply.Refused a b ≡ apply.Refused number place))
+        ⊎ ((a : ℕ) × (b : ℕ) × (applyOf c places t ≡ applying.outcome (apply.Refused a b) (applying.lent t.letters t.ends t.weights (applying.zeroed (length c.ends) t.work))) × (apply.Refused a b ≡ apply.Refused number place) × (placesVerdict (length c.ends) places ≡ Bad a b))
+        → (applyOf c places t ≡ applying.outcome (apply.Refused number place) t)
+        ⊎ (applyOf c places t ≡ applying.outcome (apply.Refused number place) (applying.lent t.letters t.ends t.weights (applying.zeroed (length c.ends) t.work)))
+    go (inl u) = inl (u .2 ∙ ap (λ (r : ApplyAnswer). applying.outcome r t) (u .3))
+    go (inr u) = inr (u .2 ∙ ap (λ (r : ApplyAnswer). applying.outcome r (applying.lent t.letters t.ends t.weights (applying.zeroed (length c.ends) t.work))) (u .3))
 
-index-kept : (k p : ℕ) (letters ends weights : List ℕ) (t : Lent) (number place : ℕ) → indexOf k p letters ends weights t .answer ≡ index.Refused number place
-    → (indexOf k p letters ends weights t .after ≡ t)
-    ⊎ ((number ≡ 7) × (indexOf k p letters ends weights t .after ≡ indexing.untouched (kmerCount k (length letters) (length ends)) t))
+index-kept : (c : Collection) (p : ℕ) (t : Lent) (number place : ℕ) → indexOf c p t .answer ≡ index.Refused number place
+    → (indexOf c p t .after ≡ t)
+    ⊎ ((number ≡ 7) × (indexOf c p t .after ≡ indexing.untouched (kmersIn (spellingOf c)) t))
 unfolding indexOf
-index-kept k p letters ends weights t number place e =
+index-kept c p t number place e =
     go (refused-twice (λ (o : indexing.Outcome). o .answer) _ _ _ _ _ (index.Refused number place) (λ q. let z : _≡_ {A = ℕ} 0 1 = cc in let y : ⊥ = omega arith in y) e)
   where
     n : ℕ
-    n = kmerCount k (length letters) (length ends)
+    n = kmersIn (spellingOf c)
 
-    go : ((a : ℕ) × (b : ℕ) × (indexOf k p letters ends weights t ≡ indexing.outcome (index.Refused a b) t) × (index.Refused a b ≡ index.Refused number place))
-        ⊎ ((a : ℕ) × (b : ℕ) × (indexOf k p letters ends weights t ≡ indexing.outcome (index.Refused a b) (indexing.untouched n t)) × (index.Refused a b ≡ index.Refused number place) × (atPlace 7 (firstRepeat k letters ends) ≡ Bad a b))
-        → (indexOf k p letters ends weights t .after ≡ t) ⊎ ((number ≡ 7) × (indexOf k p letters ends weights t .after ≡ indexing.untouched n t))
+    go : ((a : ℕ) × (b : ℕ) × (indexOf c p t ≡ indexing.outcome (index.Refused a b) t) × (index.Refused a b ≡ index.Refused number place))
+        ⊎ ((a : ℕ) × (b : ℕ) × (indexOf c p t ≡ indexing.outcome (index.Refused a b) (indexing.untouched n t)) × (index.Refused a b ≡ index.Refused number place) × (atPlace 7 (firstRepeat (spellingOf c)) ≡ Bad a b))
+        → (indexOf c p t .after ≡ t) ⊎ ((number ≡ 7) × (indexOf c p t .after ≡ indexing.untouched n t))
     go (inl r) = inl (ap (λ (o : indexing.Outcome). o .after) (r .2))
     go (inr r) =
-        let c : index.Refused (r .0) (r .1) ≡ index.Refused number place = r .3 in
+        let c₁ : index.Refused (r .0) (r .1) ≡ index.Refused number place = r .3 in
         let d : r .0 ≡ number = cc in
-        inr (sym d ∙ at-seven (firstRepeat k letters ends) (r .0) (r .1) (r .4), ap (λ (o : indexing.Outcome). o .after) (r .2))
+        inr (sym d ∙ at-seven (firstRepeat (spellingOf c)) (r .0) (r .1) (r .4), ap (λ (o : indexing.Outcome). o .after) (r .2))
 
-cover-kept : (k : ℕ) (letters ends weights : List ℕ) (places : List ℤ) (work : List ℕ) (number place : ℕ) (places' : List ℤ) (work' : List ℕ)
-    → Promise k letters ends weights places work (cover.Refused number place) places' work' → (places' ≡ places) × (work' ≡ work)
+cover-kept : (c : Collection) (places : List ℤ) (work : List ℕ) (number place : ℕ) (places' : List ℤ) (work' : List ℕ)
+    → Promise c places work (cover.Refused number place) places' work' → (places' ≡ places) × (work' ≡ work)
 unfolding settle
-cover-kept k letters ends weights places work number place places' work' = go (coverVerdict k letters ends weights places work) (endWeights k letters ends weights) (length ends)
+cover-kept c places work number place places' work' = go (coverVerdict c places work) (endWeights c) (length c.ends)
   where
     go : (v : Verdict) (strings : List Ends) (m : ℕ) → CoverOf v strings m places work (cover.Refused number place) places' work' → (places' ≡ places) × (work' ≡ work)
-    go Good strings m c = let a = c .answered in let z : _≡_ {A = ℕ} 0 1 = cc in absurd (let y : ⊥ = omega arith in y)
-    go (Bad a b) strings m c = (c .placed, c .cleared)
+    go Good strings m c₁ = let a = c₁ .answered in let z : _≡_ {A = ℕ} 0 1 = cc in absurd (let y : ⊥ = omega arith in y)
+    go (Bad a b) strings m c₁ = (c₁ .placed, c₁ .cleared)
 
 pub kept : Kept
 kept = record { read = read-kept; write = write-kept; runs = runs-kept; cover = cover-kept; check = check-kept; apply = apply-kept; index = index-kept }

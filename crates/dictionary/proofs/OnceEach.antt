@@ -15,16 +15,17 @@ use Rattle.lists.proofs.Every.{same-is, is-same}
 use Rattle.lists.proofs.Mapped.{map-at-below}
 use Rattle.words.specs.Word.{Letters, wordAt, turn}
 use Rattle.words.proofs.Turning.{turn-turn}
+use Rattle.collection.specs.Collection.{Collection, spellingOf}
 use Rattle.collection.specs.Judge.{Passes}
 use Rattle.collection.specs.Kmers.{kmers, wordOf, Distinct}
-use Rattle.collection.specs.Strings.{lettersIn, endsIn}
+use Rattle.collection.specs.Strings.{joined}
 use Rattle.collection.proofs.Judged.{collection-good}
 use Rattle.collection.proofs.Ready.{judged-ready, word-letters}
-use Rattle.trails.specs.Places.{SignedPermutation}
-use Rattle.reordering.specs.Reordered.{reordered}
-use Rattle.reordering.specs.Stands.{once, timesAt}
-use Rattle.reordering.proofs.Reordered.{reordered-passes}
-use Rattle.reordering.proofs.Stands.{times-kept}
+use Rattle.cover_trails.specs.Places.{SignedPermutation}
+use Rattle.apply_strings.specs.Reordered.{reordered}
+use Rattle.apply_strings.specs.Stands.{once, timesAt}
+use Rattle.apply_strings.proofs.Reordered.{reordered-passes}
+use Rattle.apply_strings.proofs.Stands.{times-kept}
 
 -- ─── sums of tests ───────────────────────────────────────────────────────────
 
@@ -95,70 +96,70 @@ once-either word kmer e = go (same kmer word) refl (same (turn kmer) word) refl 
     go false p true q r = inr (same-is (turn kmer) word q)
     go false p false q r = absurd (let z : ⊥ = omega (arith, r) in z)
 
-module _ (k : ℕ) (letters ends weights : List ℕ) (passes : Passes k letters ends weights) where
+module _ (c : Collection) (passes : Passes c) where
   -- the k-mers, each as it counts for a word
   abbrev counts : List ℕ → List ℕ
-  counts word = map (λ a. once word (wordAt k letters a)) (kmers k ends)
+  counts word = map (λ a. once word (wordAt c.k c.letters a)) (kmers c.k c.ends)
 
   abbrev n : ℕ
-  n = length (kmers k ends)
+  n = length (kmers c.k c.ends)
 
   size : (word : List ℕ) → length (counts word) ≡ n
-  size word = length-map (kmers k ends) (λ a. once word (wordAt k letters a))
+  size word = length-map (kmers c.k c.ends) (λ a. once word (wordAt c.k c.letters a))
 
-  count-at : (word : List ℕ) (i : ℕ) → i < n → getD (counts word) i 0 ≡ once word (wordAt k letters (getD (kmers k ends) i 0))
-  count-at word i l = map-at-below (λ a. once word (wordAt k letters a)) 0 0 (kmers k ends) i l
+  count-at : (word : List ℕ) (i : ℕ) → i < n → getD (counts word) i 0 ≡ once word (wordAt c.k c.letters (getD (kmers c.k c.ends) i 0))
+  count-at word i l = map-at-below (λ a. once word (wordAt c.k c.letters a)) 0 0 (kmers c.k c.ends) i l
 
   -- the word of the handle i + 1
-  word-at : (i : ℕ) → wordOf k letters ends (i + 1) ≡ wordAt k letters (getD (kmers k ends) i 0)
-  word-at i = let e : i + 1 - 1 ≡ i = omega arith in ap (λ (j : ℕ). wordAt k letters (getD (kmers k ends) j 0)) e
+  word-at : (i : ℕ) → wordOf (spellingOf c) (i + 1) ≡ wordAt c.k c.letters (getD (kmers c.k c.ends) i 0)
+  word-at i = let e : i + 1 - 1 ≡ i = omega arith in ap (λ (j : ℕ). wordAt c.k c.letters (getD (kmers c.k c.ends) j 0)) e
 
-  spelt : (i : ℕ) → Letters (wordAt k letters (getD (kmers k ends) i 0))
-  spelt i = word-letters (judged-ready (collection-good k letters ends weights passes)) (getD (kmers k ends) i 0)
+  spelt : (i : ℕ) → Letters (wordAt c.k c.letters (getD (kmers c.k c.ends) i 0))
+  spelt i = word-letters (judged-ready (collection-good c passes)) (getD (kmers c.k c.ends) i 0)
 
   -- two k-mers that are one word, read either way, are alike
-  alike : (word : List ℕ) (i j : ℕ) → once word (wordAt k letters (getD (kmers k ends) i 0)) ≡ 1 → once word (wordAt k letters (getD (kmers k ends) j 0)) ≡ 1
-      → (wordOf k letters ends (i + 1) ≡ wordOf k letters ends (j + 1)) ⊎ (wordOf k letters ends (i + 1) ≡ turn (wordOf k letters ends (j + 1)))
+  alike : (word : List ℕ) (i j : ℕ) → once word (wordAt c.k c.letters (getD (kmers c.k c.ends) i 0)) ≡ 1 → once word (wordAt c.k c.letters (getD (kmers c.k c.ends) j 0)) ≡ 1
+      → (wordOf (spellingOf c) (i + 1) ≡ wordOf (spellingOf c) (j + 1)) ⊎ (wordOf (spellingOf c) (i + 1) ≡ turn (wordOf (spellingOf c) (j + 1)))
   alike word i j p q = go (once-either word _ p) (once-either word _ q)
     where
       u : List ℕ
-      u = wordAt k letters (getD (kmers k ends) i 0)
+      u = wordAt c.k c.letters (getD (kmers c.k c.ends) i 0)
 
       v : List ℕ
-      v = wordAt k letters (getD (kmers k ends) j 0)
+      v = wordAt c.k c.letters (getD (kmers c.k c.ends) j 0)
 
-      go : (u ≡ word) ⊎ (turn u ≡ word) → (v ≡ word) ⊎ (turn v ≡ word) → (wordOf k letters ends (i + 1) ≡ wordOf k letters ends (j + 1)) ⊎ (wordOf k letters ends (i + 1) ≡ turn (wordOf k letters ends (j + 1)))
+      go : (u ≡ word) ⊎ (turn u ≡ word) → (v ≡ word) ⊎ (turn v ≡ word) → (wordOf (spellingOf c) (i + 1) ≡ wordOf (spellingOf c) (j + 1)) ⊎ (wordOf (spellingOf c) (i + 1) ≡ turn (wordOf (spellingOf c) (j + 1)))
       go (inl a) (inl b) = inl (word-at i ∙ (a ∙ (sym b ∙ sym (word-at j))))
       go (inl a) (inr b) = inr (word-at i ∙ (a ∙ (sym b ∙ ap turn (sym (word-at j)))))
       go (inr a) (inl b) = inr (word-at i ∙ (sym (turn-turn u (spelt i)) ∙ (ap turn (a ∙ sym b) ∙ ap turn (sym (word-at j)))))
       go (inr a) (inr b) = inl (word-at i ∙ (sym (turn-turn u (spelt i)) ∙ (ap turn (a ∙ sym b) ∙ (turn-turn v (spelt j) ∙ sym (word-at j)))))
 
   -- with no repeated word, every word stands at most once
-  pub distinct-once : Distinct k letters ends → (word : List ℕ) → timesAt k letters ends word ≤ 1
+  pub distinct-once : Distinct (spellingOf c) → (word : List ℕ) → timesAt (spellingOf c) word ≤ 1
   unfolding timesAt
   distinct-once d word =
-      one-at-most (counts word) (λ i l. omega (arith, count-at word i (omega (arith, size word)), once-few word (wordAt k letters (getD (kmers k ends) i 0))))
+      one-at-most (counts word) (λ i l. omega (arith, count-at word i (omega (arith, size word)), once-few word (wordAt c.k c.letters (getD (kmers c.k c.ends) i 0))))
       (λ i j l m p q.
       let jn : j < n = omega (arith, size word) in
       let z = d i j (omega arith) jn (alike word i j (sym (count-at word i (omega arith)) ∙ p) (sym (count-at word j jn) ∙ q)) in
       omega (arith, z))
 
   -- and if every word does, none is repeated
-  pub once-distinct : ((word : List ℕ) → timesAt k letters ends word ≤ 1) → Distinct k letters ends
+  pub once-distinct : ((word : List ℕ) → timesAt (spellingOf c) word ≤ 1) → Distinct (spellingOf c)
   unfolding timesAt
   once-distinct few i j l m e = go (lt-or-le i j) (lt-or-le j i)
     where
       word : List ℕ
-      word = wordOf k letters ends (j + 1)
+      word = wordOf (spellingOf c) (j + 1)
 
-      here : once word (wordAt k letters (getD (kmers k ends) j 0)) ≡ 1
+      here : once word (wordAt c.k c.letters (getD (kmers c.k c.ends) j 0)) ≡ 1
       here = once-is word _ (inl (sym (word-at j)))
 
-      turned : (wordOf k letters ends (i + 1) ≡ word) ⊎ (wordOf k letters ends (i + 1) ≡ turn word) → (wordAt k letters (getD (kmers k ends) i 0) ≡ word) ⊎ (turn (wordAt k letters (getD (kmers k ends) i 0)) ≡ word)
+      turned : (wordOf (spellingOf c) (i + 1) ≡ word) ⊎ (wordOf (spellingOf c) (i + 1) ≡ turn word) → (wordAt c.k c.letters (getD (kmers c.k c.ends) i 0) ≡ word) ⊎ (turn (wordAt c.k c.letters (getD (kmers c.k c.ends) i 0)) ≡ word)
       turned (inl q) = inl (sym (word-at i) ∙ q)
       turned (inr q) = inr (ap turn (sym (word-at i) ∙ q) ∙ turn-turn word (subst Letters (sym (word-at j)) (spelt j)))
 
-      there : once word (wordAt k letters (getD (kmers k ends) i 0)) ≡ 1
+      there : once word (wordAt c.k c.letters (getD (kmers c.k c.ends) i 0)) ≡ 1
       there = once-is word _ (turned e)
 
       go : (i < j) ⊎ (j ≤ i) → (j < i) ⊎ (i ≤ j) → i ≡ j
@@ -167,8 +168,8 @@ module _ (k : ℕ) (letters ends weights : List ℕ) (passes : Passes k letters 
       go (inr a) (inr b) = omega arith
 
 -- reordering keeps words apart
-pub reordered-distinct : (k : ℕ) (letters ends weights : List ℕ) (places : List ℤ) → Passes k letters ends weights → SignedPermutation (length ends) places → Distinct k letters ends
-    → Distinct k (lettersIn (reordered k letters ends weights places)) (endsIn 0 (reordered k letters ends weights places))
-reordered-distinct k letters ends weights places passes perm d =
-    once-distinct k _ _ _ (reordered-passes k letters ends weights places passes perm)
-    (λ word. omega (arith, times-kept word k letters ends weights places passes perm, distinct-once k letters ends weights passes d word))
+pub reordered-distinct : (c : Collection) (places : List ℤ) → Passes c → SignedPermutation (length c.ends) places → Distinct (spellingOf c)
+    → Distinct (spellingOf (joined c.k (reordered c places)))
+reordered-distinct c places passes perm d =
+    once-distinct _ (reordered-passes c places passes perm)
+    (λ word. omega (arith, times-kept word c places passes perm, distinct-once c passes d word))

@@ -7,33 +7,34 @@ use Rattle.lists.specs.First.{firstFrom}
 use Rattle.lists.specs.Pick.{pick, upTo}
 use Rattle.alphabet.specs.Letter.{letter, isLetter, capital}
 use Rattle.words.specs.Word.{codeFrom, turn}
+use Rattle.collection.specs.Collection.{collection}
 use Rattle.collection.specs.Judge.{kVerdict, sizeVerdict, endsVerdict, shapeVerdict, lettersVerdict, weightsVerdict, collectionVerdict, wordVerdict, handleVerdict}
-use Rattle.faults.specs.Faults.{firstShort, lastEnd}
+use Rattle.collection_faults.specs.Faults.{firstShort, lastEnd}
 use Rattle.collection.specs.Strings.{stringsFrom, lettersIn, endsIn, weightsIn}
 use Rattle.collection.specs.Verdict.{andThen, atPlace, settle}
-use Rattle.sheet_text.specs.Numbers.{valueFrom}
-use Rattle.sheet_text.specs.Parts.{upTo as partUpTo, later}
-use Rattle.sheet_text.specs.Sheet.{sheetK, sheetStrings, stringsOf}
-use Rattle.trails.specs.Groups.{least}
-use Rattle.trails.specs.Places.{standing, arrangedTo}
-use Rattle.vertices.specs.EndWeights.{endWeights}
-use Rattle.places.specs.Places.{badPlace, firstBad, placesVerdict}
-use Rattle.reordering.specs.Turned.{turnLetters}
+use Rattle.sheet.specs.Numbers.{valueFrom}
+use Rattle.sheet.specs.Parts.{upTo as partUpTo, later}
+use Rattle.sheet.specs.Sheet.{sheetK, sheetStrings, stringsOf}
+use Rattle.cover_trails.specs.Groups.{least}
+use Rattle.cover_trails.specs.Places.{standing, arrangedTo}
+use Rattle.cover_vertices.specs.EndWeights.{endWeights}
+use Rattle.apply_places.specs.Places.{badPlace, firstBad, placesVerdict}
+use Rattle.apply_strings.specs.Turned.{turnLetters}
 use Rattle.runs.specs.Runs.{laterRuns, runs, innerRuns, runWeights, runFirsts}
-use Rattle.run_lists.specs.RunList.{allFollow, isRunList, runListVerdict, lastAt}
-use Rattle.run_lists.specs.Weight.{weightAnswer}
-use Rattle.minimizers.specs.Minimizer.{sizesVerdict, smallest, minimizer}
-use Rattle.stretches.specs.Stretches.{numbered, walk, openFrom, ofString, stretchesFrom}
-use Rattle.reordering.specs.Reordered.{reordered}
+use Rattle.weight.specs.RunList.{allFollow, isRunList, runListVerdict, lastAt}
+use Rattle.weight.specs.Weight.{weightAnswer}
+use Rattle.index_minimizers.specs.Minimizer.{sizesVerdict, smallest, minimizer}
+use Rattle.index_stretches.specs.Stretches.{numbered, walk, openFrom, ofString, stretchesFrom}
+use Rattle.apply_strings.specs.Reordered.{reordered}
 use Rattle.collection.specs.declared.Side.the-variants.{Turned}
 use Rattle.collection.specs.declared.Verdict.the-variants.{Good, Bad}
-use Rattle.questions.specs.declared.QuickAnswer.{QuickAnswer}
-use Rattle.questions.specs.declared.QuickAnswer.the-variants.{Found, Absent}
-use Rattle.questions.specs.declared.WordAnswer.the-variants.{Weighs}
-use Rattle.stretches.specs.Index.{built, entries, rowOf, stretchFits, rowFits, tablesFit}
-use Rattle.walks.specs.Walk.{isWord, seek}
-use Rattle.questions.specs.Quick.{metOr, quickFound, rowsVerdict, askVerdict, quickVerdict, quickOf}
-use Rattle.questions.specs.Weighed.{weighs, weighedOf}
+use Rattle.quick.specs.declared.QuickAnswer.{QuickAnswer}
+use Rattle.quick.specs.declared.QuickAnswer.the-variants.{Found, Absent}
+use Rattle.quick.specs.declared.WordAnswer.the-variants.{Weighs}
+use Rattle.index_stretches.specs.Index.{built, entries, rowOf, stretchFits, rowFits, tablesFit}
+use Rattle.quick_walks.specs.Walk.{isWord, seek}
+use Rattle.quick.specs.Quick.{metOr, quickFound, rowsVerdict, askVerdict, quickVerdict, quickOf}
+use Rattle.quick.specs.Weighed.{weighs, weighedOf}
 use Rattle.dictionary.specs.Starred.{Starred, bytes, sheet, letters, ends, weights, places, letters', ends', weights', asked, weighed}
 
 -- ─── the sheet and the reordered collection ──────────────────────────────────
@@ -42,7 +43,7 @@ read : (sheetK sheet ≡ 3) × (lettersIn (sheetStrings sheet) ≡ letters) × (
 unfolding partUpTo later stringsOf valueFrom lettersIn endsIn weightsIn
 read = (refl, refl, refl, refl)
 
-turned : (lettersIn (reordered 3 letters ends weights places) ≡ letters') × (endsIn 0 (reordered 3 letters ends weights places) ≡ ends') × (weightsIn (reordered 3 letters ends weights places) ≡ weights')
+turned : (lettersIn (reordered (collection 3 letters ends weights) places) ≡ letters') × (endsIn 0 (reordered (collection 3 letters ends weights) places) ≡ ends') × (weightsIn (reordered (collection 3 letters ends weights) places) ≡ weights')
 unfolding lettersIn endsIn weightsIn stringsFrom standing arrangedTo turnLetters turn capital letter
 turned = (refl, refl, refl)
 
@@ -60,7 +61,7 @@ cag-weighs = ap (λ (a : QuickAnswer). weighedOf a (runWeights weights') (runFir
 -- ─── verdicts ────────────────────────────────────────────────────────────────
 
 -- a weight of 16,777,215, and one more
-heaviest : (collectionVerdict 3 (bytes "ACG") (3 ∷ []) (16777215 ∷ []) ≡ Good) × (collectionVerdict 3 (bytes "ACG") (3 ∷ []) (16777216 ∷ []) ≡ Bad 6 1)
+heaviest : (collectionVerdict (collection 3 (bytes "ACG") (3 ∷ []) (16777215 ∷ [])) ≡ Good) × (collectionVerdict (collection 3 (bytes "ACG") (3 ∷ []) (16777216 ∷ [])) ≡ Bad 6 1)
 unfolding collectionVerdict shapeVerdict kVerdict sizeVerdict endsVerdict firstShort lastEnd lettersVerdict weightsVerdict firstFrom isLetter letter andThen atPlace
 heaviest = (refl, refl)
 

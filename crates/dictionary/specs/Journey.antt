@@ -5,28 +5,30 @@ use Prim.Native.Nat.{ℕ}
 use lib.IntN.{ℤ}
 use lib.ListN.{take}
 use Rattle.words.specs.Word.{spell}
+use Rattle.collection.specs.Collection.{Collection, collection}
 use Rattle.collection.specs.declared.Verdict.the-variants.{Good}
 use Rattle.collection.specs.Judge.{wordVerdict}
-use Rattle.sheet_text.specs.declared.ReadAnswer.the-variants as read
-use Rattle.sheet_text.specs.Read.{readOf}
-use Rattle.sheet_text.specs.Sheet.{sheetK, sheetStrings}
+use Rattle.sheet.specs.declared.ReadAnswer.the-variants as read
+use Rattle.sheet.specs.Read.{readOf}
+use Rattle.sheet.specs.Sheet.{sheetK, sheetStrings}
 use Rattle.repeats.specs.declared.CheckAnswer.the-variants as check
 use Rattle.repeats.specs.Check.{checkOf}
 use Rattle.cover.specs.declared.CoverAnswer.the-variants as cover
 use Rattle.cover.specs.Cover.{Promise}
-use Rattle.placing.specs.declared.ApplyAnswer.the-variants as apply
-use Rattle.placing.specs.Apply.{applyOf}
-use Rattle.reordering.specs.Weighs.{Weighs}
+use Rattle.apply.specs.declared.ApplyAnswer.the-variants as apply
+use Rattle.apply.specs.Apply as applying
+use Rattle.apply.specs.Apply.{collectionIn, applyOf}
+use Rattle.apply_strings.specs.Weighs.{Weighs}
 use Rattle.runs.specs.declared.RunsAnswer.the-variants as listing
 use Rattle.runs.specs.Calls.{runsOf}
-use Rattle.fewest.specs.Fewest.{FewestRuns}
+use Rattle.cover_fewest.specs.Fewest.{FewestRuns}
 use Rattle.index.specs.declared.IndexAnswer.the-variants as index
 use Rattle.index.specs.Indexing.{Lent, firstEntries, indexOf}
-use Rattle.stretches.specs.Index.{Index}
-use Rattle.questions.specs.declared.WordAnswer.{WordAnswer}
-use Rattle.questions.specs.declared.WordAnswer.the-variants as word
-use Rattle.questions.specs.Quick.{quickOf}
-use Rattle.questions.specs.Weighed.{weighedOf}
+use Rattle.index_stretches.specs.Index.{Index}
+use Rattle.quick.specs.declared.WordAnswer.{WordAnswer}
+use Rattle.quick.specs.declared.WordAnswer.the-variants as word
+use Rattle.quick.specs.Quick.{quickOf}
+use Rattle.quick.specs.Weighed.{weighedOf}
 
 -- Of each table a caller lends on the part that was filled: so many entries as the answer says. No call of the row is refused.
 
@@ -43,44 +45,35 @@ pub record Reading (sheet : List ℕ) : Type 0 where
   pub filled : readOf sheet letters₀ ends₀ weights₀ .answer ≡ read.Filled k N m n
 
 module _ {sheet : List ℕ} (r : Reading sheet) where
-  abbrev pub lettersRead : List ℕ
-  lettersRead = take (r .N) (readOf sheet (r .letters₀) (r .ends₀) (r .weights₀) .letters)
-
-  abbrev pub endsRead : List ℕ
-  endsRead = take (r .m) (readOf sheet (r .letters₀) (r .ends₀) (r .weights₀) .ends)
-
-  abbrev pub weightsRead : List ℕ
-  weightsRead = take (r .n) (readOf sheet (r .letters₀) (r .ends₀) (r .weights₀) .weights)
+  -- the collection that READ filled in
+  abbrev pub collectionRead : Collection
+  collectionRead =
+      collection (r .k)
+      (take (r .N) (readOf sheet (r .letters₀) (r .ends₀) (r .weights₀) .letters))
+      (take (r .m) (readOf sheet (r .letters₀) (r .ends₀) (r .weights₀) .ends))
+      (take (r .n) (readOf sheet (r .letters₀) (r .ends₀) (r .weights₀) .weights))
 
 -- ─── CHECK, COVER and APPLY ──────────────────────────────────────────────────
 
 pub record Reordering {sheet : List ℕ} (r : Reading sheet) : Type 0 where
   -- CHECK
   pub work₁ : List ℕ
-  pub checked : checkOf (r .k) (lettersRead r) (endsRead r) (weightsRead r) work₁ .answer ≡ check.Checked (r .n)
+  pub checked : checkOf (collectionRead r) work₁ .answer ≡ check.Checked (r .n)
   -- COVER
   pub places₀ : List ℤ
   pub places : List ℤ
   pub work₂ : List ℕ
   pub work₃ : List ℕ
   pub paths : ℕ
-  pub covered : Promise (r .k) (lettersRead r) (endsRead r) (weightsRead r) places₀ work₂ (cover.Covered (r .m) paths) places work₃
+  pub covered : Promise (collectionRead r) places₀ work₂ (cover.Covered (r .m) paths) places work₃
   -- APPLY
-  pub letters₁ : List ℕ
-  pub ends₁ : List ℕ
-  pub weights₁ : List ℕ
-  pub work₄ : List ℕ
-  pub applied : applyOf (r .k) (lettersRead r) (endsRead r) (weightsRead r) (take (r .m) places) letters₁ ends₁ weights₁ work₄ .answer ≡ apply.Filled (r .N) (r .m) (r .n)
+  pub tables₁ : applying.Lent
+  pub applied : applyOf (collectionRead r) (take (r .m) places) tables₁ .answer ≡ apply.Filled (r .N) (r .m) (r .n)
 
 module _ {sheet : List ℕ} {r : Reading sheet} (o : Reordering r) where
-  abbrev pub lettersApplied : List ℕ
-  lettersApplied = take (r .N) (applyOf (r .k) (lettersRead r) (endsRead r) (weightsRead r) (take (r .m) (o .places)) (o .letters₁) (o .ends₁) (o .weights₁) (o .work₄) .letters-after)
-
-  abbrev pub endsApplied : List ℕ
-  endsApplied = take (r .m) (applyOf (r .k) (lettersRead r) (endsRead r) (weightsRead r) (take (r .m) (o .places)) (o .letters₁) (o .ends₁) (o .weights₁) (o .work₄) .ends-after)
-
-  abbrev pub weightsApplied : List ℕ
-  weightsApplied = take (r .n) (applyOf (r .k) (lettersRead r) (endsRead r) (weightsRead r) (take (r .m) (o .places)) (o .letters₁) (o .ends₁) (o .weights₁) (o .work₄) .weights-after)
+  -- the collection that APPLY filled in
+  abbrev pub collectionApplied : Collection
+  collectionApplied = collectionIn (r .k) (r .N) (r .m) (r .n) (applyOf (collectionRead r) (take (r .m) (o .places)) (o .tables₁) .after)
 
 -- ─── RUNS and INDEX ──────────────────────────────────────────────────────────
 
@@ -88,25 +81,25 @@ pub record Indexing {sheet : List ℕ} {r : Reading sheet} (o : Reordering r) (p
   pub runWeights₀ : List ℕ
   pub runFirsts₀ : List ℕ
   pub runs : ℕ
-  pub listed : runsOf (r .k) (lettersApplied o) (endsApplied o) (weightsApplied o) runWeights₀ runFirsts₀ .answer ≡ listing.Filled runs
+  pub listed : runsOf (collectionApplied o) runWeights₀ runFirsts₀ .answer ≡ listing.Filled runs
   pub tables₀ : Lent
   pub stretches : ℕ
   pub starts : ℕ
-  pub indexed : indexOf (r .k) p (lettersApplied o) (endsApplied o) (weightsApplied o) tables₀ .answer ≡ index.Indexed stretches starts
+  pub indexed : indexOf (collectionApplied o) p tables₀ .answer ≡ index.Indexed stretches starts
 
 module _ {sheet : List ℕ} {r : Reading sheet} {o : Reordering r} {p : ℕ} (x : Indexing o p) where
   abbrev pub runWeightsListed : List ℕ
-  runWeightsListed = take (x .runs) (runsOf (r .k) (lettersApplied o) (endsApplied o) (weightsApplied o) (x .runWeights₀) (x .runFirsts₀) .weights-after)
+  runWeightsListed = take (x .runs) (runsOf (collectionApplied o) (x .runWeights₀) (x .runFirsts₀) .weights-after)
 
   abbrev pub runFirstsListed : List ℕ
-  runFirstsListed = take (x .runs) (runsOf (r .k) (lettersApplied o) (endsApplied o) (weightsApplied o) (x .runWeights₀) (x .runFirsts₀) .firsts-after)
+  runFirstsListed = take (x .runs) (runsOf (collectionApplied o) (x .runWeights₀) (x .runFirsts₀) .firsts-after)
 
   abbrev pub indexMade : Index
-  indexMade = firstEntries (x .stretches) (x .starts) (indexOf (r .k) p (lettersApplied o) (endsApplied o) (weightsApplied o) (x .tables₀) .after)
+  indexMade = firstEntries (x .stretches) (x .starts) (indexOf (collectionApplied o) p (x .tables₀) .after)
 
   -- QUICK, and WEIGHT of the handle found
   abbrev pub weighed : List ℕ → WordAnswer
-  weighed asked = weighedOf (quickOf (r .k) p asked (lettersApplied o) indexMade) runWeightsListed runFirstsListed (r .n)
+  weighed asked = weighedOf (quickOf (r .k) p asked (collectionApplied o .letters) indexMade) runWeightsListed runFirstsListed (r .n)
 
 -- ─── the end ─────────────────────────────────────────────────────────────────
 
@@ -119,4 +112,4 @@ pub data Says (sheet asked : List ℕ) : WordAnswer → Type 0 where
 -- order and turning of the sheet's strings can make it.
 pub record EndToEnd : Type 0 where
   pub says : (sheet : List ℕ) (p : ℕ) (r : Reading sheet) (o : Reordering r) (x : Indexing o p) (asked : List ℕ) → wordVerdict (r .k) asked ≡ Good → Says sheet (spell asked) (weighed x asked)
-  pub shortest : (sheet : List ℕ) (p : ℕ) (r : Reading sheet) (o : Reordering r) (x : Indexing o p) → FewestRuns (r .k) (lettersRead r) (endsRead r) (weightsRead r) (x .runs)
+  pub shortest : (sheet : List ℕ) (p : ℕ) (r : Reading sheet) (o : Reordering r) (x : Indexing o p) → FewestRuns (collectionRead r) (x .runs)

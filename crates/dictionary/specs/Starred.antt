@@ -7,26 +7,27 @@ use Prim.Native.String.{String}
 use Prim.Native.String as text
 use lib.IntN.{ℤ, pos, negsuc}
 use Rattle.words.specs.Word.{code, wordAt}
+use Rattle.collection.specs.Collection.{spelling, collection}
 use Rattle.collection.specs.declared.Side.the-variants.{Turned}
 use Rattle.collection.specs.declared.Verdict.the-variants.{Good, Bad}
 use Rattle.collection.specs.Judge.{kVerdict, collectionVerdict}
 use Rattle.collection.specs.Strings.{lettersIn, endsIn, weightsIn}
-use Rattle.sheet_text.specs.Sheet.{sheetK, sheetStrings}
-use Rattle.trails.specs.Groups.{least}
-use Rattle.vertices.specs.EndWeights.{endWeights}
-use Rattle.reordering.specs.Reordered.{reordered}
-use Rattle.places.specs.Places.{placesVerdict}
+use Rattle.sheet.specs.Sheet.{sheetK, sheetStrings}
+use Rattle.cover_trails.specs.Groups.{least}
+use Rattle.cover_vertices.specs.EndWeights.{endWeights}
+use Rattle.apply_strings.specs.Reordered.{reordered}
+use Rattle.apply_places.specs.Places.{placesVerdict}
 use Rattle.runs.specs.Runs.{runs, runWeights, runFirsts}
-use Rattle.fewest.specs.Fewest.{leastRuns}
-use Rattle.minimizers.specs.Minimizer.{minimizerAt}
-use Rattle.stretches.specs.Stretches.{stretch, ofString}
+use Rattle.cover_fewest.specs.Fewest.{leastRuns}
+use Rattle.index_minimizers.specs.Minimizer.{minimizerAt}
+use Rattle.index_stretches.specs.Stretches.{stretch, ofString}
 use Rattle.index.specs.Indexing.{indexWith}
-use Rattle.questions.specs.declared.QuickAnswer.{QuickAnswer}
-use Rattle.questions.specs.declared.QuickAnswer.the-variants.{Found, Absent}
-use Rattle.questions.specs.declared.WordAnswer.{WordAnswer}
-use Rattle.questions.specs.declared.WordAnswer.the-variants.{Weighs}
-use Rattle.questions.specs.Quick.{quickOf}
-use Rattle.questions.specs.Weighed.{weighedOf}
+use Rattle.quick.specs.declared.QuickAnswer.{QuickAnswer}
+use Rattle.quick.specs.declared.QuickAnswer.the-variants.{Found, Absent}
+use Rattle.quick.specs.declared.WordAnswer.{WordAnswer}
+use Rattle.quick.specs.declared.WordAnswer.the-variants.{Weighs}
+use Rattle.quick.specs.Quick.{quickOf}
+use Rattle.quick.specs.Weighed.{weighedOf}
 
 -- ─── the sheet ───────────────────────────────────────────────────────────────
 
@@ -64,7 +65,7 @@ weights' = 2 ∷ (2 ∷ (5 ∷ (5 ∷ (3 ∷ (3 ∷ (7 ∷ (7 ∷ (7 ∷ (2 ∷ 
 
 -- a question, with p = 2, over the reordered collection
 abbrev pub asked : List ℕ → QuickAnswer
-asked word = quickOf 3 2 word letters' (indexWith 3 2 letters' ends')
+asked word = quickOf 3 2 word letters' (indexWith (spelling 3 letters' ends') 2)
 
 abbrev pub weighed : List ℕ → WordAnswer
 weighed word = weighedOf (asked word) (runWeights weights') (runFirsts weights') 10
@@ -75,9 +76,9 @@ pub record Starred : Type 0 where
   -- the sheet has these tables
   pub sheet-read : (sheetK sheet ≡ 3) × (lettersIn (sheetStrings sheet) ≡ letters) × (endsIn 0 (sheetStrings sheet) ≡ ends) × (weightsIn (sheetStrings sheet) ≡ weights)
   -- it has least 5
-  pub least-five : leastRuns 3 letters ends weights ≡ 5
+  pub least-five : leastRuns (collection 3 letters ends weights) ≡ 5
   -- places +1 +4 -3 -2 give AAACC TGTA GGCTG AGAT, weights 2 2 5 5 3 3 7 7 7 2
-  pub applied : (lettersIn (reordered 3 letters ends weights places) ≡ letters') × (endsIn 0 (reordered 3 letters ends weights places) ≡ ends') × (weightsIn (reordered 3 letters ends weights places) ≡ weights')
+  pub applied : (lettersIn (reordered (collection 3 letters ends weights) places) ≡ letters') × (endsIn 0 (reordered (collection 3 letters ends weights) places) ≡ ends') × (weightsIn (reordered (collection 3 letters ends weights) places) ≡ weights')
   -- runs (2,1) (5,3) (3,5) (7,7) (2,10)
   pub runs-listed : runs weights' ≡ (2, 1) ∷ ((5, 3) ∷ ((3, 5) ∷ ((7, 7) ∷ ((2, 10) ∷ []))))
   -- CAG is handle 8, side -, weight 7, 3 compared
@@ -89,15 +90,15 @@ pub record Starred : Type 0 where
   -- GGCTG, three k-mers from handle 6 and position 9 on, has stretches GC with handle 6 and CT with 7, 8
   pub ggctg : (ofString (minimizerAt 3 2 letters') 6 9 3 ≡ stretch 6 9 1 ∷ (stretch 7 10 2 ∷ [])) × (minimizerAt 3 2 letters' 9 ≡ code (wordAt 2 letters' 10)) × (minimizerAt 3 2 letters' 10 ≡ code (wordAt 2 letters' 11))
   -- without AGAT: least 4, one path
-  pub without : (leastRuns 3 (bytes "AAACCCAGCCTACA") (5 ∷ (10 ∷ (14 ∷ []))) (2 ∷ (2 ∷ (5 ∷ (7 ∷ (7 ∷ (3 ∷ (3 ∷ (5 ∷ [])))))))) ≡ 4) × (least (endWeights 3 (bytes "AAACCCAGCCTACA") (5 ∷ (10 ∷ (14 ∷ []))) (2 ∷ (2 ∷ (5 ∷ (7 ∷ (7 ∷ (3 ∷ (3 ∷ (5 ∷ []))))))))) ≡ 1)
+  pub without : (leastRuns (collection 3 (bytes "AAACCCAGCCTACA") (5 ∷ (10 ∷ (14 ∷ []))) (2 ∷ (2 ∷ (5 ∷ (7 ∷ (7 ∷ (3 ∷ (3 ∷ (5 ∷ []))))))))) ≡ 4) × (least (endWeights (collection 3 (bytes "AAACCCAGCCTACA") (5 ∷ (10 ∷ (14 ∷ []))) (2 ∷ (2 ∷ (5 ∷ (7 ∷ (7 ∷ (3 ∷ (3 ∷ (5 ∷ [])))))))))) ≡ 1)
   -- end weights (1,2) (2,3) (2,2): one path; (4,4) (9,9): two
   pub one-path : least ((1, 2) ∷ ((2, 3) ∷ ((2, 2) ∷ []))) ≡ 1
   pub two-paths : least ((4, 4) ∷ ((9, 9) ∷ [])) ≡ 2
   -- no strings: 0 and 0
-  pub no-strings : (leastRuns 3 [] [] [] ≡ 0) × (least (endWeights 3 [] [] []) ≡ 0)
+  pub no-strings : (leastRuns (collection 3 [] [] []) ≡ 0) × (least (endWeights (collection 3 [] [] [])) ≡ 0)
   -- weight 16,777,215 passes, 16,777,216 is 6
-  pub heavy : collectionVerdict 3 (bytes "ACG") (3 ∷ []) (16777215 ∷ []) ≡ Good
-  pub too-heavy : collectionVerdict 3 (bytes "ACG") (3 ∷ []) (16777216 ∷ []) ≡ Bad 6 1
+  pub heavy : collectionVerdict (collection 3 (bytes "ACG") (3 ∷ []) (16777215 ∷ [])) ≡ Good
+  pub too-heavy : collectionVerdict (collection 3 (bytes "ACG") (3 ∷ []) (16777216 ∷ [])) ≡ Bad 6 1
   -- k = 31 passes
   pub longest : kVerdict 31 ≡ Good
   -- places +1 -1 for two strings: 8 at string 2

@@ -7,13 +7,14 @@ use lib.ListN.{length}
 use Rattle.cover.specs.declared.CoverAnswer.{CoverAnswer}
 use Rattle.cover.specs.Cover.{Promise}
 use Rattle.index.specs.Indexing as index
-use Rattle.placing.specs.Apply as apply
+use Rattle.apply.specs.Apply as apply
 use Rattle.repeats.specs.Check as check
 use Rattle.runs.specs.Calls as runs
-use Rattle.sheet_text.specs.Read.{ReadOutcome}
-use Rattle.sheet_text.specs.Write.{WriteOutcome}
-use Rattle.replies.specs.Exported.{Exported, exported, exportedOf}
-use Rattle.replies.specs.Replies.{readReply, writeReply, checkReply, coverReply, applyReply, runsReply, indexReply}
+use Rattle.sheet.specs.Read.{ReadOutcome}
+use Rattle.sheet.specs.Write.{WriteOutcome}
+use Rattle.exports_replies.specs.Exported.{Exported, exported, exportedOf}
+use Rattle.exports_replies.specs.Replies.{readReply, writeReply, checkReply, coverReply, applyReply, runsReply, indexReply}
+use Rattle.collection.specs.Collection.{Collection}
 
 -- letters, ends and weights
 abbrev pub readExported : List ℕ → List ℕ × List ℕ × List ℕ → ReadOutcome → Exported (List ℕ × List ℕ × List ℕ)
@@ -28,8 +29,8 @@ abbrev pub checkExported : List ℕ → List ℕ → check.Outcome → Exported 
 checkExported answer before o = exportedOf answer before (checkReply (o .answer)) (o .work)
 
 -- new letters, new ends, new weights and work
-abbrev pub applyExported : List ℕ → List ℕ × List ℕ × List ℕ × List ℕ → apply.Outcome → Exported (List ℕ × List ℕ × List ℕ × List ℕ)
-applyExported answer before o = exportedOf answer before (applyReply (o .answer)) (o .letters-after, o .ends-after, o .weights-after, o .work-after)
+abbrev pub applyExported : List ℕ → apply.Lent → apply.Outcome → Exported apply.Lent
+applyExported answer before o = exportedOf answer before (applyReply (o .answer)) (o .after)
 
 -- the weights and the first handles of the runs
 abbrev pub runsExported : List ℕ → List ℕ × List ℕ → runs.Outcome → Exported (List ℕ × List ℕ)
@@ -40,7 +41,7 @@ abbrev pub indexExported : List ℕ → index.Lent → index.Outcome → Exporte
 indexExported answer before o = exportedOf answer before (indexReply (o .answer)) (o .after)
 
 -- COVER's promise is a relation. Where the answer table is long enough it holds of an answer, and that answer is told.
-pub record CoverExported (k : ℕ) (letters ends weights : List ℕ) (places : List ℤ) (work answer : List ℕ) (number : ℕ) (places' : List ℤ) (work' answer' : List ℕ) : Type 0 where
+pub record CoverExported (c : Collection) (places : List ℤ) (work answer : List ℕ) (number : ℕ) (places' : List ℤ) (work' answer' : List ℕ) : Type 0 where
   pub given : CoverAnswer
-  pub promised : 4 ≤ length answer → Promise k letters ends weights places work given places' work'
+  pub promised : 4 ≤ length answer → Promise c places work given places' work'
   pub shown : exported {Tables = List ℤ × List ℕ} number answer' (places', work') ≡ exportedOf answer (places, work) (coverReply given) (places', work')

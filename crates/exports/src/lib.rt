@@ -4,18 +4,19 @@ ghost use mathlib.Core.Path.{_≡_};
 ghost use Rattle.index.specs.Indexing.{lent, indexOf};
 ghost use Rattle.access.specs.Access.{accessAt};
 ghost use Rattle.plain.specs.Plain.{plainOf};
-ghost use Rattle.placing.specs.Apply.{applyOf};
-ghost use Rattle.questions.specs.Quick.{quickOf};
-ghost use Rattle.questions.specs.Weighed.{weighedOf};
+ghost use Rattle.apply.specs.Apply.{applyOf, lent as newTables};
+ghost use Rattle.quick.specs.Quick.{quickOf};
+ghost use Rattle.quick.specs.Weighed.{weighedOf};
 ghost use Rattle.repeats.specs.Check.{checkOf};
 ghost use Rattle.runs.specs.Calls.{runsOf};
-ghost use Rattle.run_lists.specs.Weight.{weightAnswer};
-ghost use Rattle.sheet_text.specs.Read.{readOf};
-ghost use Rattle.sheet_text.specs.Write.{writeOf};
-ghost use Rattle.stretches.specs.Index.{tables};
-ghost use Rattle.replies.specs.Exported.{exported, exportedOf, none};
-ghost use Rattle.replies.specs.Replies.{weightReply, accessReply, plainReply, quickReply, weighReply};
+ghost use Rattle.weight.specs.Weight.{weightAnswer};
+ghost use Rattle.sheet.specs.Read.{readOf};
+ghost use Rattle.sheet.specs.Write.{writeOf};
+ghost use Rattle.index_stretches.specs.Index.{tables};
+ghost use Rattle.exports_replies.specs.Exported.{exported, exportedOf, none};
+ghost use Rattle.exports_replies.specs.Replies.{weightReply, accessReply, plainReply, quickReply, weighReply};
 ghost use Rattle.exports.specs.Calls.{readExported, writeExported, checkExported, CoverExported, applyExported, runsExported, indexExported};
+ghost use Rattle.collection.specs.Collection.{spelling, collection};
 
 // How many entries the answer table needs, for every call.
 const ANSWER: usize = 4;
@@ -35,8 +36,8 @@ pub extern "C" fn corrivume_read(
         return 1;
     }
     let a = sheet_read::read(sheet, letters, ends, weights);
-    let reply = replies::inner::read_reply(a);
-    replies::inner::tell(answer, reply)
+    let reply = exports_replies::inner::read_reply(a);
+    exports_replies::inner::tell(answer, reply)
 }
 
 // WRITE: how many bytes were written.
@@ -49,14 +50,14 @@ pub extern "C" fn corrivume_write(
     sheet: &mut [u8],
     answer: &mut [u64],
 ) -> u32
-    ensures { λ r. ⌜ exported r (now (answer .exit)) (now (sheet .exit)) ≡ writeExported (now (answer .entry)) (now (sheet .entry)) (writeOf k (now (letters .entry)) (now (ends .entry)) (now (weights .entry)) (now (sheet .entry))) ⌝ }
+    ensures { λ r. ⌜ exported r (now (answer .exit)) (now (sheet .exit)) ≡ writeExported (now (answer .entry)) (now (sheet .entry)) (writeOf (collection k (now (letters .entry)) (now (ends .entry)) (now (weights .entry))) (now (sheet .entry))) ⌝ }
 {
     if answer.len() < ANSWER {
         return 1;
     }
     let a = sheet_write::write(k, letters, ends, weights, sheet);
-    let reply = replies::inner::write_reply(a);
-    replies::inner::tell(answer, reply)
+    let reply = exports_replies::inner::write_reply(a);
+    exports_replies::inner::tell(answer, reply)
 }
 
 // CHECK: how many k-mers were looked at.
@@ -69,14 +70,14 @@ pub extern "C" fn corrivume_check(
     work: &mut [u32],
     answer: &mut [u64],
 ) -> u32
-    ensures { λ r. ⌜ exported r (now (answer .exit)) (now (work .exit)) ≡ checkExported (now (answer .entry)) (now (work .entry)) (checkOf k (now (letters .entry)) (now (ends .entry)) (now (weights .entry)) (now (work .entry))) ⌝ }
+    ensures { λ r. ⌜ exported r (now (answer .exit)) (now (work .exit)) ≡ checkExported (now (answer .entry)) (now (work .entry)) (checkOf (collection k (now (letters .entry)) (now (ends .entry)) (now (weights .entry))) (now (work .entry))) ⌝ }
 {
     if answer.len() < ANSWER {
         return 1;
     }
     let a = repeats::check(k, letters, ends, weights, work);
-    let reply = replies::inner::check_reply(a);
-    replies::inner::tell(answer, reply)
+    let reply = exports_replies::inner::check_reply(a);
+    exports_replies::inner::tell(answer, reply)
 }
 
 // COVER: the paths, and how many places were filled.
@@ -90,14 +91,14 @@ pub extern "C" fn corrivume_cover(
     work: &mut [u32],
     answer: &mut [u64],
 ) -> u32
-    ensures { λ r. ⌜ CoverExported k (now (letters .entry)) (now (ends .entry)) (now (weights .entry)) (now (places .entry)) (now (work .entry)) (now (answer .entry)) r (now (places .exit)) (now (work .exit)) (now (answer .exit)) ⌝ }
+    ensures { λ r. ⌜ CoverExported (collection k (now (letters .entry)) (now (ends .entry)) (now (weights .entry))) (now (places .entry)) (now (work .entry)) (now (answer .entry)) r (now (places .exit)) (now (work .exit)) (now (answer .exit)) ⌝ }
 {
     if answer.len() < ANSWER {
         return 1;
     }
     let a = cover::cover(k, letters, ends, weights, places, work);
-    let reply = replies::inner::cover_reply(a);
-    replies::inner::tell(answer, reply)
+    let reply = exports_replies::inner::cover_reply(a);
+    exports_replies::inner::tell(answer, reply)
 }
 
 // APPLY: how many letters, ends and weights were filled.
@@ -114,12 +115,12 @@ pub extern "C" fn corrivume_apply(
     work: &mut [u32],
     answer: &mut [u64],
 ) -> u32
-    ensures { λ r. ⌜ exported r (now (answer .exit)) (now («new_letters» .exit), now («new_ends» .exit), now («new_weights» .exit), now (work .exit)) ≡ applyExported (now (answer .entry)) (now («new_letters» .entry), now («new_ends» .entry), now («new_weights» .entry), now (work .entry)) (applyOf k (now (letters .entry)) (now (ends .entry)) (now (weights .entry)) (now (signed .entry)) (now («new_letters» .entry)) (now («new_ends» .entry)) (now («new_weights» .entry)) (now (work .entry))) ⌝ }
+    ensures { λ r. ⌜ exported r (now (answer .exit)) (newTables (now («new_letters» .exit)) (now («new_ends» .exit)) (now («new_weights» .exit)) (now (work .exit))) ≡ applyExported (now (answer .entry)) (newTables (now («new_letters» .entry)) (now («new_ends» .entry)) (now («new_weights» .entry)) (now (work .entry))) (applyOf (collection k (now (letters .entry)) (now (ends .entry)) (now (weights .entry))) (now (signed .entry)) (newTables (now («new_letters» .entry)) (now («new_ends» .entry)) (now («new_weights» .entry)) (now (work .entry)))) ⌝ }
 {
     if answer.len() < ANSWER {
         return 1;
     }
-    let a = placing::apply(
+    let a = apply::apply(
         k,
         letters,
         ends,
@@ -130,8 +131,8 @@ pub extern "C" fn corrivume_apply(
         new_weights,
         work,
     );
-    let reply = replies::inner::apply_reply(a);
-    replies::inner::tell(answer, reply)
+    let reply = exports_replies::inner::apply_reply(a);
+    exports_replies::inner::tell(answer, reply)
 }
 
 // RUNS: how many runs were filled in each table.
@@ -145,14 +146,14 @@ pub extern "C" fn corrivume_runs(
     run_firsts: &mut [u32],
     answer: &mut [u64],
 ) -> u32
-    ensures { λ r. ⌜ exported r (now (answer .exit)) (now («run_weights» .exit), now («run_firsts» .exit)) ≡ runsExported (now (answer .entry)) (now («run_weights» .entry), now («run_firsts» .entry)) (runsOf k (now (letters .entry)) (now (ends .entry)) (now (weights .entry)) (now («run_weights» .entry)) (now («run_firsts» .entry))) ⌝ }
+    ensures { λ r. ⌜ exported r (now (answer .exit)) (now («run_weights» .exit), now («run_firsts» .exit)) ≡ runsExported (now (answer .entry)) (now («run_weights» .entry), now («run_firsts» .entry)) (runsOf (collection k (now (letters .entry)) (now (ends .entry)) (now (weights .entry))) (now («run_weights» .entry)) (now («run_firsts» .entry))) ⌝ }
 {
     if answer.len() < ANSWER {
         return 1;
     }
     let a = runs::runs(k, letters, ends, weights, run_weights, run_firsts);
-    let reply = replies::inner::runs_reply(a);
-    replies::inner::tell(answer, reply)
+    let reply = exports_replies::inner::runs_reply(a);
+    exports_replies::inner::tell(answer, reply)
 }
 
 // WEIGHT: the weight of a handle, by the run list of n k-mers.
@@ -169,9 +170,9 @@ pub extern "C" fn corrivume_weight(
     if answer.len() < ANSWER {
         return 1;
     }
-    let a = run_lists::weight(run_weights, run_firsts, n, handle);
-    let reply = replies::inner::weight_reply(a);
-    replies::inner::tell(answer, reply)
+    let a = weight::weight(run_weights, run_firsts, n, handle);
+    let reply = exports_replies::inner::weight_reply(a);
+    exports_replies::inner::tell(answer, reply)
 }
 
 // ACCESS: the position of the first of the k letters of a handle, and k.
@@ -183,14 +184,14 @@ pub extern "C" fn corrivume_access(
     handle: usize,
     answer: &mut [u64],
 ) -> u32
-    ensures { λ r. ⌜ exported r (now (answer .exit)) none ≡ exportedOf (now (answer .entry)) none (accessReply k (accessAt k (now (letters .entry)) (now (ends .entry)) handle)) none ⌝ }
+    ensures { λ r. ⌜ exported r (now (answer .exit)) none ≡ exportedOf (now (answer .entry)) none (accessReply k (accessAt (spelling k (now (letters .entry)) (now (ends .entry))) handle)) none ⌝ }
 {
     if answer.len() < ANSWER {
         return 1;
     }
     let a = access::access_at(k, letters, ends, handle);
-    let reply = replies::inner::access_reply(k, a);
-    replies::inner::tell(answer, reply)
+    let reply = exports_replies::inner::access_reply(k, a);
+    exports_replies::inner::tell(answer, reply)
 }
 
 // PLAIN: the handle of a word and its side, by a scan; handle 0 where it is absent.
@@ -203,14 +204,14 @@ pub extern "C" fn corrivume_plain(
     word: &[u8],
     answer: &mut [u64],
 ) -> u32
-    ensures { λ r. ⌜ exported r (now (answer .exit)) none ≡ exportedOf (now (answer .entry)) none (plainReply (plainOf k (now (letters .entry)) (now (ends .entry)) (now (weights .entry)) (now (word .entry)))) none ⌝ }
+    ensures { λ r. ⌜ exported r (now (answer .exit)) none ≡ exportedOf (now (answer .entry)) none (plainReply (plainOf (collection k (now (letters .entry)) (now (ends .entry)) (now (weights .entry))) (now (word .entry)))) none ⌝ }
 {
     if answer.len() < ANSWER {
         return 1;
     }
     let a = plain::plain(k, letters, ends, weights, word);
-    let reply = replies::inner::plain_reply(a);
-    replies::inner::tell(answer, reply)
+    let reply = exports_replies::inner::plain_reply(a);
+    exports_replies::inner::tell(answer, reply)
 }
 
 // INDEX: how many stretches were filled in each of three tables, and how many entries in the fourth.
@@ -228,7 +229,7 @@ pub extern "C" fn corrivume_index(
     work: &mut [u32],
     answer: &mut [u64],
 ) -> u32
-    ensures { λ r. ⌜ exported r (now (answer .exit)) (lent (now (firsts .exit)) (now (positions .exit)) (now (numbers .exit)) (now (before .exit)) (now (work .exit))) ≡ indexExported (now (answer .entry)) (lent (now (firsts .entry)) (now (positions .entry)) (now (numbers .entry)) (now (before .entry)) (now (work .entry))) (indexOf k p (now (letters .entry)) (now (ends .entry)) (now (weights .entry)) (lent (now (firsts .entry)) (now (positions .entry)) (now (numbers .entry)) (now (before .entry)) (now (work .entry)))) ⌝ }
+    ensures { λ r. ⌜ exported r (now (answer .exit)) (lent (now (firsts .exit)) (now (positions .exit)) (now (numbers .exit)) (now (before .exit)) (now (work .exit))) ≡ indexExported (now (answer .entry)) (lent (now (firsts .entry)) (now (positions .entry)) (now (numbers .entry)) (now (before .entry)) (now (work .entry))) (indexOf (collection k (now (letters .entry)) (now (ends .entry)) (now (weights .entry))) p (lent (now (firsts .entry)) (now (positions .entry)) (now (numbers .entry)) (now (before .entry)) (now (work .entry)))) ⌝ }
 {
     if answer.len() < ANSWER {
         return 1;
@@ -245,8 +246,8 @@ pub extern "C" fn corrivume_index(
         before,
         work,
     );
-    let reply = replies::inner::index_reply(a);
-    replies::inner::tell(answer, reply)
+    let reply = exports_replies::inner::index_reply(a);
+    exports_replies::inner::tell(answer, reply)
 }
 
 // QUICK: the handle of a word, its side and the number compared, by the index; handle 0 where it is absent.
@@ -267,9 +268,9 @@ pub extern "C" fn corrivume_quick(
     if answer.len() < ANSWER {
         return 1;
     }
-    let a = questions::quick(k, p, word, letters, firsts, positions, numbers, before);
-    let reply = replies::inner::quick_reply(a);
-    replies::inner::tell(answer, reply)
+    let a = quick::quick(k, p, word, letters, firsts, positions, numbers, before);
+    let reply = exports_replies::inner::quick_reply(a);
+    exports_replies::inner::tell(answer, reply)
 }
 
 // The weight of a word, by the index and the run list of n k-mers: 1 and the weight, 0 and 0 where it is absent.
@@ -293,7 +294,7 @@ pub extern "C" fn corrivume_weigh(
     if answer.len() < ANSWER {
         return 1;
     }
-    let a = questions::weigh(
+    let a = quick::weigh(
         k,
         p,
         word,
@@ -306,6 +307,6 @@ pub extern "C" fn corrivume_weigh(
         run_firsts,
         n,
     );
-    let reply = replies::inner::weigh_reply(a);
-    replies::inner::tell(answer, reply)
+    let reply = exports_replies::inner::weigh_reply(a);
+    exports_replies::inner::tell(answer, reply)
 }

@@ -15,34 +15,35 @@ use Rattle.lists.proofs.Picks.{length-upTo}
 use Rattle.lists.proofs.Regions.{part-is, among-trans}
 use Rattle.lists.proofs.Storing.{put-start, length-fill, take-fill, drop-fill, fill-again}
 use Rattle.repeats.proofs.Arranged.{few-kmers}
-use Rattle.minimizers.specs.Minimizer.{minimizerAt}
-use Rattle.stretches.specs.Index.{built}
-use Rattle.stretches.specs.Stretches.{Stretch, stretches}
-use Rattle.stretches.proofs.Even.{stretches-few}
-use Rattle.cutting.specs.Cut.{Room4, Cut}
-use Rattle.cutting.proofs.Keys.{keys-small}
-use Rattle.arranging.specs.Arranging.{gathered, placesBy, startsBy, inOrder, Orderable, Room3, Arranged}
-use Rattle.arranging.proofs.Gathered.{gathered-places, length-places}
-use Rattle.arranging.proofs.Ordered.{fill-only, wider}
+use Rattle.index_minimizers.specs.Minimizer.{minimizerAt}
+use Rattle.index_stretches.specs.Index.{built}
+use Rattle.index_stretches.specs.Stretches.{Stretch, stretches}
+use Rattle.index_stretches.proofs.Even.{stretches-few}
+use Rattle.index_cutting.specs.Cut.{Room4, Cut}
+use Rattle.index_cutting.proofs.Keys.{keys-small}
+use Rattle.index_arranging.specs.Arranging.{gathered, placesBy, startsBy, inOrder, Orderable, Room3, Arranged}
+use Rattle.index_arranging.proofs.Gathered.{gathered-places, length-places}
+use Rattle.index_arranging.proofs.Ordered.{fill-only, wider}
 use Rattle.index.specs.Indexing.{Lent, lent, indexWith}
 use Rattle.index.specs.Judged.{Judged, Held}
+use Rattle.collection.specs.Collection.{Spelling}
 
-module _ {k p : ℕ} {letters ends : List ℕ} {n m : ℕ} (t : Lent) (j : Judged k p letters ends n m t) where
+module _ {t : Spelling} {p : ℕ} {n m : ℕ} (t₁ : Lent) (j : Judged t p n m t₁) where
   abbrev ss : List Stretch
-  ss = stretches (minimizerAt k p letters) k ends
+  ss = stretches (minimizerAt t.k p t.letters) t.k t.ends
 
   abbrev key : Stretch → ℕ
-  key s = minimizerAt k p letters (s .at)
+  key s = minimizerAt t.k p t.letters (s .at)
 
   few : m ≤ n
-  few = omega (arith, j .counted, j .each, stretches-few (minimizerAt k p letters) k ends)
+  few = omega (arith, j .counted, j .each, stretches-few (minimizerAt t.k p t.letters) t.k t.ends)
 
   -- the part of work that takes the minimizers
-  pub lent-size : length (take n (t .work)) ≡ n
-  lent-size = length-take-le n (t .work) (omega (arith, j .work-room))
+  pub lent-size : length (take n (t₁ .work)) ≡ n
+  lent-size = length-take-le n (t₁ .work) (omega (arith, j .work-room))
 
   -- all stretches fit the tables and that part
-  pub room4 : Room4 0 (length ss) (t .firsts) (t .positions) (t .numbers) (take n (t .work))
+  pub room4 : Room4 0 (length ss) (t₁ .firsts) (t₁ .positions) (t₁ .numbers) (take n (t₁ .work))
   room4 =
       record {
         firsts-room = omega (arith, j .counted, j .firsts-room);
@@ -52,35 +53,35 @@ module _ {k p : ℕ} {letters ends : List ℕ} {n m : ℕ} (t : Lent) (j : Judge
       }
 
   small : All (λ s. key s < 4 ^ p) ss
-  small = keys-small k p letters ends (j .ready) (j .p-fits)
+  small = keys-small t p (j .ready) (j .p-fits)
 
   -- ─── the stretches are cut ─────────────────────────────────────────────────
 
-  module _ {firsts positions numbers keys : List ℕ} (c : Cut (minimizerAt k p letters) 0 ss (t .firsts) firsts (t .positions) positions (t .numbers) numbers (take n (t .work)) keys) where
+  module _ {firsts positions numbers keys : List ℕ} (c : Cut (minimizerAt t.k p t.letters) 0 ss (t₁ .firsts) firsts (t₁ .positions) positions (t₁ .numbers) numbers (take n (t₁ .work)) keys) where
     abbrev work : List ℕ
-    work = keys ++ drop n (t .work)
+    work = keys ++ drop n (t₁ .work)
 
-    keys-fill : keys ≡ fill (map key ss) (take n (t .work))
-    keys-fill = c .keys-held ∙ put-start (map key ss) (take n (t .work))
+    keys-fill : keys ≡ fill (map key ss) (take n (t₁ .work))
+    keys-fill = c .keys-held ∙ put-start (map key ss) (take n (t₁ .work))
 
     keys-number : length (map key ss) ≡ m
     keys-number = length-map ss key ∙ sym (j .counted)
 
     keys-size : length keys ≡ n
-    keys-size = ap length keys-fill ∙ (length-fill (map key ss) (take n (t .work)) (omega (arith, keys-number, few, lent-size)) ∙ lent-size)
+    keys-size = ap length keys-fill ∙ (length-fill (map key ss) (take n (t₁ .work)) (omega (arith, keys-number, few, lent-size)) ∙ lent-size)
 
     cut-keys : part 0 m work ≡ map key ss
     cut-keys =
         part-is 0 m work
-        ∙ (take-append-le m keys (drop n (t .work)) (omega (arith, keys-size, few)) ∙ (ap (take m) keys-fill ∙ take-fill (map key ss) (take n (t .work)) m keys-number))
+        ∙ (take-append-le m keys (drop n (t₁ .work)) (omega (arith, keys-size, few)) ∙ (ap (take m) keys-fill ∙ take-fill (map key ss) (take n (t₁ .work)) m keys-number))
 
-    cut-only : Only 0 n (t .work) work
+    cut-only : Only 0 n (t₁ .work) work
     cut-only =
-        subst (λ (i : ℕ). Only 0 i (t .work) work) keys-size
-        (subst (Only 0 (length keys) (t .work)) (ap (λ (i : ℕ). keys ++ drop i (t .work)) keys-size) (fill-only keys (t .work) (omega (arith, keys-size, j .work-room))))
+        subst (λ (i : ℕ). Only 0 i (t₁ .work) work) keys-size
+        (subst (Only 0 (length keys) (t₁ .work)) (ap (λ (i : ℕ). keys ++ drop i (t₁ .work)) keys-size) (fill-only keys (t₁ .work) (omega (arith, keys-size, j .work-room))))
 
     -- the tables are fit for the order
-    pub cut-orderable : Orderable p n m (length work) (length (t .before))
+    pub cut-orderable : Orderable p n m (length work) (length (t₁ .before))
     cut-orderable =
         record {
           p-high = j .p-high;
@@ -119,9 +120,9 @@ module _ {k p : ℕ} {letters ends : List ℕ} {n m : ℕ} (t : Lent) (j : Judge
     pub cut-room : Room3 m firsts positions numbers
     cut-room =
         record {
-          firsts-room = cut-size (λ s. s .first) (t .firsts) firsts (c .firsts-held) (j .firsts-room);
-          positions-room = cut-size (λ s. s .at) (t .positions) positions (c .positions-held) (j .positions-room);
-          numbers-room = cut-size (λ s. s .number) (t .numbers) numbers (c .numbers-held) (j .numbers-room);
+          firsts-room = cut-size (λ s. s .first) (t₁ .firsts) firsts (c .firsts-held) (j .firsts-room);
+          positions-room = cut-size (λ s. s .at) (t₁ .positions) positions (c .positions-held) (j .positions-room);
+          numbers-room = cut-size (λ s. s .number) (t₁ .numbers) numbers (c .numbers-held) (j .numbers-room);
         }
 
     -- ─── and ordered ─────────────────────────────────────────────────────────
@@ -132,14 +133,14 @@ module _ {k p : ℕ} {letters ends : List ℕ} {n m : ℕ} (t : Lent) (j : Judge
         ∙ (λ i. map (λ d. length-places key d ss i) (countFrom 0 (4 ^ p + 1)))
 
     -- the ordered tables are the index
-    pub index-built : {work' before' firsts' positions' numbers' : List ℕ} → Arranged (part 0 m work) p n m work work' (t .before) before' firsts firsts' positions positions' numbers numbers'
-        → Held (indexWith k p letters ends) n t (lent firsts' positions' numbers' before' work')
+    pub index-built : {work' before' firsts' positions' numbers' : List ℕ} → Arranged (part 0 m work) p n m work work' (t₁ .before) before' firsts firsts' positions positions' numbers numbers'
+        → Held (indexWith t p) n t₁ (lent firsts' positions' numbers' before' work')
     unfolding built
     index-built {work'} a =
         record {
-          firsts-held = a .firsts-ordered ∙ cut-ordered (λ s. s .first) (t .firsts) firsts (c .firsts-held);
-          positions-held = a .positions-ordered ∙ cut-ordered (λ s. s .at) (t .positions) positions (c .positions-held);
-          numbers-held = a .numbers-ordered ∙ cut-ordered (λ s. s .number) (t .numbers) numbers (c .numbers-held);
-          before-held = a .starts ∙ ap (λ (l : List ℕ). fill l (t .before)) starts;
-          rest = among-trans _ (t .work) work work' (wider n 0 n (t .work) work (omega arith) cut-only) (a .rest);
+          firsts-held = a .firsts-ordered ∙ cut-ordered (λ s. s .first) (t₁ .firsts) firsts (c .firsts-held);
+          positions-held = a .positions-ordered ∙ cut-ordered (λ s. s .at) (t₁ .positions) positions (c .positions-held);
+          numbers-held = a .numbers-ordered ∙ cut-ordered (λ s. s .number) (t₁ .numbers) numbers (c .numbers-held);
+          before-held = a .starts ∙ ap (λ (l : List ℕ). fill l (t₁ .before)) starts;
+          rest = among-trans _ (t₁ .work) work work' (wider n 0 n (t₁ .work) work (omega arith) cut-only) (a .rest);
         }

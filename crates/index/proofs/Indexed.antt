@@ -13,17 +13,18 @@ use Rattle.lists.specs.Regions.{Only}
 use Rattle.lists.proofs.Every.{and-left, and-right}
 use Rattle.lists.proofs.Regions.{among-trans}
 use Rattle.lists.proofs.Zeroed.{only-fill}
+use Rattle.collection.specs.Collection.{Spelling, Collection, spellingOf}
 use Rattle.collection.specs.declared.Verdict.{Verdict}
 use Rattle.collection.specs.declared.Verdict.the-variants.{Good, Bad}
-use Rattle.collection.specs.Judge.{collectionVerdict, kmerCount, Passes}
+use Rattle.collection.specs.Judge.{collectionVerdict, kmersIn, Passes}
 use Rattle.collection.specs.Verdict.{atPlace, settle}
 use Rattle.collection.proofs.Judged.{collection-good}
 use Rattle.collection.proofs.Kmers.{kmers-counted}
 use Rattle.collection.proofs.Verdicts.{both-good, test-good, then-bad, then-good, place-none, place-some, refused, settled}
 use Rattle.collection.proofs.Ready.{judged-ready}
 use Rattle.repeats.specs.Check.{firstRepeat}
-use Rattle.minimizers.specs.Minimizer.{sizesVerdict}
-use Rattle.minimizers.proofs.Sizes.{sizes-good}
+use Rattle.index_minimizers.specs.Minimizer.{sizesVerdict}
+use Rattle.index_minimizers.proofs.Sizes.{sizes-good}
 use Rattle.index.specs.declared.IndexAnswer.{IndexAnswer}
 use Rattle.index.specs.declared.IndexAnswer.the-variants.{Indexed, Refused}
 use Rattle.index.specs.Indexing.{Lent, lent, stretchCount, roomsVerdict, indexVerdict, Outcome, outcome, cleared, indexWith, indexOf}
@@ -31,65 +32,65 @@ use Rattle.index.specs.Judged.{Sized, foreseen, Judged, Held, judgedOf}
 
 -- ─── 2 to 6, then 1 ──────────────────────────────────────────────────────────
 
-module _ (k p : ℕ) (letters ends weights : List ℕ) where
+module _ (c : Collection) (p : ℕ) where
   abbrev kmerNumber : ℕ
-  kmerNumber = kmerCount k (length letters) (length ends)
+  kmerNumber = kmersIn (spellingOf c)
 
   -- 2, of k and p
-  pub sizes-refused : {number place : ℕ} → sizesVerdict k p ≡ Bad number place → (t : Lent) → Refused number place ≡ foreseen k p letters ends weights t
+  pub sizes-refused : {number place : ℕ} → sizesVerdict c.k p ≡ Bad number place → (t : Lent) → Refused number place ≡ foreseen c p t
   unfolding foreseen indexVerdict
   sizes-refused e t = refused Refused _ (then-bad _ e)
 
-  module _ (sizes : sizesVerdict k p ≡ Good) where
+  module _ (sizes : sizesVerdict c.k p ≡ Good) where
     -- 2 to 6, of the collection
-    pub collection-refused : {number place : ℕ} → collectionVerdict k letters ends weights ≡ Bad number place → (t : Lent) → Refused number place ≡ foreseen k p letters ends weights t
+    pub collection-refused : {number place : ℕ} → collectionVerdict c ≡ Bad number place → (t : Lent) → Refused number place ≡ foreseen c p t
     unfolding foreseen indexVerdict
     collection-refused e t = refused Refused _ (then-good _ sizes (then-bad _ e))
 
-    module _ (passes : Passes k letters ends weights) {count starts : ℕ} (counted : count ≡ stretchCount k p letters ends) (all : starts ≡ 4 ^ p + 1) (firsts positions numbers before work : ℕ) where
+    module _ (passes : Passes c) {count starts : ℕ} (counted : count ≡ stretchCount (spellingOf c) p) (all : starts ≡ 4 ^ p + 1) (firsts positions numbers before work : ℕ) where
       -- the test of the five sizes
       abbrev room : Bool
-      room = leb count firsts && (leb count positions && (leb count numbers && (leb starts before && leb (4 * length weights) work)))
+      room = leb count firsts && (leb count positions && (leb count numbers && (leb starts before && leb (4 * length c.weights) work)))
 
-      rooms : (t : Lent) → Sized t firsts positions numbers before work → roomsVerdict (stretchCount k p letters ends) (4 ^ p) kmerNumber t ≡ choose room Good (Bad 1 0)
+      rooms : (t : Lent) → Sized t firsts positions numbers before work → roomsVerdict (stretchCount (spellingOf c) p) (4 ^ p) kmerNumber t ≡ choose room Good (Bad 1 0)
       unfolding roomsVerdict
       rooms t s =
-          let n = sym (collection-good k letters ends weights passes .counted) in
-          let c = sym counted in
+          let n = sym (collection-good c passes .counted) in
+          let c₁ = sym counted in
           let d = sym all in
           λ i.
           choose
-          (leb (c i) (s .firsts-size i) && (leb (c i) (s .positions-size i) && (leb (c i) (s .numbers-size i) && (leb (d i) (s .before-size i) && leb (4 * n i) (s .work-size i)))))
+          (leb (c₁ i) (s .firsts-size i) && (leb (c₁ i) (s .positions-size i) && (leb (c₁ i) (s .numbers-size i) && (leb (d i) (s .before-size i) && leb (4 * n i) (s .work-size i)))))
           Good (Bad 1 0)
 
-      verdict : (t : Lent) → Sized t firsts positions numbers before work → indexVerdict k p letters ends weights t ≡ choose room Good (Bad 1 0)
+      verdict : (t : Lent) → Sized t firsts positions numbers before work → indexVerdict c p t ≡ choose room Good (Bad 1 0)
       unfolding indexVerdict
       verdict t s = then-good _ sizes (then-good _ passes (rooms t s))
 
       -- enough room: the answer that is foreseen
-      pub room-enough : room ≡ true → (t : Lent) → Sized t firsts positions numbers before work → Indexed count starts ≡ foreseen k p letters ends weights t
+      pub room-enough : room ≡ true → (t : Lent) → Sized t firsts positions numbers before work → Indexed count starts ≡ foreseen c p t
       unfolding foreseen
       room-enough h t s = settled Refused (ap₂ Indexed counted all) (verdict t s ∙ ap (λ (b : Bool). choose b Good (Bad 1 0)) h)
 
       -- 1
-      pub room-refused : room ≡ false → (t : Lent) → Sized t firsts positions numbers before work → Refused 1 0 ≡ foreseen k p letters ends weights t
+      pub room-refused : room ≡ false → (t : Lent) → Sized t firsts positions numbers before work → Refused 1 0 ≡ foreseen c p t
       unfolding foreseen
       room-refused h t s = refused Refused _ (verdict t s ∙ ap (λ (b : Bool). choose b Good (Bad 1 0)) h)
 
   -- where the verdict is good there are n weights
-  weights-counted : (t : Lent) → indexVerdict k p letters ends weights t ≡ Good → length weights ≡ kmerNumber
+  weights-counted : (t : Lent) → indexVerdict c p t ≡ Good → length c.weights ≡ kmerNumber
   unfolding indexVerdict
-  weights-counted t h = collection-good k letters ends weights (both-good (collectionVerdict k letters ends weights) _ (both-good (sizesVerdict k p) _ h .1) .0) .counted
+  weights-counted t h = collection-good c (both-good (collectionVerdict c) _ (both-good (sizesVerdict c.k p) _ h .1) .0) .counted
 
   -- the parts of a good verdict
-  pub index-good : (t : Lent) → indexVerdict k p letters ends weights t ≡ Good → Judged k p letters ends (length weights) (stretchCount k p letters ends) t
+  pub index-good : (t : Lent) → indexVerdict c p t ≡ Good → Judged (spellingOf c) p (length c.weights) (stretchCount (spellingOf c) p) t
   unfolding indexVerdict roomsVerdict
   index-good t h =
-      let a = both-good (sizesVerdict k p) _ h in
-      let b = both-good (collectionVerdict k letters ends weights) _ (a .1) in
-      let s = sizes-good k p (a .0) in
-      let j = collection-good k letters ends weights (b .0) in
-      let count = stretchCount k p letters ends in
+      let a = both-good (sizesVerdict c.k p) _ h in
+      let b = both-good (collectionVerdict c) _ (a .1) in
+      let s = sizes-good c.k p (a .0) in
+      let j = collection-good c (b .0) in
+      let count = stretchCount (spellingOf c) p in
       let r = test-good _ 1 0 Good (b .1) .0 in
       let r1 = and-right (leb count (length (t .firsts))) _ r in
       let r2 = and-right (leb count (length (t .positions))) _ r1 in
@@ -110,21 +111,21 @@ module _ (k p : ℕ) (letters ends weights : List ℕ) where
 
 -- ─── 7, or the index ─────────────────────────────────────────────────────────
 
-module _ {k p : ℕ} {letters ends : List ℕ} {n m : ℕ} (t : Lent) (j : Judged k p letters ends n m t) where
+module _ {t : Spelling} {p : ℕ} {n m : ℕ} (t₁ : Lent) (j : Judged t p n m t₁) where
   -- work is zeroed, whatever was written into its first 4n entries
-  zeroed : {u z : List ℕ} → Only 0 (4 * n) (t .work) u → z ≡ fill (replicate (4 * n) 0) u → z ≡ cleared n (t .work)
-  zeroed {u} only e = e ∙ only-fill (4 * n) (replicate (4 * n) 0) (t .work) u (length-replicate (4 * n) 0) (j .work-room) only
+  zeroed : {u z : List ℕ} → Only 0 (4 * n) (t₁ .work) u → z ≡ fill (replicate (4 * n) 0) u → z ≡ cleared n (t₁ .work)
+  zeroed {u} only e = e ∙ only-fill (4 * n) (replicate (4 * n) 0) (t₁ .work) u (length-replicate (4 * n) 0) (j .work-room) only
 
-  module _ {repeat : ℕ} {u : List ℕ} (search : (repeat ≡ firstRepeat k letters ends) × Only 0 (4 * n) (t .work) u) where
+  module _ {repeat : ℕ} {u : List ℕ} (search : (repeat ≡ firstRepeat t) × Only 0 (4 * n) (t₁ .work) u) where
     -- 7
-    pub repeat-refused : {z : List ℕ} → (repeat ≡ 0 → ⊥) → z ≡ fill (replicate (4 * n) 0) u → outcome (Refused 7 repeat) (lent (t .firsts) (t .positions) (t .numbers) (t .before) z) ≡ judgedOf k p letters ends n t
+    pub repeat-refused : {z : List ℕ} → (repeat ≡ 0 → ⊥) → z ≡ fill (replicate (4 * n) 0) u → outcome (Refused 7 repeat) (lent (t₁ .firsts) (t₁ .positions) (t₁ .numbers) (t₁ .before) z) ≡ judgedOf t p n t₁
     unfolding judgedOf
     repeat-refused h e =
-        ap (λ (w : List ℕ). outcome (Refused 7 repeat) (lent (t .firsts) (t .positions) (t .numbers) (t .before) w)) (zeroed (search .1) e)
+        ap (λ (w : List ℕ). outcome (Refused 7 repeat) (lent (t₁ .firsts) (t₁ .positions) (t₁ .numbers) (t₁ .before) w)) (zeroed (search .1) e)
         ∙ refused _ _ (ap (atPlace 7) (sym (search .0)) ∙ sym (place-some 7 repeat h))
 
     -- the search leaves the tables fit
-    pub judged-still : Judged k p letters ends n m (lent (t .firsts) (t .positions) (t .numbers) (t .before) u)
+    pub judged-still : Judged t p n m (lent (t₁ .firsts) (t₁ .positions) (t₁ .numbers) (t₁ .before) u)
     judged-still =
         record {
           ready = j .ready;
@@ -140,13 +141,13 @@ module _ {k p : ℕ} {letters ends : List ℕ} {n m : ℕ} (t : Lent) (j : Judge
           work-room = omega (arith, j .work-room, search .1 .size);
         }
 
-    module _ {t' : Lent} (h : Held (indexWith k p letters ends) n (lent (t .firsts) (t .positions) (t .numbers) (t .before) u) t') where
+    module _ {t' : Lent} (h : Held (indexWith t p) n (lent (t₁ .firsts) (t₁ .positions) (t₁ .numbers) (t₁ .before) u) t') where
       -- no word repeats: the index is made, and work zeroed
       pub index-made : {z : List ℕ} {starts : ℕ} → repeat ≡ 0 → z ≡ fill (replicate (4 * n) 0) (t' .work) → starts ≡ 4 ^ p + 1
-          → outcome (Indexed m starts) (lent (t' .firsts) (t' .positions) (t' .numbers) (t' .before) z) ≡ judgedOf k p letters ends n t
+          → outcome (Indexed m starts) (lent (t' .firsts) (t' .positions) (t' .numbers) (t' .before) z) ≡ judgedOf t p n t₁
       unfolding judgedOf
       index-made none e s =
-          let w = zeroed (among-trans _ (t .work) u (t' .work) (search .1) (h .rest)) e in
+          let w = zeroed (among-trans _ (t₁ .work) u (t' .work) (search .1) (h .rest)) e in
           settled _ (λ i. outcome (Indexed (j .counted i) (s i)) (lent (h .firsts-held i) (h .positions-held i) (h .numbers-held i) (h .before-held i) (w i)))
           (sym (place-none 7 (sym (search .0) ∙ none)))
 
@@ -169,22 +170,22 @@ unfolding settle
 told-good Good m starts e f = (refl, cc)
 told-good (Bad number place) m starts e f = let z : _≡_ {A = ℕ} 0 1 = cc in absurd (let y : ⊥ = omega arith in y)
 
-module _ (k p : ℕ) (letters ends weights : List ℕ) (t : Lent) {answer : IndexAnswer} (e : answer ≡ foreseen k p letters ends weights t) where
+module _ (c : Collection) (p : ℕ) (t : Lent) {answer : IndexAnswer} (e : answer ≡ foreseen c p t) where
   -- a foreseen refusal is the answer, and nothing is written
-  pub index-refused : {number place : ℕ} → answer ≡ Refused number place → outcome answer t ≡ indexOf k p letters ends weights t
+  pub index-refused : {number place : ℕ} → answer ≡ Refused number place → outcome answer t ≡ indexOf c p t
   unfolding foreseen indexOf
-  index-refused f = told-refused (indexVerdict k p letters ends weights t) (stretchCount k p letters ends) (4 ^ p + 1) t _ e f
+  index-refused f = told-refused (indexVerdict c p t) (stretchCount (spellingOf c) p) (4 ^ p + 1) t _ e f
 
   module _ {m starts : ℕ} (f : answer ≡ Indexed m starts) where
-    good : (indexVerdict k p letters ends weights t ≡ Good) × (m ≡ stretchCount k p letters ends)
+    good : (indexVerdict c p t ≡ Good) × (m ≡ stretchCount (spellingOf c) p)
     unfolding foreseen
-    good = told-good (indexVerdict k p letters ends weights t) (stretchCount k p letters ends) (4 ^ p + 1) e f
+    good = told-good (indexVerdict c p t) (stretchCount (spellingOf c) p) (4 ^ p + 1) e f
 
     -- a foreseen index: 2 to 6 and 1 refuse nothing
-    pub foreseen-judged : Judged k p letters ends (length weights) m t
-    foreseen-judged = subst (λ (i : ℕ). Judged k p letters ends (length weights) i t) (sym (good .1)) (index-good k p letters ends weights t (good .0))
+    pub foreseen-judged : Judged (spellingOf c) p (length c.weights) m t
+    foreseen-judged = subst (λ (i : ℕ). Judged (spellingOf c) p (length c.weights) i t) (sym (good .1)) (index-good c p t (good .0))
 
     -- and the rest of the call decides
-    pub index-goes-on : {done : Outcome} → done ≡ judgedOf k p letters ends (length weights) t → done ≡ indexOf k p letters ends weights t
+    pub index-goes-on : {done : Outcome} → done ≡ judgedOf (spellingOf c) p (length c.weights) t → done ≡ indexOf c p t
     unfolding judgedOf indexOf
-    index-goes-on d = settled _ (d ∙ ap (λ (n : ℕ). judgedOf k p letters ends n t) (weights-counted k p letters ends weights t (good .0))) (good .0)
+    index-goes-on d = settled _ (d ∙ ap (λ (n : ℕ). judgedOf (spellingOf c) p n t) (weights-counted c p t (good .0))) (good .0)

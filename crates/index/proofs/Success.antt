@@ -10,15 +10,16 @@ use Rattle.lists.specs.Pick.{upTo}
 use Rattle.lists.proofs.Count.{length-count}
 use Rattle.lists.proofs.Picks.{length-upTo}
 use Rattle.lists.proofs.Storing.{take-fill}
+use Rattle.collection.specs.Collection.{Collection, spellingOf}
 use Rattle.collection.specs.declared.Verdict.the-variants.{Good}
-use Rattle.collection.specs.Judge.{kmerCount}
+use Rattle.collection.specs.Judge.{kmersIn}
 use Rattle.collection.specs.Verdict.{atPlace}
 use Rattle.collection.proofs.Verdicts.{place-good, place-none, settled, done-by}
 use Rattle.repeats.specs.Check.{firstRepeat}
-use Rattle.minimizers.specs.Minimizer.{minimizerAt}
-use Rattle.stretches.specs.Index.{tables, built}
-use Rattle.stretches.specs.Stretches.{Stretch, stretches}
-use Rattle.cutting.proofs.Keys.{keys-small}
+use Rattle.index_minimizers.specs.Minimizer.{minimizerAt}
+use Rattle.index_stretches.specs.Index.{tables, built}
+use Rattle.index_stretches.specs.Stretches.{Stretch, stretches}
+use Rattle.index_cutting.proofs.Keys.{keys-small}
 use Rattle.index.specs.declared.IndexAnswer.the-variants.{Indexed, Refused}
 use Rattle.index.specs.Indexing.{Lent, stretchCount, indexVerdict, Outcome, outcome, untouched, holding, firstEntries, indexWith, indexOf}
 use Rattle.index.proofs.Indexed.{index-good}
@@ -27,45 +28,45 @@ use Rattle.index.proofs.Indexed.{index-good}
 never : {number place m starts : ℕ} → Refused number place ≡ Indexed m starts → ⊥
 never e = let z : _≡_ {A = ℕ} 0 1 = cc in omega arith
 
-module _ (k p : ℕ) (letters ends weights : List ℕ) (t : Lent) where
+module _ (c : Collection) (p : ℕ) (t : Lent) where
   -- an index is made only where nothing is refused
-  pub index-told : {m starts : ℕ} → indexOf k p letters ends weights t .answer ≡ Indexed m starts → (indexVerdict k p letters ends weights t ≡ Good) × (firstRepeat k letters ends ≡ 0)
+  pub index-told : {m starts : ℕ} → indexOf c p t .answer ≡ Indexed m starts → (indexVerdict c p t ≡ Good) × (firstRepeat (spellingOf c) ≡ 0)
   unfolding indexOf
   index-told {m} {starts} e =
-      let a = done-by (λ (o : Outcome). o .answer) (indexVerdict k p letters ends weights t) _ _ (Indexed m starts) (λ number place q. never q) e in
-      let b = done-by (λ (o : Outcome). o .answer) (atPlace 7 (firstRepeat k letters ends)) _ _ (Indexed m starts) (λ number place q. never q) (a .2) in
+      let a = done-by (λ (o : Outcome). o .answer) (indexVerdict c p t) _ _ (Indexed m starts) (λ number place q. never q) e in
+      let b = done-by (λ (o : Outcome). o .answer) (atPlace 7 (firstRepeat (spellingOf c))) _ _ (Indexed m starts) (λ number place q. never q) (a .2) in
       (a .0, place-good 7 _ (b .0))
 
-  module _ (good : indexVerdict k p letters ends weights t ≡ Good) where
+  module _ (good : indexVerdict c p t ≡ Good) where
     abbrev ss : List Stretch
-    ss = stretches (minimizerAt k p letters) k ends
+    ss = stretches (minimizerAt c.k p c.letters) c.k c.ends
 
     abbrev arrangedBy : List Stretch
-    arrangedBy = upTo (λ s. minimizerAt k p letters (s .at)) (4 ^ p) ss
+    arrangedBy = upTo (λ s. minimizerAt c.k p c.letters (s .at)) (4 ^ p) ss
 
     -- the table of one number of each stretch has as many entries as there are stretches
     taken : (g : Stretch → ℕ) (old : List ℕ) → take (length ss) (fill (map g arrangedBy) old) ≡ map g arrangedBy
     taken g old =
-        let j = index-good k p letters ends weights t good in
-        take-fill (map g arrangedBy) old (length ss) (length-map arrangedBy g ∙ length-upTo (λ s. minimizerAt k p letters (s .at)) (4 ^ p) ss (keys-small k p letters ends (j .ready) (j .p-fits)))
+        let j = index-good c p t good in
+        take-fill (map g arrangedBy) old (length ss) (length-map arrangedBy g ∙ length-upTo (λ s. minimizerAt c.k p c.letters (s .at)) (4 ^ p) ss (keys-small (spellingOf c) p (j .ready) (j .p-fits)))
 
-    held : (n : ℕ) → firstEntries (stretchCount k p letters ends) (4 ^ p + 1) (holding (indexWith k p letters ends) n t) ≡ indexWith k p letters ends
+    held : (n : ℕ) → firstEntries (stretchCount (spellingOf c) p) (4 ^ p + 1) (holding (indexWith (spellingOf c) p) n t) ≡ indexWith (spellingOf c) p
     unfolding built
     held n =
         let a = taken (λ s. s .first) (t .firsts) in
         let b = taken (λ s. s .at) (t .positions) in
-        let c = taken (λ s. s .number) (t .numbers) in
-        let starts : ℕ → ℕ = λ i. length (upTo (λ s. minimizerAt k p letters (s .at)) i ss) in
+        let c₁ = taken (λ s. s .number) (t .numbers) in
+        let starts : ℕ → ℕ = λ i. length (upTo (λ s. minimizerAt c.k p c.letters (s .at)) i ss) in
         let d = take-fill (map starts (countFrom 0 (4 ^ p + 1))) (t .before) (4 ^ p + 1) (length-map (countFrom 0 (4 ^ p + 1)) starts ∙ length-count 0 (4 ^ p + 1)) in
-        λ i. tables (a i) (b i) (c i) (d i)
+        λ i. tables (a i) (b i) (c₁ i) (d i)
 
     -- where nothing is refused, the answer says how many entries are filled, and these are the index
-    pub index-success : firstRepeat k letters ends ≡ 0
-        → (indexOf k p letters ends weights t .answer ≡ Indexed (stretchCount k p letters ends) (4 ^ p + 1))
-        × (firstEntries (stretchCount k p letters ends) (4 ^ p + 1) (indexOf k p letters ends weights t .after) ≡ indexWith k p letters ends)
+    pub index-success : firstRepeat (spellingOf c) ≡ 0
+        → (indexOf c p t .answer ≡ Indexed (stretchCount (spellingOf c) p) (4 ^ p + 1))
+        × (firstEntries (stretchCount (spellingOf c) p) (4 ^ p + 1) (indexOf c p t .after) ≡ indexWith (spellingOf c) p)
     unfolding indexOf
     index-success none =
-        let n : ℕ = kmerCount k (length letters) (length ends) in
-        let done : Outcome = outcome (Indexed (stretchCount k p letters ends) (4 ^ p + 1)) (holding (indexWith k p letters ends) n t) in
+        let n : ℕ = kmersIn (spellingOf c) in
+        let done : Outcome = outcome (Indexed (stretchCount (spellingOf c) p) (4 ^ p + 1)) (holding (indexWith (spellingOf c) p) n t) in
         let o = settled (λ number place. outcome (Refused number place) t) (settled (λ number place. outcome (Refused number place) (untouched n t)) {answer = done} refl (sym (place-none 7 none))) good in
-        (ap (λ (r : Outcome). r .answer) (sym o), ap (λ (r : Outcome). firstEntries (stretchCount k p letters ends) (4 ^ p + 1) (r .after)) (sym o) ∙ held n)
+        (ap (λ (r : Outcome). r .answer) (sym o), ap (λ (r : Outcome). firstEntries (stretchCount (spellingOf c) p) (4 ^ p + 1) (r .after)) (sym o) ∙ held n)

@@ -6,14 +6,15 @@ use lib.Dec.{leb}
 use lib.ListN.{length, take, replicate}
 use Rattle.lists.specs.Choose.{choose}
 use Rattle.lists.specs.Fill.{fill}
+use Rattle.collection.specs.Collection.{Spelling, Collection, spellingOf}
 use Rattle.collection.specs.declared.Verdict.{Verdict}
 use Rattle.collection.specs.declared.Verdict.the-variants.{Good, Bad}
-use Rattle.collection.specs.Judge.{collectionVerdict, kmerCount}
+use Rattle.collection.specs.Judge.{collectionVerdict, kmersIn}
 use Rattle.collection.specs.Verdict.{andThen, atPlace, settle}
 use Rattle.repeats.specs.Check.{firstRepeat}
-use Rattle.minimizers.specs.Minimizer.{sizesVerdict, minimizerAt}
-use Rattle.stretches.specs.Stretches.{stretches}
-use Rattle.stretches.specs.Index.{Index, tables, indexed}
+use Rattle.index_minimizers.specs.Minimizer.{sizesVerdict, minimizerAt}
+use Rattle.index_stretches.specs.Stretches.{stretches}
+use Rattle.index_stretches.specs.Index.{Index, tables, indexed}
 use Rattle.index.specs.declared.IndexAnswer.{IndexAnswer}
 use Rattle.index.specs.declared.IndexAnswer.the-variants.{Indexed, Refused}
 
@@ -31,8 +32,8 @@ lent firsts positions numbers before work = record { firsts = firsts; positions 
 -- ─── the refusals ────────────────────────────────────────────────────────────
 
 -- how many stretches there are
-abbrev pub stretchCount : ℕ → ℕ → List ℕ → List ℕ → ℕ
-stretchCount k p letters ends = length (stretches (minimizerAt k p letters) k ends)
+abbrev pub stretchCount : Spelling → ℕ → ℕ
+stretchCount t p = length (stretches (minimizerAt t.k p t.letters) t.k t.ends)
 
 -- 1: three tables have an entry for each of `count` stretches, the fourth d + 1, and work 4n
 unfoldable pub roomsVerdict : ℕ → ℕ → ℕ → Lent → Verdict
@@ -42,11 +43,11 @@ roomsVerdict count d n t =
     Good (Bad 1 0)
 
 -- 2, of k and p, then 3 to 6, then 1
-unfoldable pub indexVerdict : ℕ → ℕ → List ℕ → List ℕ → List ℕ → Lent → Verdict
-indexVerdict k p letters ends weights t =
-    andThen (sizesVerdict k p)
-    (andThen (collectionVerdict k letters ends weights)
-    (roomsVerdict (stretchCount k p letters ends) (4 ^ p) (kmerCount k (length letters) (length ends)) t))
+unfoldable pub indexVerdict : Collection → ℕ → Lent → Verdict
+indexVerdict c p t =
+    andThen (sizesVerdict c.k p)
+    (andThen (collectionVerdict c)
+    (roomsVerdict (stretchCount (spellingOf c) p) (4 ^ p) (kmersIn (spellingOf c)) t))
 
 -- ─── the call ────────────────────────────────────────────────────────────────
 
@@ -72,8 +73,8 @@ holding index n t =
     lent (fill (index .firsts) (t .firsts)) (fill (index .positions) (t .positions)) (fill (index .numbers) (t .numbers)) (fill (index .before) (t .before)) (cleared n (t .work))
 
 -- the index of a collection, by minimizers of p letters
-abbrev pub indexWith : ℕ → ℕ → List ℕ → List ℕ → Index
-indexWith k p letters ends = indexed (minimizerAt k p letters) (4 ^ p) k ends
+abbrev pub indexWith : Spelling → ℕ → Index
+indexWith t p = indexed (minimizerAt t.k p t.letters) (4 ^ p) t.k t.ends
 
 -- the index in the first entries of the tables: so many stretches, and so many entries of the fourth
 abbrev pub firstEntries : ℕ → ℕ → Lent → Index
@@ -81,8 +82,8 @@ firstEntries count starts t = tables (take count (t .firsts)) (take count (t .po
 
 -- Refused by 2 to 6 or 1, all tables are as they were. With a repeated word, 7, work is zeroed and the others are as they were. Else the index fills the first
 -- entries of its tables and work is zeroed; the answer says how many entries were filled in each of the three tables, and in the fourth.
-unfoldable pub indexOf : ℕ → ℕ → List ℕ → List ℕ → List ℕ → Lent → Outcome
-indexOf k p letters ends weights t =
-    settle (indexVerdict k p letters ends weights t) (λ number place. outcome (Refused number place) t)
-    (settle (atPlace 7 (firstRepeat k letters ends)) (λ number place. outcome (Refused number place) (untouched (kmerCount k (length letters) (length ends)) t))
-    (outcome (Indexed (stretchCount k p letters ends) (4 ^ p + 1)) (holding (indexWith k p letters ends) (kmerCount k (length letters) (length ends)) t)))
+unfoldable pub indexOf : Collection → ℕ → Lent → Outcome
+indexOf c p t =
+    settle (indexVerdict c p t) (λ number place. outcome (Refused number place) t)
+    (settle (atPlace 7 (firstRepeat (spellingOf c))) (λ number place. outcome (Refused number place) (untouched (kmersIn (spellingOf c)) t))
+    (outcome (Indexed (stretchCount (spellingOf c) p) (4 ^ p + 1)) (holding (indexWith (spellingOf c) p) (kmersIn (spellingOf c)) t)))

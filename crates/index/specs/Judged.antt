@@ -1,15 +1,15 @@
 -- Inner: the answer where no word repeats, what 2 to 6 and 1 leave to do, and what that comes to.
 use mathlib.Core.Path.{_≡_}
-use mathlib.Core.List.{List}
 use Prim.Native.Nat.{ℕ, _+_, _*_, _^_, _≤_}
 use lib.ListN.{length}
 use Rattle.lists.specs.Fill.{fill}
 use Rattle.lists.specs.Regions.{Only}
+use Rattle.collection.specs.Collection.{Spelling, Collection, spellingOf}
 use Rattle.collection.specs.Kmers.{kmers}
 use Rattle.collection.specs.Verdict.{atPlace, settle}
 use Rattle.collection.specs.Ready.{Ready}
 use Rattle.repeats.specs.Check.{firstRepeat}
-use Rattle.stretches.specs.Index.{Index}
+use Rattle.index_stretches.specs.Index.{Index}
 use Rattle.index.specs.declared.IndexAnswer.{IndexAnswer}
 use Rattle.index.specs.declared.IndexAnswer.the-variants.{Indexed, Refused}
 use Rattle.index.specs.Indexing.{Lent, stretchCount, indexVerdict, Outcome, outcome, untouched, holding, indexWith}
@@ -23,22 +23,22 @@ pub record Sized (t : Lent) (firsts positions numbers before work : ℕ) : Type 
   pub work-size : length (t .work) ≡ work
 
 -- the answer where no word repeats
-unfoldable pub foreseen : ℕ → ℕ → List ℕ → List ℕ → List ℕ → Lent → IndexAnswer
-foreseen k p letters ends weights t = settle (indexVerdict k p letters ends weights t) Refused (Indexed (stretchCount k p letters ends) (4 ^ p + 1))
+unfoldable pub foreseen : Collection → ℕ → Lent → IndexAnswer
+foreseen c p t = settle (indexVerdict c p t) Refused (Indexed (stretchCount (spellingOf c) p) (4 ^ p + 1))
 
 -- what 2 to 6 and 1 leave: n k-mers in m stretches, and room for them
-pub record Judged (k p : ℕ) (letters ends : List ℕ) (n m : ℕ) (t : Lent) : Type 0 where
-  pub ready : Ready k letters ends
+pub record Judged (t : Spelling) (p : ℕ) (n m : ℕ) (t₁ : Lent) : Type 0 where
+  pub ready : Ready t
   pub p-low : 1 ≤ p
   pub p-high : p ≤ 8
-  pub p-fits : p ≤ k
-  pub each : n ≡ length (kmers k ends)
-  pub counted : m ≡ stretchCount k p letters ends
-  pub firsts-room : m ≤ length (t .firsts)
-  pub positions-room : m ≤ length (t .positions)
-  pub numbers-room : m ≤ length (t .numbers)
-  pub before-room : 4 ^ p + 1 ≤ length (t .before)
-  pub work-room : 4 * n ≤ length (t .work)
+  pub p-fits : p ≤ t.k
+  pub each : n ≡ length (kmers t.k t.ends)
+  pub counted : m ≡ stretchCount t p
+  pub firsts-room : m ≤ length (t₁ .firsts)
+  pub positions-room : m ≤ length (t₁ .positions)
+  pub numbers-room : m ≤ length (t₁ .numbers)
+  pub before-room : 4 ^ p + 1 ≤ length (t₁ .before)
+  pub work-room : 4 * n ≤ length (t₁ .work)
 
 -- the tables t hold the index in their first entries; of work nothing but the first 4n entries is written
 pub record Held (index : Index) (n : ℕ) (t t' : Lent) : Type 0 where
@@ -49,7 +49,7 @@ pub record Held (index : Index) (n : ℕ) (t t' : Lent) : Type 0 where
   pub rest : Only 0 (4 * n) (t .work) (t' .work)
 
 -- 7, or the index of n k-mers
-unfoldable pub judgedOf : ℕ → ℕ → List ℕ → List ℕ → ℕ → Lent → Outcome
-judgedOf k p letters ends n t =
-    settle (atPlace 7 (firstRepeat k letters ends)) (λ number place. outcome (Refused number place) (untouched n t))
-    (outcome (Indexed (stretchCount k p letters ends) (4 ^ p + 1)) (holding (indexWith k p letters ends) n t))
+unfoldable pub judgedOf : Spelling → ℕ → ℕ → Lent → Outcome
+judgedOf t p n t₁ =
+    settle (atPlace 7 (firstRepeat t)) (λ number place. outcome (Refused number place) (untouched n t₁))
+    (outcome (Indexed (stretchCount t p) (4 ^ p + 1)) (holding (indexWith t p) n t₁))

@@ -3,6 +3,7 @@ use collection::Verdict;
 ghost use mathlib.Core.Path.{_≡_};
 ghost use Rattle.index.specs.Indexing.{Lent, lent, outcome, indexWith, indexOf};
 ghost use Rattle.index.specs.Judged.{Sized, foreseen, Judged, Held, judgedOf};
+ghost use Rattle.collection.specs.Collection.{spelling, collection};
 
 // What INDEX answers: how many stretches it filled into each of three tables and how many entries into the fourth; or the number and place of a refusal.
 pub enum IndexAnswer {
@@ -23,9 +24,9 @@ fn foresee(
     before: usize,
     work: usize,
 ) -> IndexAnswer
-    ensures { λ r. ⌜ ((t : Lent) → Sized t firsts positions numbers before work → r ≡ foreseen k p (now (letters .entry)) (now (ends .entry)) (now (weights .entry)) t) ⌝ }
+    ensures { λ r. ⌜ ((t : Lent) → Sized t firsts positions numbers before work → r ≡ foreseen (collection k (now (letters .entry)) (now (ends .entry)) (now (weights .entry))) p t) ⌝ }
 {
-    let a = minimizers::judge_sizes(k, p);
+    let a = index_minimizers::judge_sizes(k, p);
     if let Verdict::Bad { number, place } = a {
         return IndexAnswer::Refused { number, place };
     }
@@ -33,8 +34,8 @@ fn foresee(
     if let Verdict::Bad { number, place } = b {
         return IndexAnswer::Refused { number, place };
     }
-    let stretches = cutting::inner::count_all(k, p, letters, ends);
-    let starts = minimizers::inner::word_count(p) + 1;
+    let stretches = index_cutting::inner::count_all(k, p, letters, ends);
+    let starts = index_minimizers::inner::word_count(p) + 1;
     if (stretches <= firsts)
         & ((stretches <= positions)
             & ((stretches <= numbers) & ((starts <= before) & (4 * weights.len() <= work))))
@@ -61,10 +62,10 @@ fn build(
     before: &mut [u32],
     work: &mut [u32],
 )
-    requires { ⌜ Judged k p (now letters) (now ends) n m (lent (now firsts) (now positions) (now numbers) (now before) (now work)) ⌝ }
-    ensures { λ _. ⌜ Held (indexWith k p (now (letters .entry)) (now (ends .entry))) n (lent (now (firsts .entry)) (now (positions .entry)) (now (numbers .entry)) (now (before .entry)) (now (work .entry))) (lent (now (firsts .exit)) (now (positions .exit)) (now (numbers .exit)) (now (before .exit)) (now (work .exit))) ⌝ }
+    requires { ⌜ Judged (spelling k (now letters) (now ends)) p n m (lent (now firsts) (now positions) (now numbers) (now before) (now work)) ⌝ }
+    ensures { λ _. ⌜ Held (indexWith (spelling k (now (letters .entry)) (now (ends .entry))) p) n (lent (now (firsts .entry)) (now (positions .entry)) (now (numbers .entry)) (now (before .entry)) (now (work .entry))) (lent (now (firsts .exit)) (now (positions .exit)) (now (numbers .exit)) (now (before .exit)) (now (work .exit))) ⌝ }
 {
-    cutting::inner::cut_all(
+    index_cutting::inner::cut_all(
         k,
         p,
         letters,
@@ -74,7 +75,7 @@ fn build(
         numbers,
         &mut work[..n],
     );
-    arranging::inner::arrange(work, n, m, p, before, firsts, positions, numbers);
+    index_arranging::inner::arrange(work, n, m, p, before, firsts, positions, numbers);
 }
 
 // 7, or the index of n k-mers in m stretches. Work is zero afterwards in both cases.
@@ -91,8 +92,8 @@ fn index_judged(
     before: &mut [u32],
     work: &mut [u32],
 ) -> IndexAnswer
-    requires { ⌜ Judged k p (now letters) (now ends) n m (lent (now firsts) (now positions) (now numbers) (now before) (now work)) ⌝ }
-    ensures { λ r. ⌜ outcome r (lent (now (firsts .exit)) (now (positions .exit)) (now (numbers .exit)) (now (before .exit)) (now (work .exit))) ≡ judgedOf k p (now (letters .entry)) (now (ends .entry)) n (lent (now (firsts .entry)) (now (positions .entry)) (now (numbers .entry)) (now (before .entry)) (now (work .entry))) ⌝ }
+    requires { ⌜ Judged (spelling k (now letters) (now ends)) p n m (lent (now firsts) (now positions) (now numbers) (now before) (now work)) ⌝ }
+    ensures { λ r. ⌜ outcome r (lent (now (firsts .exit)) (now (positions .exit)) (now (numbers .exit)) (now (before .exit)) (now (work .exit))) ≡ judgedOf (spelling k (now (letters .entry)) (now (ends .entry))) p n (lent (now (firsts .entry)) (now (positions .entry)) (now (numbers .entry)) (now (before .entry)) (now (work .entry))) ⌝ }
 {
     let repeat = repeats::inner::first_repeat(k, letters, ends, n, work);
     if repeat != 0 {
@@ -116,7 +117,7 @@ fn index_judged(
         work,
     );
     collection::inner::zero_first(work, 4 * n);
-    let starts = minimizers::inner::word_count(p) + 1;
+    let starts = index_minimizers::inner::word_count(p) + 1;
     IndexAnswer::Indexed {
         stretches: m,
         starts,
@@ -137,7 +138,7 @@ pub fn index(
     before: &mut [u32],
     work: &mut [u32],
 ) -> IndexAnswer
-    ensures { λ r. ⌜ outcome r (lent (now (firsts .exit)) (now (positions .exit)) (now (numbers .exit)) (now (before .exit)) (now (work .exit))) ≡ indexOf k p (now (letters .entry)) (now (ends .entry)) (now (weights .entry)) (lent (now (firsts .entry)) (now (positions .entry)) (now (numbers .entry)) (now (before .entry)) (now (work .entry))) ⌝ }
+    ensures { λ r. ⌜ outcome r (lent (now (firsts .exit)) (now (positions .exit)) (now (numbers .exit)) (now (before .exit)) (now (work .exit))) ≡ indexOf (collection k (now (letters .entry)) (now (ends .entry)) (now (weights .entry))) p (lent (now (firsts .entry)) (now (positions .entry)) (now (numbers .entry)) (now (before .entry)) (now (work .entry))) ⌝ }
 {
     let v = foresee(
         k,

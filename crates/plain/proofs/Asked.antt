@@ -15,6 +15,7 @@ use Rattle.words.specs.Word.{Letters, code, spell, wordAt, turn}
 use Rattle.words.proofs.Spelled.{spell-letters, spell-bits}
 use Rattle.words.proofs.Turning.{length-turn, letters-turn, turned-code}
 use Rattle.plain.specs.declared.PlainAnswer.the-variants.{Absent}
+use Rattle.collection.specs.Collection.{Spelling}
 use Rattle.collection.specs.declared.Side.the-variants.{Asked, Turned}
 use Rattle.collection.specs.Kmers.{kmers}
 use Rattle.collection.specs.Ready.{Ready}
@@ -26,25 +27,25 @@ use Rattle.plain.proofs.Scans.{answered, scan-lowest}
 use Rattle.words.proofs.Codes.{code-test}
 use Rattle.lists.proofs.First.{first-agrees}
 
-module _ {k : ℕ} {letters ends : List ℕ} (r : Ready k letters ends) where
+module _ {t : Spelling} (r : Ready t) where
   -- the search by a code is the search by the word
-  lowest-code : (w : List ℕ) (c : ℕ) → length w ≡ k → Letters w → c ≡ code w → firstThat (λ a. eqb (code (wordAt k letters a)) c) (kmers k ends) ≡ lowest k letters ends w
+  lowest-code : (w : List ℕ) (c : ℕ) → length w ≡ t.k → Letters w → c ≡ code w → firstThat (λ a. eqb (code (wordAt t.k t.letters a)) c) (kmers t.k t.ends) ≡ lowest t w
   unfolding lowest
   lowest-code w c n g e =
-      first-agrees (λ a. eqb (code (wordAt k letters a)) c) (λ a. same (wordAt k letters a) w) 0 (kmers k ends)
-      (all-map (λ a h. code-test (wordAt k letters a) w c (word-length r a (omega (arith, h, r .ends-last)) ∙ sym n) (word-letters r a) g e) (kmers k ends) (kmers-fit k 0 0 ends (r .ends-long .long)))
+      first-agrees (λ a. eqb (code (wordAt t.k t.letters a)) c) (λ a. same (wordAt t.k t.letters a) w) 0 (kmers t.k t.ends)
+      (all-map (λ a h. code-test (wordAt t.k t.letters a) w c (word-length r a (omega (arith, h, r .ends-last)) ∙ sym n) (word-letters r a) g e) (kmers t.k t.ends) (kmers-fit t.k 0 0 t.ends (r .ends-long .long)))
 
-  module _ (word : List ℕ) (n : length word ≡ k) (g : every isLetter word ≡ true) where
+  module _ (word : List ℕ) (n : length word ≡ t.k) (g : every isLetter word ≡ true) where
     -- the pass with the codes of the asked word and of its reverse complement gives PLAIN's answer
-    pub pass-answers : (asked turned : ℕ) → asked ≡ code (map twoBits word) → turned ≡ turnedCode k asked
-        → answered (λ a. eqb (code (wordAt k letters a)) asked) (λ a. eqb (code (wordAt k letters a)) turned) (scanFrom (λ a. eqb (code (wordAt k letters a)) asked) (λ a. eqb (code (wordAt k letters a)) turned) 0 0 (kmers k ends)) ≡ plainFound k letters ends (spell word)
+    pub pass-answers : (asked turned : ℕ) → asked ≡ code (map twoBits word) → turned ≡ turnedCode t.k asked
+        → answered (λ a. eqb (code (wordAt t.k t.letters a)) asked) (λ a. eqb (code (wordAt t.k t.letters a)) turned) (scanFrom (λ a. eqb (code (wordAt t.k t.letters a)) asked) (λ a. eqb (code (wordAt t.k t.letters a)) turned) 0 0 (kmers t.k t.ends)) ≡ plainFound t (spell word)
     unfolding plainFound
-    pass-answers asked turned a t =
+    pass-answers asked turned a t₁ =
         let h : All (λ b. isLetter b ≡ true) word = every-all isLetter word g in
         let w : List ℕ = spell word in
-        let l : length w ≡ k = length-map word letter ∙ n in
+        let l : length w ≡ t.k = length-map word letter ∙ n in
         let s : Letters w = spell-letters word h in
         let c : asked ≡ code w = a ∙ ap code (spell-bits word h) in
-        let d : turned ≡ code (turn w) = t ∙ (ap₂ turnedCode (sym l) c ∙ turned-code w s) in
-        scan-lowest (λ a. eqb (code (wordAt k letters a)) asked) (λ a. eqb (code (wordAt k letters a)) turned) (kmers k ends)
+        let d : turned ≡ code (turn w) = t₁ ∙ (ap₂ turnedCode (sym l) c ∙ turned-code w s) in
+        scan-lowest (λ a. eqb (code (wordAt t.k t.letters a)) asked) (λ a. eqb (code (wordAt t.k t.letters a)) turned) (kmers t.k t.ends)
         ∙ ap₂ (λ (p q : ℕ). foundOr Asked p (foundOr Turned q Absent)) (lowest-code w asked l s c) (lowest-code (turn w) turned (length-turn w ∙ l) (letters-turn w s) d)

@@ -4,17 +4,18 @@ use mathlib.Core.List.{List}
 use Prim.Native.Nat.{ℕ, _<_, _≤_}
 use lib.ListN.{length}
 use Rattle.words.specs.Word.{turn}
+use Rattle.collection.specs.Collection.{Spelling}
 use Rattle.collection.specs.declared.Side.the-variants.{Asked, Turned}
 use Rattle.collection.specs.Kmers.{kmers, wordOf}
 use Rattle.plain.specs.declared.PlainAnswer.{PlainAnswer}
 use Rattle.plain.specs.declared.PlainAnswer.the-variants.{Found, Absent}
 
-module _ (k : ℕ) (letters ends : List ℕ) where
+module _ (t : Spelling) where
   -- the word w stands at a handle
   pub record Stands (w : List ℕ) (handle : ℕ) : Type 0 where
     pub low : 1 ≤ handle
-    pub high : handle ≤ length (kmers k ends)
-    pub word : wordOf k letters ends handle ≡ w
+    pub high : handle ≤ length (kmers t.k t.ends)
+    pub word : wordOf t handle ≡ w
 
   -- it stands at no handle
   abbrev pub Nowhere : List ℕ → Type 0

@@ -5,6 +5,7 @@ use collection::Side;
 use collection::Verdict;
 ghost use mathlib.Core.Path.{_≡_};
 ghost use Rattle.plain.specs.Plain.{plainOf};
+ghost use Rattle.collection.specs.Collection.{collection};
 
 // What PLAIN answers.
 pub enum PlainAnswer {
@@ -21,7 +22,7 @@ pub enum Seen {
 
 // PLAIN: the lowest handle of a word as asked, else of its reverse complement, by a scan of the whole collection.
 pub fn plain(k: usize, letters: &[u8], ends: &[u32], weights: &[u32], word: &[u8]) -> PlainAnswer
-    ensures { λ r. ⌜ r ≡ plainOf k (now (letters .entry)) (now (ends .entry)) (now (weights .entry)) (now (word .entry)) ⌝ }
+    ensures { λ r. ⌜ r ≡ plainOf (collection k (now (letters .entry)) (now (ends .entry)) (now (weights .entry))) (now (word .entry)) ⌝ }
 {
     let a = collection::judge_collection(k, letters, ends, weights);
     if let Verdict::Bad { number, place } = a {

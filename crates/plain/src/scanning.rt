@@ -12,6 +12,7 @@ ghost use Rattle.lists.specs.Count.{countFrom};
 ghost use Rattle.lists.specs.Every.{every};
 ghost use Rattle.alphabet.specs.Letter.{isLetter};
 ghost use Rattle.words.specs.Word.{code, wordAt, spell};
+ghost use Rattle.collection.specs.Collection.{spelling};
 ghost use Rattle.collection.specs.Kmers.{kmers};
 ghost use Rattle.collection.specs.Ready.{Ready};
 ghost use Rattle.plain.specs.Scan.{scanFrom};
@@ -56,7 +57,7 @@ fn scan_string(
 
 // The pass over the k-mers of all strings.
 fn scan(k: usize, letters: &[u8], ends: &[u32], asked: u64, turned: u64) -> Seen
-    requires { ⌜ Ready k (now letters) (now ends) ⌝ }
+    requires { ⌜ Ready (spelling k (now letters) (now ends)) ⌝ }
     ensures { λ r. ⌜ r ≡ scanFrom (λ a. eqb (code (wordAt k (now (letters .entry)) a)) asked) (λ a. eqb (code (wordAt k (now (letters .entry)) a)) turned) 0 0 (kmers k (now (ends .entry))) ⌝ }
 {
     let mut at: usize = 0;
@@ -80,9 +81,9 @@ fn scan(k: usize, letters: &[u8], ends: &[u32], asked: u64, turned: u64) -> Seen
 
 // What PLAIN answers of judged tables and a judged word.
 pub(crate) fn found(k: usize, letters: &[u8], ends: &[u32], word: &[u8]) -> PlainAnswer
-    requires { ⌜ Ready k (now letters) (now ends) ⌝ }
+    requires { ⌜ Ready (spelling k (now letters) (now ends)) ⌝ }
     requires { ⌜ (length (now word) ≡ k) × (every isLetter (now word) ≡ true) ⌝ }
-    ensures { λ r. ⌜ r ≡ plainFound k (now (letters .entry)) (now (ends .entry)) (spell (now (word .entry))) ⌝ }
+    ensures { λ r. ⌜ r ≡ plainFound (spelling k (now (letters .entry)) (now (ends .entry))) (spell (now (word .entry))) ⌝ }
 {
     let asked = words::inner::word_code(word);
     let turned = words::inner::turned_code(k, asked);

@@ -5,8 +5,9 @@ use mathlib.Core.List.{List}
 use Prim.Native.Nat.{ℕ, _*_, _≤_}
 use native.Mathlib.Omega.{arith}
 use lib.ListN.{length}
+use Rattle.collection.specs.Collection.{Collection, spellingOf}
 use Rattle.collection.specs.declared.Verdict.the-variants.{Good}
-use Rattle.collection.specs.Judge.{kmerCount, collectionVerdict, Passes}
+use Rattle.collection.specs.Judge.{kmersIn, collectionVerdict, Passes}
 use Rattle.collection.specs.Kmers.{kmers}
 use Rattle.collection.specs.Verdict.{atPlace}
 use Rattle.collection.proofs.Judged.{collection-good}
@@ -23,26 +24,26 @@ use Rattle.repeats.proofs.Repeats.{none-distinct, distinct-none}
 never : {number place m : ℕ} → Refused number place ≡ Checked m → ⊥
 never e = let z : _≡_ {A = ℕ} 0 1 = cc in omega arith
 
-module _ (k : ℕ) (letters ends weights : List ℕ) where
+module _ (c : Collection) where
   abbrev n : ℕ
-  n = kmerCount k (length letters) (length ends)
+  n = kmersIn (spellingOf c)
 
   -- ─── 2 to 6, and 1 ─────────────────────────────────────────────────────────
 
   -- what a collection and a room that pass keep to
   pub record Started (room : ℕ) : Type 0 where
-    pub passes : Passes k letters ends weights
+    pub passes : Passes c
     pub enough : 4 * n ≤ room
-    pub counted : length weights ≡ n
-    pub each : length weights ≡ length (kmers k ends)
-    pub ready : Ready k letters ends
+    pub counted : length c.weights ≡ n
+    pub each : length c.weights ≡ length (kmers c.k c.ends)
+    pub ready : Ready (spellingOf c)
 
   -- a good verdict tells all of this
-  pub check-started : (room : ℕ) → checkVerdict k letters ends weights room ≡ Good → Started room
+  pub check-started : (room : ℕ) → checkVerdict c room ≡ Good → Started room
   unfolding checkVerdict
   check-started room e =
-      let a = both-good (collectionVerdict k letters ends weights) _ e in
-      let j = collection-good k letters ends weights (a .0) in
+      let a = both-good (collectionVerdict c) _ e in
+      let j = collection-good c (a .0) in
       record {
         passes = a .0;
         enough = room-good room _ (a .1);
@@ -51,7 +52,7 @@ module _ (k : ℕ) (letters ends weights : List ℕ) where
         ready = judged-ready j;
       }
 
-  check-good : (room : ℕ) → Passes k letters ends weights → 4 * n ≤ room → checkVerdict k letters ends weights room ≡ Good
+  check-good : (room : ℕ) → Passes c → 4 * n ≤ room → checkVerdict c room ≡ Good
   unfolding checkVerdict
   check-good room p l = then-good _ p (good-room l)
 
@@ -62,18 +63,18 @@ module _ (k : ℕ) (letters ends weights : List ℕ) where
 
   module _ (work : List ℕ) where
     -- an answer of success says that the collection is accepted
-    pub check-distinct : (m : ℕ) → checkOf k letters ends weights work .answer ≡ Checked m → Accepted k letters ends weights (length work) × (m ≡ n)
+    pub check-distinct : (m : ℕ) → checkOf c work .answer ≡ Checked m → Accepted c (length work) × (m ≡ n)
     unfolding checkOf
     check-distinct m e =
-        let a = done-by (λ (o : Outcome). o .answer) (checkVerdict k letters ends weights (length work)) _ _ (Checked m) (λ number place q. never q) e in
-        let b = done-by (λ (r : CheckAnswer). r) (atPlace 7 (firstRepeat k letters ends)) Refused (Checked n) (Checked m) (λ number place q. never q) (a .2) in
+        let a = done-by (λ (o : Outcome). o .answer) (checkVerdict c (length work)) _ _ (Checked m) (λ number place q. never q) e in
+        let b = done-by (λ (r : CheckAnswer). r) (atPlace 7 (firstRepeat (spellingOf c))) Refused (Checked n) (Checked m) (λ number place q. never q) (a .2) in
         let s = check-started (length work) (a .0) in
-        (record { passes = s .passes; enough = s .enough; distinct = none-distinct k letters ends (s .ready) (place-good 7 _ (b .0)) }, same-count (b .2))
+        (record { passes = s .passes; enough = s .enough; distinct = none-distinct (spellingOf c) (s .ready) (place-good 7 _ (b .0)) }, same-count (b .2))
 
     -- and an accepted collection is answered with success
-    pub distinct-check : Accepted k letters ends weights (length work) → checkOf k letters ends weights work .answer ≡ Checked n
+    pub distinct-check : Accepted c (length work) → checkOf c work .answer ≡ Checked n
     unfolding checkOf
     distinct-check s =
         let g = check-good (length work) (s .passes) (s .enough) in
-        let p = sym (place-none 7 (distinct-none k letters ends (check-started (length work) g .ready) (s .distinct))) in
+        let p = sym (place-none 7 (distinct-none (spellingOf c) (check-started (length work) g .ready) (s .distinct))) in
         ap (λ (o : Outcome). o .answer) (sym (settled (λ number place. outcome (Refused number place) work) refl g)) ∙ sym (settled Refused refl p)

@@ -3,6 +3,7 @@ pub mod inner; // the search for a repeated word, for callers that have judged t
 
 use collection::Verdict;
 ghost use mathlib.Core.Path.{_≡_};
+ghost use Rattle.collection.specs.Collection.{collection};
 ghost use Rattle.collection.specs.Verdict.{atPlace, settle};
 ghost use Rattle.repeats.specs.declared.CheckAnswer.the-variants.{Checked, Refused};
 ghost use Rattle.repeats.specs.Check.{checkVerdict, checkOf, outcome};
@@ -15,7 +16,7 @@ pub enum CheckAnswer {
 
 // 2 to 6, then 1: `room` entries of work are lent.
 fn judge_check(k: usize, letters: &[u8], ends: &[u32], weights: &[u32], room: usize) -> Verdict
-    ensures { λ r. ⌜ r ≡ checkVerdict k (now (letters .entry)) (now (ends .entry)) (now (weights .entry)) room ⌝ }
+    ensures { λ r. ⌜ r ≡ checkVerdict (collection k (now (letters .entry)) (now (ends .entry)) (now (weights .entry))) room ⌝ }
 {
     let a = collection::judge_collection(k, letters, ends, weights);
     let Verdict::Good = a else {
@@ -46,7 +47,7 @@ pub fn check(
     weights: &[u32],
     work: &mut [u32],
 ) -> CheckAnswer
-    ensures { λ r. ⌜ outcome r (now (work .exit)) ≡ checkOf k (now (letters .entry)) (now (ends .entry)) (now (weights .entry)) (now (work .entry)) ⌝ }
+    ensures { λ r. ⌜ outcome r (now (work .exit)) ≡ checkOf (collection k (now (letters .entry)) (now (ends .entry)) (now (weights .entry))) (now (work .entry)) ⌝ }
 {
     let v = judge_check(k, letters, ends, weights, work.len());
     if let Verdict::Bad { number, place } = v {

@@ -3,6 +3,7 @@ use mathlib.Core.List.{List}
 use Prim.Native.Nat.{ℕ}
 use lib.ListN.{length}
 use Rattle.lists.specs.Fill.{fill}
+use Rattle.collection.specs.Collection.{Collection}
 use Rattle.collection.specs.declared.Verdict.{Verdict}
 use Rattle.collection.specs.Judge.{collectionVerdict}
 use Rattle.collection.specs.Verdict.{andThen, settle, roomVerdict}
@@ -20,13 +21,13 @@ abbrev pub outcome : RunsAnswer → List ℕ → List ℕ → Outcome
 outcome answer weights firsts = record { answer = answer; weights-after = weights; firsts-after = firsts }
 
 -- 2 to 6, then 1: each table needs as many entries as there are runs
-unfoldable pub runsVerdict : ℕ → List ℕ → List ℕ → List ℕ → ℕ → ℕ → Verdict
-runsVerdict k letters ends weights room₁ room₂ =
-    andThen (collectionVerdict k letters ends weights) (andThen (roomVerdict room₁ (runCount weights)) (roomVerdict room₂ (runCount weights)))
+unfoldable pub runsVerdict : Collection → ℕ → ℕ → Verdict
+runsVerdict c room₁ room₂ =
+    andThen (collectionVerdict c) (andThen (roomVerdict room₁ (runCount c.weights)) (roomVerdict room₂ (runCount c.weights)))
 
 -- refused, both tables as they were; else the run list in their first entries, and how many runs
-unfoldable pub runsOf : ℕ → List ℕ → List ℕ → List ℕ → List ℕ → List ℕ → Outcome
-runsOf k letters ends weights table₁ table₂ =
-    settle (runsVerdict k letters ends weights (length table₁) (length table₂))
+unfoldable pub runsOf : Collection → List ℕ → List ℕ → Outcome
+runsOf c table₁ table₂ =
+    settle (runsVerdict c (length table₁) (length table₂))
     (λ number place. outcome (Refused number place) table₁ table₂)
-    (outcome (Filled (runCount weights)) (fill (runWeights weights) table₁) (fill (runFirsts weights) table₂))
+    (outcome (Filled (runCount c.weights)) (fill (runWeights c.weights) table₁) (fill (runFirsts c.weights) table₂))

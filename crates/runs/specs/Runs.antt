@@ -6,6 +6,7 @@ use lib.Dec.{eqb}
 use lib.ListN.{length}
 use Rattle.lists.specs.Choose.{choose}
 use Rattle.lists.specs.Count.{sum}
+use Rattle.collection.specs.Collection.{Collection}
 use Rattle.collection.specs.Strings.{strings}
 
 -- a run: its weight and its first handle
@@ -34,5 +35,5 @@ abbrev pub runCount : List ℕ → ℕ
 runCount ws = length (runs ws)
 
 -- R: the sum of the runs inside each string
-unfoldable pub innerRuns : ℕ → List ℕ → List ℕ → List ℕ → ℕ
-innerRuns k letters ends weights = sum (map (λ s. runCount (s .weights)) (strings k letters ends weights))
+unfoldable pub innerRuns : Collection → ℕ
+innerRuns c = sum (map (λ s. runCount (s .weights)) (strings c))

@@ -4,6 +4,7 @@ pub mod inner;
 use collection::Verdict;
 ghost use mathlib.Core.Path.{_≡_};
 ghost use Rattle.runs.specs.Calls.{outcome, runsOf};
+ghost use Rattle.collection.specs.Collection.{collection};
 
 // What RUNS answers: how many runs it filled in each table.
 pub enum RunsAnswer {
@@ -20,7 +21,7 @@ pub fn runs(
     run_weights: &mut [u32],
     run_firsts: &mut [u32],
 ) -> RunsAnswer
-    ensures { λ r. ⌜ outcome r (now («run_weights» .exit)) (now («run_firsts» .exit)) ≡ runsOf k (now (letters .entry)) (now (ends .entry)) (now (weights .entry)) (now («run_weights» .entry)) (now («run_firsts» .entry)) ⌝ }
+    ensures { λ r. ⌜ outcome r (now («run_weights» .exit)) (now («run_firsts» .exit)) ≡ runsOf (collection k (now (letters .entry)) (now (ends .entry)) (now (weights .entry))) (now («run_weights» .entry)) (now («run_firsts» .entry)) ⌝ }
 {
     let a = collection::judge_collection(k, letters, ends, weights);
     if let Verdict::Bad { number, place } = a {

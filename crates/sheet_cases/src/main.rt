@@ -1,8 +1,8 @@
 // Runs READ and WRITE on sheets from standard input, and writes for each `y` where they answer as document 01 says, else `n`.
 // The sheets are parted by `~`. Each has a mark before it: `=` for a sheet that is read and written back, `1` `2` `3` for a
 // wrong line of that number, `k` for a k out of range, `r` for a sheet that the tables have no room for.
-use sheet_text::ReadAnswer;
-use sheet_text::WriteAnswer;
+use sheet::ReadAnswer;
+use sheet::WriteAnswer;
 ghost use Prim.Native.Nat.{_<_, _≤_};
 ghost use lib.ListN.{length};
 

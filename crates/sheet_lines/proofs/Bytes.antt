@@ -8,7 +8,7 @@ use lib.Dec.{ltb, eqb}
 use lib.ListN.{length, getD}
 use Rattle.lists.specs.Choose.{choose}
 use Rattle.sheet_lines.specs.Cursor.{byteIs}
-use Rattle.sheet_text.proofs.Tests.{never}
+use Rattle.sheet.proofs.Tests.{never}
 
 -- the byte stands there
 pub byte-here : (s : List ℕ) (i b : ℕ) → byteIs s i b ≡ true → (i < length s) × (getD s i 0 ≡ b)

@@ -9,20 +9,20 @@ use lib.Dec.{eqb}
 use lib.ListN.{length, drop, take, getD, length-append, take-append-drop}
 use lib.Seq.{drop-cons, drop-drop, getD-at}
 use Rattle.lists.specs.Choose.{choose}
-use Rattle.faults.specs.Faults.{isWeight}
+use Rattle.collection_faults.specs.Faults.{isWeight}
 use Rattle.lists.specs.Every.{every}
 use Rattle.lists.proofs.Every.{and-both}
-use Rattle.sheet_text.specs.Numbers.{isDigit, isNumber, valueFrom, value}
-use Rattle.sheet_text.specs.Parts.{upTo, later, tab, feed}
-use Rattle.sheet_text.specs.Sheet.{isMark, isK, isKLine, isWeightField, kOf, isHead}
+use Rattle.sheet.specs.Numbers.{isDigit, isNumber, valueFrom, value}
+use Rattle.sheet.specs.Parts.{upTo, later, tab, feed}
+use Rattle.sheet.specs.Sheet.{isMark, isK, isKLine, isWeightField, kOf, isHead}
 use Rattle.sheet_lines.specs.Cursor.{field, weightOf, weightAt, byteIs, headOf, headIn, headEnd}
 use Rattle.sheet_lines.specs.declared.Weight.the-variants as weight
 use Rattle.sheet_lines.specs.declared.Head.the-variants as head
-use Rattle.sheet_text.proofs.Tests.{both, never, every-more, digit-range}
-use Rattle.sheet_text.proofs.Parts.{joined, Free, up-last, later-last, up-first, later-first, join-parts, up-short, up-take, take-up}
-use Rattle.sheet_text.proofs.Numbers.{number-all}
-use Rattle.sheet_text.proofs.Accepted.{mark-is}
-use Rattle.sheet_text.proofs.Written.{clear-digit, mark-free, free-next}
+use Rattle.sheet.proofs.Tests.{both, never, every-more, digit-range}
+use Rattle.sheet.proofs.Parts.{joined, Free, up-last, later-last, up-first, later-first, join-parts, up-short, up-take, take-up}
+use Rattle.sheet.proofs.Numbers.{number-all}
+use Rattle.sheet.proofs.Accepted.{mark-is}
+use Rattle.sheet.proofs.Written.{clear-digit, mark-free, free-next}
 use Rattle.sheet_lines.proofs.Bytes.{byte-here, byte-other, byte-is}
 use Rattle.sheet_lines.proofs.OneWeight.{range-weight}
 use Rattle.sheet_lines.proofs.Tails.{weight-good}

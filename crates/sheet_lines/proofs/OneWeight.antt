@@ -10,17 +10,17 @@ use borrow.Author.Tests.{le-leb, lt-leb, leb-true, eq-eqb, ne-eqb, eqb-true, eqb
 use lib.Dec.{leb, eqb}
 use lib.ListN.{length, drop, getD, drop-of-length-le}
 use Rattle.lists.specs.Choose.{choose}
-use Rattle.faults.specs.Faults.{isWeight}
+use Rattle.collection_faults.specs.Faults.{isWeight}
 use Rattle.lists.specs.Every.{every}
 use Rattle.lists.proofs.Every.{and-both}
-use Rattle.sheet_text.specs.Numbers.{isDigit, isNumber, valueFrom}
-use Rattle.sheet_text.specs.Parts.{upTo, tab, feed}
-use Rattle.sheet_text.specs.Sheet.{isWeightField}
+use Rattle.sheet.specs.Numbers.{isDigit, isNumber, valueFrom}
+use Rattle.sheet.specs.Parts.{upTo, tab, feed}
+use Rattle.sheet.specs.Sheet.{isWeightField}
 use Rattle.sheet_lines.specs.Cursor.{isEnd, field, endedAt, weightEnd, weightOf}
 use Rattle.sheet_lines.specs.declared.Weight.{Weight}
 use Rattle.sheet_lines.specs.declared.Weight.the-variants.{Good, Wrong}
-use Rattle.sheet_text.proofs.Tests.{both, never, digit-range}
-use Rattle.sheet_text.proofs.Parts.{up-next, up-stop}
+use Rattle.sheet.proofs.Tests.{both, never, digit-range}
+use Rattle.sheet.proofs.Parts.{up-next, up-stop}
 
 -- ─── ranges ──────────────────────────────────────────────────────────────────
 

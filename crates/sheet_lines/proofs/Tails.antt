@@ -11,13 +11,13 @@ use lib.ListN.{length, drop, getD, drop-of-length-le, length-drop}
 use lib.Seq.{drop-length, drop-drop}
 use Rattle.lists.specs.Choose.{choose}
 use Rattle.lists.specs.Every.{every}
-use Rattle.sheet_text.specs.Numbers.{value}
-use Rattle.sheet_text.specs.Parts.{upTo, later, tab, feed}
-use Rattle.sheet_text.specs.Sheet.{isWeightField}
+use Rattle.sheet.specs.Numbers.{value}
+use Rattle.sheet.specs.Parts.{upTo, later, tab, feed}
+use Rattle.sheet.specs.Sheet.{isWeightField}
 use Rattle.sheet_lines.specs.Cursor.{field, weightOf, weightAt, tailOf, tailAt, byteIs}
 use Rattle.sheet_lines.specs.declared.Weight.the-variants as weight
 use Rattle.sheet_lines.specs.declared.Tail.the-variants as tail
-use Rattle.sheet_text.proofs.Parts.{up-next, up-stop, later-next, later-stop, inside-part, up-short}
+use Rattle.sheet.proofs.Parts.{up-next, up-stop, later-next, later-stop, inside-part, up-short}
 use Rattle.sheet_lines.proofs.Bytes.{byte-here, byte-other}
 
 -- ─── one weight ──────────────────────────────────────────────────────────────

@@ -8,11 +8,11 @@ use lib.Dec.{ltb, eqb}
 use Rattle.lists.specs.Choose.{choose}
 use Rattle.lists.specs.Every.{every}
 use Rattle.alphabet.specs.Letter.{isLetter}
-use Rattle.faults.specs.Faults.{isWeight}
+use Rattle.collection_faults.specs.Faults.{isWeight}
 use Rattle.collection.specs.Strings.{Str, lettersIn, weightsIn}
-use Rattle.sheet_text.specs.Numbers.{value}
-use Rattle.sheet_text.specs.Parts.{upTo, later, tab, feed}
-use Rattle.sheet_text.specs.Sheet.{isWeightField, isStringLine, stringOf, stringsOf, firstWrong, isHead, kOf}
+use Rattle.sheet.specs.Numbers.{value}
+use Rattle.sheet.specs.Parts.{upTo, later, tab, feed}
+use Rattle.sheet.specs.Sheet.{isWeightField, isStringLine, stringOf, stringsOf, firstWrong, isHead, kOf}
 use Rattle.sheet_lines.specs.declared.Weight.{Weight}
 use Rattle.sheet_lines.specs.declared.Weight.the-variants as weight
 use Rattle.sheet_lines.specs.declared.Tail.{Tail}

@@ -2,7 +2,7 @@
 use crate::Weight;
 ghost use mathlib.Core.Path.{_≡_};
 ghost use Prim.Native.Nat.{_+_, _-_, _*_, _≤_};
-ghost use Rattle.sheet_text.specs.Numbers.{isDigit};
+ghost use Rattle.sheet.specs.Numbers.{isDigit};
 ghost use Rattle.sheet_lines.specs.Cursor.{byteIs, isEnd, endedAt, weightEnd, weightAt};
 
 // Whether a byte stands at a place.
@@ -36,7 +36,7 @@ fn is_end(b: u8) -> bool
 fn ended(v: u32, i: usize) -> Weight
     ensures { λ r. ⌜ r ≡ endedAt v i ⌝ }
 {
-    if faults::is_weight(v) {
+    if collection_faults::is_weight(v) {
         return Weight::Good { value: v, next: i };
     }
     Weight::Wrong
@@ -74,7 +74,7 @@ pub fn weight_at(s: &[u8], at: usize) -> Weight
         }
         v = with_digit(v, b);
         i += 1;
-        if !faults::is_weight(v) {
+        if !collection_faults::is_weight(v) {
             return Weight::Wrong;
         }
     }

@@ -8,9 +8,9 @@ use Rattle.lists.specs.Fill.{put, fill}
 use Rattle.lists.proofs.Storing.{Storing, begin, store, restated, stored}
 use Rattle.collection.specs.Strings.{Str, lettersIn, weightsIn, endsIn}
 use Rattle.collection.proofs.Strings.{ends-length}
-use Rattle.sheet_text.specs.Parts.{upTo, later}
-use Rattle.sheet_text.specs.Sheet.{string, stringsOf, firstWrong}
-use Rattle.sheet_text.proofs.Blocks.{block-room, store-block}
+use Rattle.sheet.specs.Parts.{upTo, later}
+use Rattle.sheet.specs.Sheet.{string, stringsOf, firstWrong}
+use Rattle.sheet.proofs.Blocks.{block-room, store-block}
 use Rattle.sheet_lines.specs.Cursor.{span, tailAt, linesAt, stringsAt, weightsAt}
 use Rattle.sheet_lines.specs.declared.Tail.the-variants as tail
 use Rattle.sheet_lines.proofs.Copied.{take-size}

@@ -12,12 +12,12 @@ use Rattle.collection.specs.declared.Verdict.the-variants.{Good, Bad}
 use Rattle.collection.specs.Strings.{Str, lettersIn, endsIn, weightsIn}
 use Rattle.collection.specs.Verdict.{settle}
 use Rattle.collection.proofs.Verdicts.{both-good, test-good, then-bad, then-good, refused, settled, done-by}
-use Rattle.sheet_text.specs.declared.ReadAnswer.the-variants as answer
-use Rattle.sheet_text.specs.Parts.{upTo, later, feed}
-use Rattle.sheet_text.specs.Read.{sheetN, sheetM, sheetWeights, tablesVerdict, readVerdict, readOutcome, readOf}
-use Rattle.sheet_text.specs.Sheet.{sheetK, sheetStrings, isHead, stringsOf, firstWrong, sheetVerdict}
-use Rattle.sheet_text.proofs.Accepted.{sheet-good}
-use Rattle.sheet_text.proofs.Taken.{read-takes}
+use Rattle.sheet.specs.declared.ReadAnswer.the-variants as answer
+use Rattle.sheet.specs.Parts.{upTo, later, feed}
+use Rattle.sheet.specs.Read.{sheetN, sheetM, sheetWeights, tablesVerdict, readVerdict, readOutcome, readOf}
+use Rattle.sheet.specs.Sheet.{sheetK, sheetStrings, isHead, stringsOf, firstWrong, sheetVerdict}
+use Rattle.sheet.proofs.Accepted.{sheet-good}
+use Rattle.sheet.proofs.Taken.{read-takes}
 use Rattle.sheet_lines.specs.Cursor.{headOf, linesAt, stringsAt}
 use Rattle.sheet_read.specs.Judged.{judgedOf, judgedIn, held, countsVerdict}
 use Rattle.sheet_read.specs.Fits.{Fits}

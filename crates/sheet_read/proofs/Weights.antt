@@ -9,15 +9,15 @@ use lib.Dec.{eqb}
 use lib.ListN.{length, drop, getD}
 use Rattle.lists.specs.Choose.{choose}
 use Rattle.lists.specs.Every.{every}
-use Rattle.sheet_text.specs.Numbers.{value}
-use Rattle.sheet_text.specs.Parts.{upTo, later, tab, feed}
-use Rattle.sheet_text.specs.Sheet.{isWeightField}
+use Rattle.sheet.specs.Numbers.{value}
+use Rattle.sheet.specs.Parts.{upTo, later, tab, feed}
+use Rattle.sheet.specs.Sheet.{isWeightField}
 use Rattle.sheet_lines.specs.Cursor.{field, weightAt, tailOf, tailAt, byteIs, fine, weightsAt, isEmpty, endsAt}
 use Rattle.sheet_lines.specs.declared.Weight.the-variants as weight
 use Rattle.sheet_lines.specs.declared.Tail.{Tail}
 use Rattle.sheet_lines.specs.declared.Tail.the-variants as tail
-use Rattle.sheet_text.proofs.Tests.{both, never, empty}
-use Rattle.sheet_text.proofs.Parts.{up-next, inside-part}
+use Rattle.sheet.proofs.Tests.{both, never, empty}
+use Rattle.sheet.proofs.Parts.{up-next, inside-part}
 use Rattle.sheet_lines.proofs.Bytes.{byte-here}
 use Rattle.sheet_lines.proofs.Tails.{weight-good, after-weight, tail-ended, tail-unended}
 

@@ -4,7 +4,7 @@ use mathlib.Core.Path.{_≡_}
 use mathlib.Core.List.{List}
 use lib.ListN.{length}
 use Rattle.collection.specs.Strings.{lettersIn, weightsIn}
-use Rattle.sheet_text.specs.Sheet.{firstWrong}
+use Rattle.sheet.specs.Sheet.{firstWrong}
 use Rattle.sheet_lines.specs.Cursor.{linesAt, stringsAt}
 
 -- the lines from `at` on are good and not too large for tables of these lengths

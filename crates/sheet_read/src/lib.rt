@@ -4,9 +4,9 @@
 mod filling;
 mod judging;
 
-use sheet_text::ReadAnswer;
+use sheet::ReadAnswer;
 ghost use mathlib.Core.Path.{_≡_};
-ghost use Rattle.sheet_text.specs.Read.{readOutcome, readOf};
+ghost use Rattle.sheet.specs.Read.{readOutcome, readOf};
 
 // A judged sheet: k, where line 2 starts and what the lines hold; or the first refusal.
 pub(crate) enum Judged {

@@ -6,8 +6,8 @@ use native.Mathlib.Omega.{arith}
 use lib.ListN.{length, set, length-set, drop, getD, take, length-append}
 use lib.Seq.{take-set-le, set-split, drop-set-lt, getD-set-same, drop-cons}
 use Rattle.lists.specs.Fill.{put}
-use Rattle.sheet_text.specs.Numbers.{digits}
-use Rattle.sheet_text.proofs.Digits.{digits-one, digits-more, count-one, count-more}
+use Rattle.sheet.specs.Numbers.{digits}
+use Rattle.sheet.proofs.Digits.{digits-one, digits-more, count-one, count-more}
 
 here : (j : ℕ) (d : List ℕ) (x : ℕ) → j < length d → getD (set d j x) j 0 ∷ drop (suc j) (set d j x) ≡ x ∷ drop (suc j) d
 here j d x h = rw (getD-set-same, drop-set-lt (suc j) d j x (omega arith))

@@ -7,10 +7,10 @@ use lib.ListN.{length, take, drop, getD, set, length-append}
 use Rattle.lists.specs.Fill.{put}
 use Rattle.lists.proofs.Storing.{Storing, begin-at, inside, store, restated, stored}
 use Rattle.collection.specs.Strings.{Str}
-use Rattle.sheet_text.specs.Numbers.{digits}
-use Rattle.sheet_text.specs.Parts.{tab, feed}
-use Rattle.sheet_text.specs.Text.{weightsText}
-use Rattle.sheet_text.proofs.Blocks.{block-room, store-block}
+use Rattle.sheet.specs.Numbers.{digits}
+use Rattle.sheet.specs.Parts.{tab, feed}
+use Rattle.sheet.specs.Text.{weightsText}
+use Rattle.sheet.proofs.Blocks.{block-room, store-block}
 use Rattle.sheet_write.specs.Written.{headLine, cutString, stringLine}
 use Rattle.sheet_lines.proofs.Copied.{take-size}
 use Rattle.sheet_write.proofs.Texts.{weights-next, weights-end, line-length}

@@ -5,12 +5,13 @@ use Prim.Native.Nat.{ℕ, _+_, _-_, _*_, _<_, _≤_}
 use native.Mathlib.Omega.{arith}
 use lib.ListN.{length, take, drop, getD, length-append, drop-of-length-le}
 use Rattle.lists.proofs.Storing.{drop-next}
+use Rattle.collection.specs.Collection.{Collection}
 use Rattle.collection.specs.Strings.{Str, strings, lettersIn, weightsIn}
 use Rattle.collection.proofs.Judged.{Judged}
-use Rattle.collection.proofs.Strings.{strings-letters, strings-ends, strings-weights, ends-length}
-use Rattle.sheet_text.specs.Numbers.{digits}
-use Rattle.sheet_text.specs.Parts.{tab, feed}
-use Rattle.sheet_text.specs.Text.{weightsText, linesText, sheetText, writeText}
+use Rattle.collection.proofs.Strings.{strings-joined, ends-length}
+use Rattle.sheet.specs.Numbers.{digits}
+use Rattle.sheet.specs.Parts.{tab, feed}
+use Rattle.sheet.specs.Text.{weightsText, linesText, sheetText, writeText}
 use Rattle.sheet_lines.proofs.Copied.{take-next, take-none}
 use Rattle.sheet_write.specs.Written.{headLine, stringLine}
 
@@ -86,17 +87,17 @@ lines-length (s ∷ ss) =
     (arith, ap length (lines-cons s ss), length-append (stringLine s) (linesText ss), line-length s, lines-length ss, length-append (s .letters) (lettersIn ss), a, length-append (weightsText (s .weights)) (weightsText (weightsIn ss)))
 
 -- the length of a collection's sheet, from its tables
-pub sheet-length : {k : ℕ} {letters ends weights : List ℕ} → Judged k letters ends weights → length (writeText k letters ends weights) ≡ 3 + length (digits k) + 3 * length ends + length letters + length (weightsText weights)
+pub sheet-length : {c : Collection} → Judged c → length (writeText c) ≡ 3 + length (digits c.k) + 3 * length c.ends + length c.letters + length (weightsText c.weights)
 unfolding writeText
-sheet-length {k} {letters} {ends} {weights} j =
+sheet-length {c} j =
     let s = j .shape in
     let n = j .counted in
-    let ss : List Str = strings k letters ends weights in
-    let a : length (lettersIn ss) ≡ length letters = ap length (strings-letters weights s n) in
-    let b : length ss ≡ length ends = sym (ends-length 0 ss) ∙ ap length (strings-ends weights s n) in
-    let c : length (weightsText (weightsIn ss)) ≡ length (weightsText weights) = ap (λ (x : List ℕ). length (weightsText x)) (strings-weights weights s n) in
-    omega (arith, ap length (sheet-lines k ss), length-append (headLine k) (linesText ss), head-length k, lines-length ss)
+    let ss : List Str = strings c in
+    let a : length (lettersIn ss) ≡ length c.letters = ap length (ap (λ (x : Collection). x .letters) (strings-joined c s n)) in
+    let b : length ss ≡ length c.ends = sym (ends-length 0 ss) ∙ ap length (ap (λ (x : Collection). x .ends) (strings-joined c s n)) in
+    let c₁ : length (weightsText (weightsIn ss)) ≡ length (weightsText c.weights) = ap (λ (x : List ℕ). length (weightsText x)) (ap (λ (x : Collection). x .weights) (strings-joined c s n)) in
+    omega (arith, ap length (sheet-lines c.k ss), length-append (headLine c.k) (linesText ss), head-length c.k, lines-length ss)
 
 -- a judged collection has at most as many weights as it may have letters
-pub few-weights : {k : ℕ} {letters ends weights : List ℕ} → Judged k letters ends weights → length weights ≤ 1048576
+pub few-weights : {c : Collection} → Judged c → length c.weights ≤ 1048576
 few-weights j = omega (arith, j .counted, j .shape .N-high)

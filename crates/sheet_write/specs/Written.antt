@@ -5,10 +5,10 @@ use Prim.Native.Nat.{ℕ, _+_, _-_}
 use lib.ListN.{length, take, drop}
 use Rattle.lists.specs.Fill.{put}
 use Rattle.collection.specs.Strings.{Str}
-use Rattle.sheet_text.specs.Numbers.{digits}
-use Rattle.sheet_text.specs.Parts.{tab, feed}
-use Rattle.sheet_text.specs.Sheet.{string}
-use Rattle.sheet_text.specs.Text.{weightsText}
+use Rattle.sheet.specs.Numbers.{digits}
+use Rattle.sheet.specs.Parts.{tab, feed}
+use Rattle.sheet.specs.Sheet.{string}
+use Rattle.sheet.specs.Text.{weightsText}
 
 -- bytes stored in a table from `at` on: where they end, and what the table is afterwards
 abbrev pub Stores : ℕ → List ℕ → List ℕ → ℕ → List ℕ → Type 0

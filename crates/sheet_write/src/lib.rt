@@ -4,13 +4,14 @@ mod numbers;
 mod writing;
 
 use collection::Verdict;
-use sheet_text::WriteAnswer;
+use sheet::WriteAnswer;
 ghost use mathlib.Core.Path.{_≡_};
-ghost use Rattle.sheet_text.specs.Write.{writeVerdict, writeOutcome, writeOf};
+ghost use Rattle.sheet.specs.Write.{writeVerdict, writeOutcome, writeOf};
+ghost use Rattle.collection.specs.Collection.{collection};
 
 // 2 to 6, then 1: the sheet for a table of `have` bytes.
 fn judge_write(k: usize, letters: &[u8], ends: &[u32], weights: &[u32], have: usize) -> Verdict
-    ensures { λ r. ⌜ r ≡ writeVerdict k (now (letters .entry)) (now (ends .entry)) (now (weights .entry)) have ⌝ }
+    ensures { λ r. ⌜ r ≡ writeVerdict (collection k (now (letters .entry)) (now (ends .entry)) (now (weights .entry))) have ⌝ }
 {
     let a = collection::judge_collection(k, letters, ends, weights);
     let Verdict::Good = a else {
@@ -28,7 +29,7 @@ pub fn write(
     weights: &[u32],
     sheet: &mut [u8],
 ) -> WriteAnswer
-    ensures { λ r. ⌜ writeOutcome r (now (sheet .exit)) ≡ writeOf k (now (letters .entry)) (now (ends .entry)) (now (weights .entry)) (now (sheet .entry)) ⌝ }
+    ensures { λ r. ⌜ writeOutcome r (now (sheet .exit)) ≡ writeOf (collection k (now (letters .entry)) (now (ends .entry)) (now (weights .entry))) (now (sheet .entry)) ⌝ }
 {
     let v = judge_write(k, letters, ends, weights, sheet.len());
     if let Verdict::Bad { number, place } = v {

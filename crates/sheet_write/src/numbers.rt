@@ -2,8 +2,8 @@
 ghost use mathlib.Core.Path.{_≡_};
 ghost use Prim.Native.Nat.{_+_, _≤_};
 ghost use lib.ListN.{length, take, drop};
-ghost use Rattle.sheet_text.specs.Numbers.{digits};
-ghost use Rattle.sheet_text.specs.Text.{weightsText};
+ghost use Rattle.sheet.specs.Numbers.{digits};
+ghost use Rattle.sheet.specs.Text.{weightsText};
 ghost use Rattle.sheet_write.specs.Written.{Stores};
 
 // How many digits a number has.

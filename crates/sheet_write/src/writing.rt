@@ -4,9 +4,10 @@ ghost use mathlib.Core.Path.{_≡_};
 ghost use Prim.Native.Nat.{_+_, _*_, _≤_};
 ghost use lib.ListN.{length};
 ghost use Rattle.lists.specs.Fill.{put, fill};
+ghost use Rattle.collection.specs.Collection.{collection};
 ghost use Rattle.collection.specs.Judge.{Passes};
 ghost use Rattle.collection.specs.Strings.{strings};
-ghost use Rattle.sheet_text.specs.Text.{weightsText, linesText, writeText};
+ghost use Rattle.sheet.specs.Text.{weightsText, linesText, writeText};
 ghost use Rattle.sheet_write.specs.Written.{Stores, headLine, cutString, stringLine};
 
 // How many bytes all weights take, each with its tab.
@@ -25,8 +26,8 @@ fn weights_length(weights: &[u32]) -> usize
 
 // How long the sheet is: line 1, then three bytes a string, its letters, and the weights.
 pub(crate) fn sheet_length(k: usize, letters: &[u8], ends: &[u32], weights: &[u32]) -> usize
-    requires { ⌜ Passes k (now letters) (now ends) (now weights) ⌝ }
-    ensures { λ r. ⌜ r ≡ length (writeText k (now (letters .entry)) (now (ends .entry)) (now (weights .entry))) ⌝ }
+    requires { ⌜ Passes (collection k (now letters) (now ends) (now weights)) ⌝ }
+    ensures { λ r. ⌜ r ≡ length (writeText (collection k (now (letters .entry)) (now (ends .entry)) (now (weights .entry)))) ⌝ }
 {
     let head = 3 + numbers::digit_count(k as u32);
     head + 3 * ends.len() + letters.len() + weights_length(weights)
@@ -76,9 +77,9 @@ fn put_lines(
     out: &mut [u8],
     at: usize,
 ) -> usize
-    requires { ⌜ Passes k (now letters) (now ends) (now weights) ⌝ }
-    requires { ⌜ at + length (linesText (strings k (now letters) (now ends) (now weights))) ≤ length (now out) ⌝ }
-    ensures { λ r. ⌜ Stores at (linesText (strings k (now (letters .entry)) (now (ends .entry)) (now (weights .entry)))) (now (out .entry)) r (now (out .exit)) ⌝ }
+    requires { ⌜ Passes (collection k (now letters) (now ends) (now weights)) ⌝ }
+    requires { ⌜ at + length (linesText (strings (collection k (now letters) (now ends) (now weights)))) ≤ length (now out) ⌝ }
+    ensures { λ r. ⌜ Stores at (linesText (strings (collection k (now (letters .entry)) (now (ends .entry)) (now (weights .entry))))) (now (out .entry)) r (now (out .exit)) ⌝ }
 {
     let mut before: usize = 0;
     let mut w: usize = 0;
@@ -103,9 +104,9 @@ pub(crate) fn put_sheet(
     weights: &[u32],
     out: &mut [u8],
 ) -> usize
-    requires { ⌜ Passes k (now letters) (now ends) (now weights) ⌝ }
-    requires { ⌜ length (writeText k (now letters) (now ends) (now weights)) ≤ length (now out) ⌝ }
-    ensures { λ r. ⌜ (r ≡ length (writeText k (now (letters .entry)) (now (ends .entry)) (now (weights .entry)))) × (now (out .exit) ≡ fill (writeText k (now (letters .entry)) (now (ends .entry)) (now (weights .entry))) (now (out .entry))) ⌝ }
+    requires { ⌜ Passes (collection k (now letters) (now ends) (now weights)) ⌝ }
+    requires { ⌜ length (writeText (collection k (now letters) (now ends) (now weights))) ≤ length (now out) ⌝ }
+    ensures { λ r. ⌜ (r ≡ length (writeText (collection k (now (letters .entry)) (now (ends .entry)) (now (weights .entry))))) × (now (out .exit) ≡ fill (writeText (collection k (now (letters .entry)) (now (ends .entry)) (now (weights .entry)))) (now (out .entry))) ⌝ }
 {
     let p = put_head(k, out);
     put_lines(k, letters, ends, weights, out, p)

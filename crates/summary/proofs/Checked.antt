@@ -6,9 +6,10 @@ use native.Mathlib.Omega.{arith}
 use lib.IntN.{ℤ}
 use lib.ListN.{length}
 use Rattle.lists.specs.Count.{sum}
+use Rattle.collection.specs.Collection.{Collection, spellingOf}
 use Rattle.collection.specs.declared.Verdict.{Verdict}
 use Rattle.collection.specs.declared.Verdict.the-variants.{Good, Bad}
-use Rattle.collection.specs.Judge.{Passes, kmerCount}
+use Rattle.collection.specs.Judge.{Passes, kmersIn}
 use Rattle.collection.specs.Verdict.{atPlace, settle}
 use Rattle.collection.proofs.Judged.{Judged, collection-good, shape-long}
 use Rattle.collection.proofs.Kmers.{kmers-counted}
@@ -17,17 +18,17 @@ use Rattle.collection.proofs.Verdicts.{good-room}
 use Rattle.repeats.specs.declared.CheckAnswer.{CheckAnswer}
 use Rattle.repeats.specs.declared.CheckAnswer.the-variants as check
 use Rattle.repeats.specs.Check.{firstRepeat, checkVerdict, checkOf, Outcome, outcome}
-use Rattle.trails.specs.Groups.{least}
-use Rattle.vertices.specs.EndWeights.{endWeights}
-use Rattle.vertices.specs.Promises.{Strung}
+use Rattle.cover_trails.specs.Groups.{least}
+use Rattle.cover_vertices.specs.EndWeights.{endWeights}
+use Rattle.cover_vertices.specs.Promises.{Strung}
 use Rattle.cover.specs.declared.CoverAnswer.{CoverAnswer}
 use Rattle.cover.specs.declared.CoverAnswer.the-variants as cover
 use Rattle.cover.specs.Cover.{coverVerdict, Promise}
 use Rattle.cover.proofs.Laws.{cover-answers, ends-count}
 use Rattle.runs.specs.Runs.{runCount}
-use Rattle.counts.specs.Counts.{distinct, bitsOf}
-use Rattle.counts.specs.Inner.{innerFrom, Weighed}
-use Rattle.counts.proofs.Inside.{inner-runs}
+use Rattle.summary_counts.specs.Counts.{distinct, bitsOf}
+use Rattle.summary_counts.specs.Inner.{innerFrom, Weighed}
+use Rattle.summary_counts.proofs.Inside.{inner-runs}
 use Rattle.summary_text.specs.declared.Summary.{Summary}
 use Rattle.summary_text.specs.declared.Summary.the-variants.{Counted, Refused}
 use Rattle.summary.specs.Inner.{numbersFrom}
@@ -44,50 +45,50 @@ unfolding numbersFrom
 counted-from k ends weights paths t i g d b = λ j. Counted (length ends) (length weights) (t j) (i j) (g j) paths (i j - length ends + paths) (d j) (b j)
 
 -- with the least number of paths they are the numbers of the collection
-numbers-are : (k : ℕ) (letters ends weights : List ℕ) {paths : ℕ} → paths ≡ least (endWeights k letters ends weights) → numbersFrom k ends weights paths ≡ numbersOf k letters ends weights
+numbers-are : (c : Collection) {paths : ℕ} → paths ≡ least (endWeights c) → numbersFrom c.k c.ends c.weights paths ≡ numbersOf c
 unfolding numbersFrom numbersOf
-numbers-are k letters ends weights p =
-    λ j. Counted (length ends) (length weights) (sum weights) (sym (inner-runs k letters ends weights) j) (runCount weights) (p j) (sym (inner-runs k letters ends weights) j - length ends + p j) (distinct weights) (bitsOf weights)
+numbers-are c p =
+    λ j. Counted (length c.ends) (length c.weights) (sum c.weights) (sym (inner-runs c) j) (runCount c.weights) (p j) (sym (inner-runs c) j - length c.ends + p j) (distinct c.weights) (bitsOf c.weights)
 
 -- ─── a judged collection ─────────────────────────────────────────────────────
 
-module _ (k : ℕ) (letters ends weights : List ℕ) (passes : Passes k letters ends weights) where
-  judged : Judged k letters ends weights
-  judged = collection-good k letters ends weights passes
+module _ (c : Collection) (passes : Passes c) where
+  judged : Judged c
+  judged = collection-good c passes
 
   -- what the counting functions ask of the weights
-  pub weighed : Weighed weights
+  pub weighed : Weighed c.weights
   weighed = record { few = omega (arith, judged .counted, judged .shape .N-high); in-range = judged .all-weights }
 
-  module _ (work : List ℕ) (room : 4 * length weights ≤ length work) {a : CheckAnswer} {work' : List ℕ} (e : outcome a work' ≡ checkOf k letters ends weights work) where
-    check-good : checkVerdict k letters ends weights (length work) ≡ Good
+  module _ (work : List ℕ) (room : 4 * length c.weights ≤ length work) {a : CheckAnswer} {work' : List ℕ} (e : outcome a work' ≡ checkOf c work) where
+    check-good : checkVerdict c (length work) ≡ Good
     unfolding checkVerdict
     check-good = then-good _ passes (good-room (subst (λ (n : ℕ). 4 * n ≤ length work) (judged .counted) room))
 
-    check-answers : a ≡ settle (atPlace 7 (firstRepeat k letters ends)) check.Refused (check.Checked (kmerCount k (length letters) (length ends)))
+    check-answers : a ≡ settle (atPlace 7 (firstRepeat (spellingOf c))) check.Refused (check.Checked (kmersIn (spellingOf c)))
     unfolding checkOf
     check-answers = ap (λ (o : Outcome). o .answer) (e ∙ sym (settled _ refl check-good))
 
     -- a refusal of CHECK is one of `tally`
-    pub check-refused : {number place : ℕ} → a ≡ check.Refused number place → Refused number place ≡ checkedOf k letters ends weights
+    pub check-refused : {number place : ℕ} → a ≡ check.Refused number place → Refused number place ≡ checkedOf c
     unfolding checkedOf settle
-    check-refused {number} {place} q = go (atPlace 7 (firstRepeat k letters ends)) (sym check-answers ∙ q)
+    check-refused {number} {place} q = go (atPlace 7 (firstRepeat (spellingOf c))) (sym check-answers ∙ q)
       where
-        go : (v : Verdict) → settle v check.Refused (check.Checked (kmerCount k (length letters) (length ends))) ≡ check.Refused number place → Refused number place ≡ settle v Refused (numbersOf k letters ends weights)
+        go : (v : Verdict) → settle v check.Refused (check.Checked (kmersIn (spellingOf c))) ≡ check.Refused number place → Refused number place ≡ settle v Refused (numbersOf c)
         go Good h = let z : _≡_ {A = ℕ} 0 1 = cc in absurd (omega arith)
         go (Bad x y) h = let p : number ≡ x = cc in let q : place ≡ y = cc in ap₂ Refused p q
 
     -- else the numbers count
-    pub check-passed : {n : ℕ} → a ≡ check.Checked n → {s : Summary} → s ≡ numbersOf k letters ends weights → s ≡ checkedOf k letters ends weights
+    pub check-passed : {n : ℕ} → a ≡ check.Checked n → {s : Summary} → s ≡ numbersOf c → s ≡ checkedOf c
     unfolding checkedOf settle
-    check-passed {n} q {s} r = go (atPlace 7 (firstRepeat k letters ends)) (sym check-answers ∙ q)
+    check-passed {n} q {s} r = go (atPlace 7 (firstRepeat (spellingOf c))) (sym check-answers ∙ q)
       where
-        go : (v : Verdict) → settle v check.Refused (check.Checked (kmerCount k (length letters) (length ends))) ≡ check.Checked n → s ≡ settle v Refused (numbersOf k letters ends weights)
+        go : (v : Verdict) → settle v check.Refused (check.Checked (kmersIn (spellingOf c))) ≡ check.Checked n → s ≡ settle v Refused (numbersOf c)
         go Good h = r
         go (Bad x y) h = let z : _≡_ {A = ℕ} 0 1 = cc in absurd (omega arith)
 
   -- and of the ends
-  pub strung : Strung k ends weights
+  pub strung : Strung c.k c.ends c.weights
   strung = record {
     ends-long = shape-long (judged .shape);
     few-letters = omega (arith, judged .shape .last, judged .shape .N-high);
@@ -95,24 +96,24 @@ module _ (k : ℕ) (letters ends weights : List ℕ) (passes : Passes k letters 
     in-range = judged .all-weights;
   }
 
-  module _ {places : List ℤ} {work : List ℕ} {b : CoverAnswer} {places' : List ℤ} {work' : List ℕ} (p : Promise k letters ends weights places work b places' work')
-      (places-room : length ends ≤ length places) (work-room : 16 * length ends ≤ length work) where
-    covered : b ≡ cover.Covered (length ends) (least (endWeights k letters ends weights))
+  module _ {places : List ℤ} {work : List ℕ} {b : CoverAnswer} {places' : List ℤ} {work' : List ℕ} (p : Promise c places work b places' work')
+      (places-room : length c.ends ≤ length places) (work-room : 16 * length c.ends ≤ length work) where
+    covered : b ≡ cover.Covered (length c.ends) (least (endWeights c))
     unfolding coverVerdict
-    covered = cover-answers k letters ends weights places work p (then-good _ passes (then-good _ (good-room places-room) (good-room work-room)))
+    covered = cover-answers c places work p (then-good _ passes (then-good _ (good-room places-room) (good-room work-room)))
 
     -- COVER refuses nothing here
-    pub cover-refused : {number place : ℕ} {s : Summary} → b ≡ cover.Refused number place → s ≡ checkedOf k letters ends weights
+    pub cover-refused : {number place : ℕ} {s : Summary} → b ≡ cover.Refused number place → s ≡ checkedOf c
     cover-refused q = let h = covered in let z : _≡_ {A = ℕ} 0 1 = cc in absurd (omega arith)
 
     module _ {m paths : ℕ} (q : b ≡ cover.Covered m paths) where
-      paths-least : paths ≡ least (endWeights k letters ends weights)
+      paths-least : paths ≡ least (endWeights c)
       paths-least = let h = covered in cc
 
       -- as few as the strings, so that no number wraps
-      pub paths-low : paths ≤ length ends
-      paths-low = omega (arith, paths-least, least-few (endWeights k letters ends weights), ends-count k letters ends weights)
+      pub paths-low : paths ≤ length c.ends
+      paths-low = omega (arith, paths-least, least-few (endWeights c), ends-count c)
 
       -- the numbers from these paths are those of the collection
-      pub numbers-told : {s : Summary} → s ≡ numbersFrom k ends weights paths → s ≡ numbersOf k letters ends weights
-      numbers-told r = r ∙ numbers-are k letters ends weights paths-least
+      pub numbers-told : {s : Summary} → s ≡ numbersFrom c.k c.ends c.weights paths → s ≡ numbersOf c
+      numbers-told r = r ∙ numbers-are c paths-least

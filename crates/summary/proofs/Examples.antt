@@ -11,14 +11,14 @@ use Rattle.collection.specs.Judge.{kVerdict, sizeVerdict}
 use Rattle.collection.specs.Kmers.{kmersFrom}
 use Rattle.collection.specs.Strings.{stringsFrom, lettersIn, endsIn, weightsIn}
 use Rattle.collection.specs.Verdict.{andThen, atPlace, settle}
-use Rattle.sheet_text.specs.Numbers.{isNumber, valueFrom, digitsIn, digits}
-use Rattle.sheet_text.specs.Parts.{upTo, later}
-use Rattle.sheet_text.specs.Sheet.{isKLine, isWeightField, isString, isStringLine, stringsOf, firstWrong, sheetVerdict}
+use Rattle.sheet.specs.Numbers.{isNumber, valueFrom, digitsIn, digits}
+use Rattle.sheet.specs.Parts.{upTo, later}
+use Rattle.sheet.specs.Sheet.{isKLine, isWeightField, isString, isStringLine, stringsOf, firstWrong, sheetVerdict}
 use Rattle.repeats.specs.Check.{anyThat, alike, repeated, firstRepeat}
-use Rattle.trails.specs.Groups.{least}
-use Rattle.vertices.specs.EndWeights.{endWeights}
+use Rattle.cover_trails.specs.Groups.{least}
+use Rattle.cover_vertices.specs.EndWeights.{endWeights}
 use Rattle.runs.specs.Runs.{laterRuns, runs, innerRuns}
-use Rattle.counts.specs.Counts.{isIn, fresh, distinct, largest, bitsFrom, bitsFor, bitsOf}
+use Rattle.summary_counts.specs.Counts.{isIn, fresh, distinct, largest, bitsFrom, bitsFor, bitsOf}
 use Rattle.summary_text.specs.declared.Summary.the-variants.{Counted}
 use Rattle.summary_text.specs.Text.{entry, line, lines, countedText, textFor}
 use Rattle.summary.specs.Summary.{numbersOf, checkedOf, longVerdict, linesVerdict, summaryOf}

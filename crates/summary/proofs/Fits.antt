@@ -5,19 +5,19 @@ use Prim.Native.Nat.{ℕ, _+_, _*_, _≤_}
 use native.Mathlib.Omega.{arith}
 use lib.ListN.{length, length-append}
 use Rattle.collection.specs.Strings.{Str, lettersIn, weightsIn}
-use Rattle.sheet_text.specs.Numbers.{digits}
-use Rattle.sheet_text.specs.Parts.{tab, feed}
-use Rattle.sheet_text.specs.Read.{sheetN, sheetM, sheetWeights}
-use Rattle.sheet_text.specs.Sheet.{sheetK, sheetStrings, Accepted}
-use Rattle.sheet_text.specs.Text.{weightsText, stringText, linesText, sheetText}
-use Rattle.sheet_text.proofs.Accepted.{accepted-text}
-use Rattle.sheet_text.proofs.Digits.{digits-some}
-use Rattle.trails.specs.Groups.{least}
-use Rattle.trails.specs.Places.{arranged}
-use Rattle.trails.specs.Strings.{Ends, turned}
-use Rattle.trails.proofs.Amounts.{paths-few}
-use Rattle.trails.proofs.Arranged.{length-arranged}
-use Rattle.trails.proofs.Bounds.{one-reaches}
+use Rattle.sheet.specs.Numbers.{digits}
+use Rattle.sheet.specs.Parts.{tab, feed}
+use Rattle.sheet.specs.Read.{sheetN, sheetM, sheetWeights}
+use Rattle.sheet.specs.Sheet.{sheetK, sheetStrings, Accepted}
+use Rattle.sheet.specs.Text.{weightsText, stringText, linesText, sheetText}
+use Rattle.sheet.proofs.Accepted.{accepted-text}
+use Rattle.sheet.proofs.Digits.{digits-some}
+use Rattle.cover_trails.specs.Groups.{least}
+use Rattle.cover_trails.specs.Places.{arranged}
+use Rattle.cover_trails.specs.Strings.{Ends, turned}
+use Rattle.cover_trails.proofs.Amounts.{paths-few}
+use Rattle.cover_trails.proofs.Arranged.{length-arranged}
+use Rattle.cover_trails.proofs.Bounds.{one-reaches}
 
 -- ─── how much a sheet holds ──────────────────────────────────────────────────
 

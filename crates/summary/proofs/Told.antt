@@ -8,20 +8,21 @@ use lib.ListN.{length, take}
 use Rattle.lists.specs.Choose.{choose}
 use Rattle.lists.specs.Fill.{fill}
 use Rattle.lists.proofs.Storing.{length-fill}
+use Rattle.collection.specs.Collection.{collection}
 use Rattle.collection.specs.declared.Verdict.{Verdict}
 use Rattle.collection.specs.declared.Verdict.the-variants.{Good, Bad}
 use Rattle.collection.specs.Judge.{Passes, sizeVerdict, collectionVerdict}
-use Rattle.collection.specs.Strings.{lettersIn, endsIn, weightsIn}
+use Rattle.collection.specs.Strings.{lettersIn, endsIn, weightsIn, joined}
 use Rattle.collection.specs.Verdict.{andThen, settle}
 use Rattle.collection.proofs.Strings.{ends-length}
 use Rattle.collection.proofs.Verdicts.{then-good, then-bad, refused, settled}
-use Rattle.sheet_text.specs.declared.ReadAnswer.{ReadAnswer}
-use Rattle.sheet_text.specs.declared.ReadAnswer.the-variants as read
-use Rattle.sheet_text.specs.Read.{sheetN, sheetM, sheetWeights, tablesVerdict, readVerdict, ReadOutcome, readOutcome, readOf}
-use Rattle.sheet_text.specs.Sheet.{sheetK, sheetStrings, sheetVerdict, Accepted}
-use Rattle.sheet_text.proofs.Calls.{ReadDone, read-done, read-passes}
+use Rattle.sheet.specs.declared.ReadAnswer.{ReadAnswer}
+use Rattle.sheet.specs.declared.ReadAnswer.the-variants as read
+use Rattle.sheet.specs.Read.{sheetN, sheetM, sheetWeights, tablesVerdict, readVerdict, ReadOutcome, readOutcome, readOf}
+use Rattle.sheet.specs.Sheet.{sheetK, sheetStrings, sheetVerdict, Accepted}
+use Rattle.sheet.proofs.Calls.{ReadDone, read-done, read-passes}
 use Rattle.collection.proofs.Verdicts.{good-room}
-use Rattle.sheet_text.proofs.Taken.{takes-read}
+use Rattle.sheet.proofs.Taken.{takes-read}
 use Rattle.summary_text.specs.declared.Summary.{Summary}
 use Rattle.summary_text.specs.declared.Summary.the-variants.{Refused}
 use Rattle.summary.specs.Inner.{Ample}
@@ -60,7 +61,7 @@ module _ (bs letters ends weights : List ℕ) (places work : ℕ) (l : length bs
     answered q = sym (ap (λ (o : ReadOutcome). o .answer) e) ∙ q
 
     abbrev collection-told : Summary
-    collection-told = checkedOf (sheetK bs) (lettersIn (sheetStrings bs)) (endsIn 0 (sheetStrings bs)) (weightsIn (sheetStrings bs))
+    collection-told = checkedOf (joined (sheetK bs) (sheetStrings bs))
 
     abbrev filled : ReadOutcome
     filled =
@@ -122,8 +123,8 @@ module _ (bs letters ends weights : List ℕ) (places work : ℕ) (l : length bs
           )
 
       -- and make a judged collection that the other tables have room for
-      pub read-judged : Passes k (take n letters') (take m ends') (take w weights')
-      read-judged = (λ i. collectionVerdict k (take n (e i .letters)) (take m (e i .ends)) (take w (e i .weights))) ∙ read-passes bs letters ends weights k n m w (answered q)
+      pub read-judged : Passes (collection k (take n letters') (take m ends') (take w weights'))
+      read-judged = (λ i. collectionVerdict (collection k (take n (e i .letters)) (take m (e i .ends)) (take w (e i .weights)))) ∙ read-passes bs letters ends weights k n m w (answered q)
 
       pub tables-room : (length (take m ends') ≤ places) × (16 * length (take m ends') ≤ work) × (4 * length (take w weights') ≤ work)
       tables-room =
@@ -133,6 +134,6 @@ module _ (bs letters ends weights : List ℕ) (places work : ℕ) (l : length bs
           (omega (arith, r .places-room), omega (arith, r .work-room), omega (arith, r .work-room))
 
       -- what is told of the collection is told of the sheet
-      pub read-told : {s : Summary} → s ≡ checkedOf k (take n letters') (take m ends') (take w weights') → s ≡ summaryOf bs
+      pub read-told : {s : Summary} → s ≡ checkedOf (collection k (take n letters') (take m ends') (take w weights')) → s ≡ summaryOf bs
       unfolding summaryOf
-      read-told t = t ∙ ((λ i. checkedOf (done .k-is i) (letters-read i) (ends-read i) (weights-read i)) ∙ settled Refused refl (sym read-judges ∙ verdict))
+      read-told t = t ∙ ((λ i. checkedOf (collection (done .k-is i) (letters-read i) (ends-read i) (weights-read i))) ∙ settled Refused refl (sym read-judges ∙ verdict))

@@ -4,8 +4,8 @@ use Prim.Native.Nat.{ℕ, _+_, _-_, _≤_}
 use lib.ListN.{length}
 use Rattle.lists.specs.Count.{sum}
 use Rattle.runs.specs.Runs.{runCount}
-use Rattle.counts.specs.Counts.{distinct, bitsOf}
-use Rattle.counts.specs.Inner.{innerFrom}
+use Rattle.summary_counts.specs.Counts.{distinct, bitsOf}
+use Rattle.summary_counts.specs.Inner.{innerFrom}
 use Rattle.summary_text.specs.declared.Summary.{Summary}
 use Rattle.summary_text.specs.declared.Summary.the-variants.{Counted}
 

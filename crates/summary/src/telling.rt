@@ -1,14 +1,15 @@
 // READ, CHECK and COVER of a sheet, and the numbers of its collection.
 use cover::CoverAnswer;
 use repeats::CheckAnswer;
-use sheet_text::ReadAnswer;
+use sheet::ReadAnswer;
 use summary_text::Summary;
 ghost use mathlib.Core.Path.{_≡_};
 ghost use Prim.Native.Nat.{_*_, _≤_};
 ghost use lib.ListN.{length};
+ghost use Rattle.collection.specs.Collection.{collection};
 ghost use Rattle.collection.specs.Judge.{Passes};
-ghost use Rattle.vertices.specs.Promises.{Strung};
-ghost use Rattle.counts.specs.Inner.{Weighed};
+ghost use Rattle.cover_vertices.specs.Promises.{Strung};
+ghost use Rattle.summary_counts.specs.Inner.{Weighed};
 ghost use Rattle.summary.specs.Summary.{checkedOf, summaryOf};
 ghost use Rattle.summary.specs.Inner.{numbersFrom, Ample};
 
@@ -19,18 +20,18 @@ fn count_all(k: usize, ends: &[u32], weights: &[u32], paths: usize, work: &mut [
     ensures { λ r. ⌜ r ≡ numbersFrom k (now (ends .entry)) (now (weights .entry)) paths ⌝ }
 {
     let m = ends.len();
-    let inner = counts::inner::inner_runs(k, ends, weights);
-    let distinct = counts::inner::distinct(weights, work);
+    let inner = summary_counts::inner::inner_runs(k, ends, weights);
+    let distinct = summary_counts::inner::distinct(weights, work);
     Summary::Counted {
         strings: m,
         kmers: weights.len(),
-        total: counts::inner::total(weights),
+        total: summary_counts::inner::total(weights),
         inner,
         given: runs::inner::count_runs(weights),
         paths,
         least: inner - m + paths,
         distinct,
-        bits: counts::inner::bits(distinct, weights),
+        bits: summary_counts::inner::bits(distinct, weights),
     }
 }
 
@@ -43,9 +44,9 @@ fn tell_checked(
     places: &mut [i32],
     work: &mut [u32],
 ) -> Summary
-    requires { ⌜ Passes k (now letters) (now ends) (now weights) ⌝ }
+    requires { ⌜ Passes (collection k (now letters) (now ends) (now weights)) ⌝ }
     requires { ⌜ (length (now ends) ≤ length (now places)) × (16 * length (now ends) ≤ length (now work)) × (4 * length (now weights) ≤ length (now work)) ⌝ }
-    ensures { λ r. ⌜ r ≡ checkedOf k (now (letters .entry)) (now (ends .entry)) (now (weights .entry)) ⌝ }
+    ensures { λ r. ⌜ r ≡ checkedOf (collection k (now (letters .entry)) (now (ends .entry)) (now (weights .entry))) ⌝ }
 {
     let a = repeats::check(k, letters, ends, weights, work);
     if let CheckAnswer::Refused { number, place } = a {

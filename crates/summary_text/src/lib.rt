@@ -7,7 +7,7 @@ ghost use mathlib.Core.Path.{_≡_};
 ghost use Prim.Native.Nat.{_+_, _≤_};
 ghost use lib.ListN.{length};
 ghost use Rattle.lists.specs.Fill.{fill};
-ghost use Rattle.sheet_text.specs.Numbers.{digits};
+ghost use Rattle.sheet.specs.Numbers.{digits};
 ghost use Rattle.summary_text.specs.Text.{countedText, refusedText, textFor};
 ghost use Rattle.summary_text.specs.Written.{outcome, writtenOf};
 

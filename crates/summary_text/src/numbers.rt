@@ -2,7 +2,7 @@
 ghost use mathlib.Core.Path.{_≡_};
 ghost use Prim.Native.Nat.{_+_, _≤_};
 ghost use lib.ListN.{length};
-ghost use Rattle.sheet_text.specs.Numbers.{digits};
+ghost use Rattle.sheet.specs.Numbers.{digits};
 ghost use Rattle.sheet_write.specs.Written.{Stores};
 
 // How many digits a number has.

@@ -27,10 +27,10 @@ unfolding accessPart accessStart
 returns c = let e = sym (c .before .before .before .judge-access .ensures) ∙ c .before .enum-told2 .given .1 in (refused _ _ e, refl, start-refused _ _ e)
 
 position-requires : tie.Need-position-requires
-position-requires c κs = let g = access-good _ _ _ _ (sym (c .before .before .judge-access .ensures) ∙ c .enum-told .given .1) in (shape-long (g .shape), (g .low, g .high))
+position-requires c κs = let g = access-good _ _ (sym (c .before .before .judge-access .ensures) ∙ c .enum-told .given .1) in (shape-long (g .shape), (g .low, g .high))
 
 add-result : tie.Need-add-result
-add-result c = let g = access-good _ _ _ _ (sym (c .before .before .before .judge-access .ensures) ∙ c .before .enum-told .given .1) in omega (arith, position-fits (g .shape) _ (g .low) (g .high), c .position .ensures)
+add-result c = let g = access-good _ _ (sym (c .before .before .before .judge-access .ensures) ∙ c .before .enum-told .given .1) in omega (arith, position-fits (g .shape) _ (g .low) (g .high), c .position .ensures)
 
 sub-result : tie.Need-sub-result
 sub-result c = search needs
@@ -39,7 +39,7 @@ part-result-start : tie.Need-part-result-start
 part-result-start c = search needs
 
 part-result-end : tie.Need-part-result-end
-part-result-end c = let g = access-good _ _ _ _ (sym (c .before .before .before .judge-access .ensures) ∙ c .before .enum-told .given .1) in omega (arith, position-fits (g .shape) _ (g .low) (g .high), c .position .ensures)
+part-result-end c = let g = access-good _ _ (sym (c .before .before .before .judge-access .ensures) ∙ c .before .enum-told .given .1) in omega (arith, position-fits (g .shape) _ (g .low) (g .high), c .position .ensures)
 
 returns-2 : tie.Need-returns-2
 unfolding accessPart accessStart

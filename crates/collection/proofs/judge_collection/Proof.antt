@@ -36,7 +36,7 @@ unfolding collectionVerdict
 returns-2 c = goes-on _ (c .before .before .before .before .before .judge-shape .ensures) (c .before .before .before .enum-told .given .1) (stops _ (c .before .before .judge-letters .ensures) (c .enum-told4 .given .1))
 
 kmer-count-requires : tie.Need-kmer-count-requires
-kmer-count-requires c κs = let s = shape-good _ _ _ (sym (c .before .before .before .before .before .judge-shape .ensures) ∙ c .before .before .before .enum-told .given .1) in (s .room, omega (arith, s .k-low))
+kmer-count-requires c κs = let s = shape-good _ (sym (c .before .before .before .before .before .judge-shape .ensures) ∙ c .before .before .before .enum-told .given .1) in (s .room, omega (arith, s .k-low))
 
 judge-weights-requires : tie.Need-judge-weights-requires
 judge-weights-requires c κs = search needs

@@ -1,6 +1,7 @@
 -- `cover` meets its contract: the verdict, then the strings covered in parts of the lent tables (proofs/Promised).
 use mathlib.Core.Path.{_≡_, sym, _∙_}
 use native.Mathlib.Omega.{arith}
+use Rattle.collection.specs.Collection.{collection}
 use Rattle.collection.specs.declared.Verdict.the-variants.{Good}
 use Rattle.cover.specs.Cover.{coverVerdict}
 use Rattle.cover.proofs.Promised.{Roomy, cover-good, strung, work-fits, places-fit, cover-refused, cover-none, cover-all}
@@ -9,12 +10,12 @@ use Rattle.cover.proofs.cover.Statement.{statement}
 use Rattle.cover.proofs.cover.Tie as tie
 
 -- the verdict is good
-good : (c : tie.After-enum-told) → let a = c .before .before .before .before .before .before .before .before .before .args in coverVerdict (a .k) (a .letters .now) (a .ends .now) (a .weights .now) (a .places .now) (a .work .now) ≡ Good
+good : (c : tie.After-enum-told) → let a = c .before .before .before .before .before .before .before .before .before .args in coverVerdict (collection (a .k) (a .letters .now) (a .ends .now) (a .weights .now)) (a .places .now) (a .work .now) ≡ Good
 good c = sym (c .before .before .judge-cover .ensures) ∙ c .enum-told .given .1
 
 -- so there is room
-roomy : (c : tie.After-enum-told) → let a = c .before .before .before .before .before .before .before .before .before .args in Roomy (a .k) (a .letters .now) (a .ends .now) (a .weights .now) (a .places .now) (a .work .now)
-roomy c = cover-good _ _ _ _ _ _ (good c)
+roomy : (c : tie.After-enum-told) → let a = c .before .before .before .before .before .before .before .before .before .args in Roomy (collection (a .k) (a .letters .now) (a .ends .now) (a .weights .now)) (a .places .now) (a .work .now)
+roomy c = cover-good _ _ _ (good c)
 
 judge-cover-requires : tie.Need-judge-cover-requires
 judge-cover-requires c κs = search needs
@@ -70,7 +71,7 @@ same-length-6 : tie.Need-same-length-6
 same-length-6 c = search needs
 
 returns-3 : tie.Need-returns-3
-returns-3 c = cover-all _ _ _ _ _ _ (good (c .before .before .before .before .before .before .before)) (c .before .before .before .cover-strings .ensures)
+returns-3 c = cover-all _ _ _ (good (c .before .before .before .before .before .before .before)) (c .before .before .before .cover-strings .ensures)
 
 pub cover-spec : {M : Type 1} → statement M
 cover-spec =

@@ -35,7 +35,7 @@ unfolding coverVerdict
 returns-2 c = goes-on _ (c .before .before .before .before .before .judge-collection .ensures) (c .before .before .before .enum-told .given .1) (stops _ (c .before .before .judge-room .ensures) (c .enum-told4 .given .1))
 
 mul-judge-room : tie.Need-mul-judge-room
-mul-judge-room c = let j = collection-good _ _ _ _ (sym (c .before .before .before .before .before .judge-collection .ensures) ∙ c .before .before .before .enum-told .given .1) in omega (arith, j .shape .m-high)
+mul-judge-room c = let j = collection-good _ (sym (c .before .before .before .before .before .judge-collection .ensures) ∙ c .before .before .before .enum-told .given .1) in omega (arith, j .shape .m-high)
 
 judge-room-requires-2 : tie.Need-judge-room-requires-2
 judge-room-requires-2 c κs = search needs

@@ -1,7 +1,8 @@
 -- `corrivume_apply` meets its contract: the answer table is judged, then the call is made and its answer told. Assumes nothing.
 use mathlib.Core.Path.{ap, _∙_}
 use Rattle.exports.specs.Calls.{applyExported}
-use Rattle.replies.proofs.Telling.{too-short, shown}
+use Rattle.apply.specs.Apply.{lent}
+use Rattle.exports_replies.proofs.Telling.{too-short, shown}
 use borrow.Author.Needs.{needs}
 use Rattle.exports.proofs.corrivume_apply.Statement.{statement}
 use Rattle.exports.proofs.corrivume_apply.Tie as tie
@@ -36,8 +37,8 @@ same-length-5 c = search needs
 returns-2 : tie.Need-returns-2
 returns-2 c =
     let a = c .before .before .before .before .before .before .before .before .before .before .before .before .before .before .before .before .before .before .before .before .before .before .before .before .before .before .before .args in
-    shown (a .answer .now) (a .new-letters .now, a .new-ends .now, a .new-weights .now, a .work .now) (c .before .before .before .before .before .before .before .before .before .before .before .before .before .before .before .before .before .before .if1 .left) (c .before .before .before .before .apply-reply .ensures) (c .before .before .tell .ensures)
-    ∙ ap (applyExported (a .answer .now) (a .new-letters .now, a .new-ends .now, a .new-weights .now, a .work .now)) (c .before .before .before .before .before .before .before .before .before .before .before .before .before .apply .ensures)
+    shown (a .answer .now) (lent (a .new-letters .now) (a .new-ends .now) (a .new-weights .now) (a .work .now)) (c .before .before .before .before .before .before .before .before .before .before .before .before .before .before .before .before .before .before .if1 .left) (c .before .before .before .before .apply-reply .ensures) (c .before .before .tell .ensures)
+    ∙ ap (applyExported (a .answer .now) (lent (a .new-letters .now) (a .new-ends .now) (a .new-weights .now) (a .work .now))) (c .before .before .before .before .before .before .before .before .before .before .before .before .before .apply .ensures)
 
 pub corrivume-apply-spec : {M : Type 1} → statement M
 corrivume-apply-spec =

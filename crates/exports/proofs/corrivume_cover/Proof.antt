@@ -2,7 +2,7 @@
 use Prim.{absurd}
 use native.Mathlib.Omega.{arith}
 use Rattle.cover.specs.declared.CoverAnswer.the-variants.{Refused}
-use Rattle.replies.proofs.Telling.{too-short, shown}
+use Rattle.exports_replies.proofs.Telling.{too-short, shown}
 use borrow.Author.Needs.{needs}
 use Rattle.exports.proofs.corrivume_cover.Statement.{statement}
 use Rattle.exports.proofs.corrivume_cover.Tie as tie

@@ -2,7 +2,7 @@
 use mathlib.Core.Path.{ap, _∙_}
 use Rattle.index.specs.Indexing.{lent}
 use Rattle.exports.specs.Calls.{indexExported}
-use Rattle.replies.proofs.Telling.{too-short, shown}
+use Rattle.exports_replies.proofs.Telling.{too-short, shown}
 use borrow.Author.Needs.{needs}
 use Rattle.exports.proofs.corrivume_index.Statement.{statement}
 use Rattle.exports.proofs.corrivume_index.Tie as tie

@@ -1,7 +1,7 @@
 -- `corrivume_runs` meets its contract: the answer table is judged, then the call is made and its answer told. Assumes nothing.
 use mathlib.Core.Path.{ap, _∙_}
 use Rattle.exports.specs.Calls.{runsExported}
-use Rattle.replies.proofs.Telling.{too-short, shown}
+use Rattle.exports_replies.proofs.Telling.{too-short, shown}
 use borrow.Author.Needs.{needs}
 use Rattle.exports.proofs.corrivume_runs.Statement.{statement}
 use Rattle.exports.proofs.corrivume_runs.Tie as tie

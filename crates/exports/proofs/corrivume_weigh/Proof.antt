@@ -1,8 +1,8 @@
 -- `corrivume_weigh` meets its contract: the answer table is judged, then the call is made and its answer told. Assumes nothing.
 use mathlib.Core.Path.{ap, _∙_}
-use Rattle.replies.specs.Replies.{weighReply}
-use Rattle.replies.specs.Exported.{none}
-use Rattle.replies.proofs.Telling.{too-short, shown}
+use Rattle.exports_replies.specs.Replies.{weighReply}
+use Rattle.exports_replies.specs.Exported.{none}
+use Rattle.exports_replies.proofs.Telling.{too-short, shown}
 use borrow.Author.Needs.{needs}
 use Rattle.exports.proofs.corrivume_weigh.Statement.{statement}
 use Rattle.exports.proofs.corrivume_weigh.Tie as tie

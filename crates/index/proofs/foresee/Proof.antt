@@ -2,12 +2,13 @@
 use mathlib.Core.Path.{_≡_, sym, ap, _∙_}
 use Prim.Native.Nat.{ℕ, _+_}
 use native.Mathlib.Omega.{arith}
+use Rattle.collection.specs.Collection.{collection}
 use Rattle.collection.specs.declared.Verdict.the-variants.{Good}
 use Rattle.collection.specs.Judge.{Passes}
 use Rattle.collection.proofs.Judged.{collection-good}
 use Rattle.collection.proofs.Ready.{judged-ready}
-use Rattle.minimizers.specs.Minimizer.{sizesVerdict}
-use Rattle.minimizers.proofs.Sizes.{sizes-good, words-few}
+use Rattle.index_minimizers.specs.Minimizer.{sizesVerdict}
+use Rattle.index_minimizers.proofs.Sizes.{sizes-good, words-few}
 use Rattle.index.proofs.Indexed.{sizes-refused, collection-refused, room-enough, room-refused}
 use borrow.Author.Needs.{needs}
 use Rattle.index.proofs.foresee.Statement.{statement}
@@ -17,7 +18,7 @@ use Rattle.index.proofs.foresee.Tie as tie
 sizes : (c : tie.After-enum-told) → sizesVerdict (c .before .before .before .before .before .before .args .k) (c .before .before .before .before .before .before .args .p) ≡ Good
 sizes c = sym (c .before .before .judge-sizes .ensures) ∙ c .enum-told .given .1
 
-passes : (c : tie.After-enum-told2) → let a = c .before .before .before .before .before .before .before .before .before .args in Passes (a .k) (a .letters .now) (a .ends .now) (a .weights .now)
+passes : (c : tie.After-enum-told2) → let a = c .before .before .before .before .before .before .before .before .before .args in Passes (collection (a .k) (a .letters .now) (a .ends .now) (a .weights .now))
 passes c = sym (c .before .before .judge-collection .ensures) ∙ c .enum-told2 .given .1
 
 judge-sizes-requires : tie.Need-judge-sizes-requires
@@ -27,7 +28,7 @@ enum-known-a : tie.Need-enum-known-a
 enum-known-a c = search needs
 
 returns : tie.Need-returns
-returns c = λ t s. sizes-refused _ _ _ _ _ (sym (c .before .before .before .judge-sizes .ensures) ∙ c .before .a .given .1) t
+returns c = λ t s. sizes-refused _ _ (sym (c .before .before .before .judge-sizes .ensures) ∙ c .before .a .given .1) t
 
 enum-told : tie.Need-enum-told
 enum-told c = search needs
@@ -39,13 +40,13 @@ enum-known-b : tie.Need-enum-known-b
 enum-known-b c = search needs
 
 returns-2 : tie.Need-returns-2
-returns-2 c = λ t s. collection-refused _ _ _ _ _ (sizes (c .before .before .before .before)) (sym (c .before .before .before .judge-collection .ensures) ∙ c .before .b .given .1) t
+returns-2 c = λ t s. collection-refused _ _ (sizes (c .before .before .before .before)) (sym (c .before .before .before .judge-collection .ensures) ∙ c .before .b .given .1) t
 
 enum-told-2 : tie.Need-enum-told-2
 enum-told-2 c = search needs
 
 count-all-requires : tie.Need-count-all-requires
-count-all-requires c κs = let s = sizes-good _ _ (sizes (c .before .before .before)) in (judged-ready (collection-good _ _ _ _ (passes c)), (s .p-low, s .p-high, s .p-fits))
+count-all-requires c κs = let s = sizes-good _ _ (sizes (c .before .before .before)) in (judged-ready (collection-good _ (passes c)), (s .p-low, s .p-high, s .p-fits))
 
 word-count-requires : tie.Need-word-count-requires
 word-count-requires c κs = sizes-good _ _ (sizes (c .before .before .before .before)) .p-high
@@ -59,13 +60,13 @@ mul-if1 c = search needs
 returns-3 : tie.Need-returns-3
 returns-3 c =
     let a = c .before .before .before .before .before .before .before .before .before .before .before .before .args in
-    room-enough (a .k) (a .p) (a .letters .now) (a .ends .now) (a .weights .now) (sizes (c .before .before .before .before .before .before)) (passes (c .before .before .before)) (c .before .before .count-all .ensures) (ap (λ (d : ℕ). d + 1) (c .before .word-count .ensures))
+    room-enough (collection (a .k) (a .letters .now) (a .ends .now) (a .weights .now)) (a .p) (sizes (c .before .before .before .before .before .before)) (passes (c .before .before .before)) (c .before .before .count-all .ensures) (ap (λ (d : ℕ). d + 1) (c .before .word-count .ensures))
     (a .firsts) (a .positions) (a .numbers) (a .before) (a .work) (c .if1 .taken)
 
 returns-4 : tie.Need-returns-4
 returns-4 c =
     let a = c .before .before .before .before .before .before .before .before .before .before .before .before .args in
-    room-refused (a .k) (a .p) (a .letters .now) (a .ends .now) (a .weights .now) (sizes (c .before .before .before .before .before .before)) (passes (c .before .before .before)) (c .before .before .count-all .ensures) (ap (λ (d : ℕ). d + 1) (c .before .word-count .ensures))
+    room-refused (collection (a .k) (a .letters .now) (a .ends .now) (a .weights .now)) (a .p) (sizes (c .before .before .before .before .before .before)) (passes (c .before .before .before)) (c .before .before .count-all .ensures) (ap (λ (d : ℕ). d + 1) (c .before .word-count .ensures))
     (a .firsts) (a .positions) (a .numbers) (a .before) (a .work) (c .if1 .left)
 
 pub foresee-spec : {M : Type 1} → statement M

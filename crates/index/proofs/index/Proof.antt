@@ -6,6 +6,7 @@ use Rattle.index.proofs.Indexed.{index-refused, foreseen-judged, index-
 use borrow.Author.Needs.{needs}
 use Rattle.index.proofs.index.Statement.{statement}
 use Rattle.index.proofs.index.Tie as tie
+use Rattle.collection.specs.Collection.{collection}
 
 -- the five tables at the start, seen from where the answer was foreseen, and what is foreseen for them
 abbrev tables : tie.Start → Lent
@@ -14,7 +15,7 @@ tables s = lent (s .args .firsts .now) (s .args .positions .now) (s .args .numbe
 abbrev start : tie.After-foresee → tie.Start
 start c = c .before .before .before .before .before .before .before .before .before
 
-told : (c : tie.After-foresee) → let s = start c in c .foresee .result ≡ foreseen (s .args .k) (s .args .p) (s .args .letters .now) (s .args .ends .now) (s .args .weights .now) (tables s)
+told : (c : tie.After-foresee) → let s = start c in c .foresee .result ≡ foreseen (collection (s .args .k) (s .args .letters .now) (s .args .ends .now) (s .args .weights .now)) (s .args .p) (tables s)
 told c = c .foresee .ensures (tables (start c)) (record { firsts-size = refl; positions-size = refl; numbers-size = refl; before-size = refl; work-size = refl })
 
 foresee-requires : tie.Need-foresee-requires
@@ -30,13 +31,13 @@ returns : tie.Need-returns
 returns c =
     let f = c .before .before in
     let a = start f .args in
-    index-refused (a .k) (a .p) (a .letters .now) (a .ends .now) (a .weights .now) (tables (start f)) (told f) (c .enum-told .given .1)
+    index-refused (collection (a .k) (a .letters .now) (a .ends .now) (a .weights .now)) (a .p) (tables (start f)) (told f) (c .enum-told .given .1)
 
 index-judged-requires : tie.Need-index-judged-requires
 index-judged-requires c κs =
     let f = c .before .before .before .before .before .before .before .before in
     let a = start f .args in
-    foreseen-judged (a .k) (a .p) (a .letters .now) (a .ends .now) (a .weights .now) (tables (start f)) (told f) (c .before .before .before .before .before .before .v .given .1)
+    foreseen-judged (collection (a .k) (a .letters .now) (a .ends .now) (a .weights .now)) (a .p) (tables (start f)) (told f) (c .before .before .before .before .before .before .v .given .1)
 
 same-length : tie.Need-same-length
 same-length c = search needs
@@ -57,7 +58,7 @@ returns-2 : tie.Need-returns-2
 returns-2 c =
     let f = c .before .before .before .before .before .before .before .before .before .before .before .before .before .before .before .before .before .before .before in
     let a = start f .args in
-    index-goes-on (a .k) (a .p) (a .letters .now) (a .ends .now) (a .weights .now) (tables (start f)) (told f) (c .before .before .before .before .before .before .before .before .before .before .before .before .before .before .before .before .before .v .given .1) (c .before .before .before .before .before .before .before .before .before .before .index-judged .ensures)
+    index-goes-on (collection (a .k) (a .letters .now) (a .ends .now) (a .weights .now)) (a .p) (tables (start f)) (told f) (c .before .before .before .before .before .before .before .before .before .before .before .before .before .before .before .before .before .v .given .1) (c .before .before .before .before .before .before .before .before .before .before .index-judged .ensures)
 
 pub index-spec : {M : Type 1} → statement M
 index-spec =

@@ -39,7 +39,7 @@ enum-told-2 c = search needs
 
 found-requires : tie.Need-found-requires
 found-requires c κs = (
-  judged-ready (collection-good _ _ _ _ (sym (c .before .before .before .before .before .judge-collection .ensures) ∙ c .before .before .before .enum-told .given .1)),
+  judged-ready (collection-good _ (sym (c .before .before .before .before .before .judge-collection .ensures) ∙ c .before .before .before .enum-told .given .1)),
   word-good _ _ (sym (c .before .before .judge-word .ensures) ∙ c .enum-told2 .given .1),
 )
 

@@ -5,6 +5,7 @@ use native.Mathlib.Omega.{arith}
 use lib.ListN.{length, replicate, length-replicate}
 use Rattle.lists.specs.Fill.{fill}
 use Rattle.lists.proofs.Zeroed.{only-fill}
+use Rattle.collection.specs.Collection.{collection}
 use Rattle.collection.specs.Verdict.{atPlace, settle}
 use Rattle.collection.proofs.Verdicts.{refused, settled}
 use Rattle.repeats.specs.declared.CheckAnswer.the-variants.{Checked, Refused}
@@ -15,8 +16,8 @@ use Rattle.repeats.proofs.check.Statement.{statement}
 use Rattle.repeats.proofs.check.Tie as tie
 
 -- the verdict is good
-started : (c : tie.After-enum-told) → let a = c .before .before .before .before .before .before .before .args in Started (a .k) (a .letters .now) (a .ends .now) (a .weights .now) (length (a .work .now))
-started c = check-started _ _ _ _ _ (sym (c .before .before .judge-check .ensures) ∙ c .enum-told .given .1)
+started : (c : tie.After-enum-told) → let a = c .before .before .before .before .before .before .before .args in Started (collection (a .k) (a .letters .now) (a .ends .now) (a .weights .now)) (length (a .work .now))
+started c = check-started _ _ (sym (c .before .before .judge-check .ensures) ∙ c .enum-told .given .1)
 
 judge-check-requires : tie.Need-judge-check-requires
 judge-check-requires c κs = search needs

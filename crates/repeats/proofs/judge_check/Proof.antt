@@ -24,10 +24,10 @@ unfolding checkVerdict
 returns c = stops _ (c .before .before .judge-collection .ensures) (c .enum-told2 .given .1)
 
 kmer-count-requires : tie.Need-kmer-count-requires
-kmer-count-requires c κs = let s = collection-good _ _ _ _ (sym (c .before .before .judge-collection .ensures) ∙ c .enum-told .given .1) .shape in (s .room, omega (arith, s .k-low))
+kmer-count-requires c κs = let s = collection-good _ (sym (c .before .before .judge-collection .ensures) ∙ c .enum-told .given .1) .shape in (s .room, omega (arith, s .k-low))
 
 mul-judge-room : tie.Need-mul-judge-room
-mul-judge-room c = let s = collection-good _ _ _ _ (sym (c .before .before .before .judge-collection .ensures) ∙ c .before .enum-told .given .1) .shape in omega (arith, c .kmer-count .ensures, s .N-high)
+mul-judge-room c = let s = collection-good _ (sym (c .before .before .before .judge-collection .ensures) ∙ c .before .enum-told .given .1) .shape in omega (arith, c .kmer-count .ensures, s .N-high)
 
 judge-room-requires : tie.Need-judge-room-requires
 judge-room-requires c κs = search needs

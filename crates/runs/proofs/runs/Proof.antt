@@ -54,7 +54,7 @@ enum-told-3 c = search needs
 
 fill-runs-requires : tie.Need-fill-runs-requires
 fill-runs-requires c κs =
-    let j = collection-good _ _ _ _ (sym (c .before .before .before .before .before .before .before .before .before .before .before .judge-collection .ensures) ∙ c .before .before .before .before .before .before .before .before .before .enum-told .given .1) in (
+    let j = collection-good _ (sym (c .before .before .before .before .before .before .before .before .before .before .before .judge-collection .ensures) ∙ c .before .before .before .before .before .before .before .before .before .enum-told .given .1) in (
       omega (arith, j .counted, j .shape .N-high),
       (
         room-good _ _ (sym (c .before .before .before .before .before .before .before .judge-room .ensures ∙ ap (roomVerdict _) (c .before .before .before .before .before .before .before .before .count-runs .ensures)) ∙ c .before .before .before .before .before .enum-told2 .given .1),

@@ -3,7 +3,7 @@ use mathlib.Core.Path.{sym, ap, _∙_}
 use Prim.Native.Nat.{ℕ}
 use Rattle.collection.specs.Verdict.{roomVerdict}
 use Rattle.collection.proofs.Verdicts.{stops, goes-on}
-use Rattle.sheet_text.specs.Write.{writeVerdict}
+use Rattle.sheet.specs.Write.{writeVerdict}
 use borrow.Author.Needs.{needs}
 use Rattle.sheet_write.proofs.judge_write.Statement.{statement}
 use Rattle.sheet_write.proofs.judge_write.Tie as tie

@@ -3,6 +3,7 @@ use Rattle.sheet_write.proofs.Outcomes.{write-refused, write-ready, wri
 use borrow.Author.Needs.{needs}
 use Rattle.sheet_write.proofs.write.Statement.{statement}
 use Rattle.sheet_write.proofs.write.Tie as tie
+use Rattle.collection.specs.Collection.{collection}
 
 judge-write-requires : tie.Need-judge-write-requires
 judge-write-requires c κs = search needs
@@ -14,7 +15,7 @@ returns : tie.Need-returns
 returns c =
     let j = c .before .before .before in
     let g = j .before .before .before .before .before in
-    write-refused (g .args .k) (g .args .letters .now) (g .args .ends .now) (g .args .weights .now) (g .args .sheet .now) (j .judge-write .ensures) (c .before .v .given .1)
+    write-refused (collection (g .args .k) (g .args .letters .now) (g .args .ends .now) (g .args .weights .now)) (g .args .sheet .now) (j .judge-write .ensures) (c .before .v .given .1)
 
 enum-told : tie.Need-enum-told
 enum-told c = search needs
@@ -23,7 +24,7 @@ put-sheet-requires : tie.Need-put-sheet-requires
 put-sheet-requires c κs =
     let j = c .before .before .before in
     let g = j .before .before .before .before .before in
-    write-ready (g .args .k) (g .args .letters .now) (g .args .ends .now) (g .args .weights .now) (g .args .sheet .now) (j .judge-write .ensures) (c .before .enum-told .given .1)
+    write-ready (collection (g .args .k) (g .args .letters .now) (g .args .ends .now) (g .args .weights .now)) (g .args .sheet .now) (j .judge-write .ensures) (c .before .enum-told .given .1)
 
 same-length : tie.Need-same-length
 same-length c = search needs
@@ -34,7 +35,7 @@ returns-2 c =
     let t = p .before .before in
     let j = t .before .before in
     let g = j .before .before .before .before .before in
-    write-done (g .args .k) (g .args .letters .now) (g .args .ends .now) (g .args .weights .now) (g .args .sheet .now) (j .judge-write .ensures) (t .enum-told .given .1) (p .put-sheet .ensures .0) (p .put-sheet .ensures .1)
+    write-done (collection (g .args .k) (g .args .letters .now) (g .args .ends .now) (g .args .weights .now)) (g .args .sheet .now) (j .judge-write .ensures) (t .enum-told .given .1) (p .put-sheet .ensures .0) (p .put-sheet .ensures .1)
 
 pub write-spec : {M : Type 1} → statement M
 write-spec =

@@ -24,7 +24,7 @@ unfolding accessVerdict
 returns c = stops _ (c .before .before .judge-shape .ensures) (c .enum-told2 .given .1)
 
 kmer-count-requires : tie.Need-kmer-count-requires
-kmer-count-requires c κs = let s = shape-good _ _ _ (sym (c .before .before .judge-shape .ensures) ∙ c .enum-told .given .1) in (s .room, omega (arith, s .k-low))
+kmer-count-requires c κs = let s = shape-good _ (sym (c .before .before .judge-shape .ensures) ∙ c .enum-told .given .1) in (s .room, omega (arith, s .k-low))
 
 judge-handle-requires : tie.Need-judge-handle-requires
 judge-handle-requires c κs = search needs

@@ -1,6 +1,6 @@
 -- `place_for` meets its contract: the number, or what it is away from zero.
 use mathlib.Core.Path.{sym, ap, _∙_}
-use Rattle.trails.specs.Places.{signed}
+use Rattle.cover_trails.specs.Places.{signed}
 use Rattle.cover.proofs.Signs.{as-positive, negative-fits, as-negative}
 use borrow.Author.Needs.{needs}
 use Rattle.cover.proofs.covering.place_for.Statement.{statement}

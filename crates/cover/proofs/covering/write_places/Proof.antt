@@ -2,8 +2,8 @@
 use mathlib.Core.Path.{refl, _∙_}
 use Prim.Native.Nat.{_-_, _*_}
 use native.Mathlib.Omega.{arith}
-use Rattle.tours.specs.Layout.{tables}
-use Rattle.tours.proofs.Regions.{stack-at, stack-size}
+use Rattle.cover_tours.specs.Layout.{tables}
+use Rattle.cover_tours.proofs.Regions.{stack-at, stack-size}
 use Rattle.cover.proofs.PlacedHalves.{Giving, giving-on, giving-end}
 use borrow.Author.Needs.{needs}
 use Rattle.cover.proofs.covering.write_places.Statement.{statement}

@@ -1,4 +1,4 @@
--- `arrange` meets its contract: each call leaves what the others wrote, and the sort sorts by the codes that stand in the table. Assumes nothing.
+-- `arrange` meets its contract: each call leaves what the others wrote, and sieve and sort go by the codes that stand in the table. Assumes nothing.
 use mathlib.Core.Path.{_≡_, sym, ap, _∙_}
 use mathlib.Core.List.{List}
 use Prim.Native.Nat.{ℕ, _+_, _-_, _*_, _<_, _≤_, _^_}
@@ -9,7 +9,7 @@ use Rattle.lists.specs.Count.{countFrom}
 use Rattle.lists.specs.Regions.{part, Only}
 use Rattle.lists.proofs.Count.{length-count}
 use Rattle.lists.proofs.Regions.{part-lent, part-length, lent-part, lent-only}
-use Rattle.repeats.proofs.Arranged.{few-kmers, laid, numbers-inside, arranged}
+use Rattle.repeats.proofs.Arranged.{few-kmers, laid, arranged}
 use borrow.Author.Needs.{needs}
 use Rattle.repeats.proofs.inner.arrange.Statement.{statement}
 use Rattle.repeats.proofs.inner.arrange.Tie as tie
@@ -73,22 +73,35 @@ number-ids-requires c κs =
     let u = c .before .before .before .code-all .last .1 .1 .1 .1 .0 in
     omega (arith, few s, ap length (part-lent (n + n) n u), part-length (n + n) n u (omega (arith, s .pre .1 .1, c .before .before .before .code-all .ensures .rest .size)))
 
+sieve-requires : tie.Need-sieve-requires
+sieve-requires c κs =
+    let d = c .before .before .before in
+    let s = d .before .before .before .before .before .before .before .before .before in
+    ((omega (arith, few-kmers (s .pre .0), s .pre .1 .0), omega (arith, room d, only d .size)), ids d)
+
 sort-by-code-requires : tie.Need-sort-by-code-requires
 sort-by-code-requires c κs =
-    let s = c .before .before .before .before .before .before .before .before .before .before .before .before in
+    let z = c .before .before .before in
+    let d = z .before .before .before .before in
+    let s = d .before .before .before .before .before .before .before .before .before in
     let n = s .args .n in
-    let d = c .before .before .before in
-    let size : 4 * n ≤ length (table d) = omega (arith, room d, only d .size) in
-    ((laid _ n 0 (few s) size (omega arith), laid _ n n (few s) size (omega arith)), numbers-inside n (ids d))
+    let l = z .sieve .ensures in
+    let size : 4 * n ≤ length (z .sieve .last .0) = omega (arith, room d, only d .size, l .rest .size) in
+    ((laid _ n _ 0 (few s) size (l .few) (omega arith), laid _ n _ n (few s) size (l .few) (omega arith)), l .sieved .inside)
 
 same-length : tie.Need-same-length
-same-length c = c .before .before .sort-by-code .ensures .rest .size ∙ (only (c .before .before .before .before .before .before) .size ∙ c .before .before .before .before .before .before .before .before .before .before .code-all .ensures .rest .size)
+same-length c =
+    let z = c .before .before .before .before .before .before in
+    let d = z .before .before .before .before in
+    c .before .before .sort-by-code .ensures .rest .size
+    ∙ (z .sieve .ensures .rest .size ∙ (only d .size ∙ d .before .before .before .before .code-all .ensures .rest .size))
 
 returns : tie.Need-returns
 returns c =
-    let s = c .before .before .before .before .before .before .before .before .before .before .before .before .before .before .before in
-    let d = c .before .before .before .before .before .before in
-    arranged _ _ _ (s .args .n) _ (coded d) (table d) _ (s .pre .1 .1) (sym (s .pre .1 .0)) (c .before .before .before .before .before .before .before .before .before .before .code-all .ensures) (only d) (ids d) (c .before .before .sort-by-code .ensures)
+    let z = c .before .before .before .before .before .before in
+    let d = z .before .before .before .before in
+    let s = d .before .before .before .before .before .before .before .before .before in
+    arranged _ _ _ (s .args .n) _ _ (coded d) (table d) (z .sieve .last .0) _ (s .pre .1 .1) (sym (s .pre .1 .0)) (d .before .before .before .before .code-all .ensures) (only d) (z .sieve .ensures) (c .before .before .sort-by-code .ensures)
 
 pub arrange-spec : {M : Type 1} → statement M
 arrange-spec =
@@ -102,6 +115,7 @@ arrange-spec =
     part-number-ids-start
     part-number-ids-end
     number-ids-requires
+    sieve-requires
     sort-by-code-requires
     same-length
     returns)

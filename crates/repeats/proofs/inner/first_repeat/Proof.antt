@@ -10,12 +10,14 @@ arrange-requires : tie.Need-arrange-requires
 arrange-requires c κs = search needs
 
 least-second-requires : tie.Need-least-second-requires
-least-second-requires c κs = (omega (arith, c .before .before .before .before .before .before .before .before .pre .1 .1, c .before .before .before .arrange .ensures .rest .size), c .before .before .before .arrange .ensures .inside)
+least-second-requires c κs =
+    let o = c .before .before .before .arrange .ensures in
+    ((omega (arith, c .before .before .before .before .before .before .before .before .pre .1 .1, o .rest .size), o .few), o .inside)
 
 add-result : tie.Need-add-result
 add-result c =
     let s = c .before .before .before .before .before .before .before .before .before .before in
-    omega (arith, repeat-inside _ _ _ (s .pre .0) _ (s .pre .1 .0) _ _ (c .before .before .before .before .before .arrange .ensures) _ (c .before .least-second .ensures) (c .if1 .left))
+    omega (arith, repeat-inside _ (s .pre .0) _ (s .pre .1 .0) _ _ _ (c .before .before .before .before .before .arrange .ensures) _ (c .before .least-second .ensures) (c .if1 .left))
 
 same-length : tie.Need-same-length
 same-length c = c .before .before .before .before .before .arrange .ensures .rest .size
@@ -23,7 +25,7 @@ same-length c = c .before .before .before .before .before .arrange .ensures .res
 returns : tie.Need-returns
 returns c =
     let s = c .before .before .before .before .before .before .before .before .before .before in
-    (sym (repeat-none _ _ _ (s .pre .0) _ (s .pre .1 .0) _ _ (c .before .before .before .before .before .arrange .ensures) _ (c .before .least-second .ensures) (c .if1 .taken)), c .before .before .before .before .before .arrange .ensures .rest)
+    (sym (repeat-none _ (s .pre .0) _ (s .pre .1 .0) _ _ _ (c .before .before .before .before .before .arrange .ensures) _ (c .before .least-second .ensures) (c .if1 .taken)), c .before .before .before .before .before .arrange .ensures .rest)
 
 same-length-2 : tie.Need-same-length-2
 same-length-2 c = c .before .before .before .before .before .arrange .ensures .rest .size
@@ -31,7 +33,7 @@ same-length-2 c = c .before .before .before .before .before .arrange .ensures .r
 returns-2 : tie.Need-returns-2
 returns-2 c =
     let s = c .before .before .before .before .before .before .before .before .before .before in
-    (sym (repeat-found _ _ _ (s .pre .0) _ (s .pre .1 .0) _ _ (c .before .before .before .before .before .arrange .ensures) _ (c .before .least-second .ensures) (c .if1 .left)), c .before .before .before .before .before .arrange .ensures .rest)
+    (sym (repeat-found _ (s .pre .0) _ (s .pre .1 .0) _ _ _ (c .before .before .before .before .before .arrange .ensures) _ (c .before .least-second .ensures) (c .if1 .left)), c .before .before .before .before .before .arrange .ensures .rest)
 
 pub first-repeat-spec : {M : Type 1} → statement M
 first-repeat-spec =

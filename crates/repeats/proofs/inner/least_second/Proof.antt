@@ -5,7 +5,7 @@ use mathlib.Core.Logic.{⊎-elim}
 use Prim.Native.Nat.{_+_, _-_, _≤_}
 use native.Mathlib.Omega.{arith}
 use lib.Dec.{ltb}
-use Rattle.canonical.specs.Codes.{heldAt}
+use Rattle.repeats_canonical.specs.Codes.{heldAt}
 use Rattle.repeats.specs.Order.{idAt, Least}
 use Rattle.repeats.proofs.Neighbours.{least-begin, least-take, least-keep, least-end}
 use borrow.Author.Needs.{needs}
@@ -13,16 +13,16 @@ use Rattle.repeats.proofs.inner.least_second.Statement.{statement}
 use Rattle.repeats.proofs.inner.least_second.Tie as tie
 
 abbrev Inv-loop : tie.InvT-loop
-Inv-loop work n ids least₀ i₀ least i = (1 ≤ i) × Least (heldAt n work) (idAt n work) n i least
+Inv-loop work n m ids least₀ i₀ least i = (1 ≤ i) × Least (heldAt n work) (idAt n work) n m i least
 
 abbrev μ-loop : tie.MeasureT-loop
-μ-loop work n ids least₀ i₀ least i = n - i
+μ-loop work n m ids least₀ i₀ least i = m - i
 
 add-ids : tie.Need-add-ids Inv-loop μ-loop
 add-ids c = search needs
 
 loop-holds : tie.Need-loop-holds Inv-loop μ-loop
-loop-holds c = (omega arith, least-begin _ _ _)
+loop-holds c = (omega arith, least-begin _ _ _ _)
 
 sub-x : tie.Need-sub-x Inv-loop μ-loop
 sub-x c = search needs
@@ -74,18 +74,18 @@ loop-again c =
     ⊎-elim
     (λ f. (
       omega arith,
-      subst (Least (heldAt n w) (idAt n w) n (i + 1)) (sym (f .1))
-          (least-take (heldAt n w) (idAt n w) n i (l .least) (l .inv .0) (c .before .before .before .before .loop-test .taken) (l .inv .1) (ap test (sym (c .before .same-code .ensures)) ∙ f .0 .taken)),
+      subst (Least (heldAt n w) (idAt n w) n (s .args .m) (i + 1)) (sym (f .1))
+          (least-take (heldAt n w) (idAt n w) n (s .args .m) i (l .least) (l .inv .0) (c .before .before .before .before .loop-test .taken) (l .inv .1) (ap test (sym (c .before .same-code .ensures)) ∙ f .0 .taken)),
     ))
     (λ f. (
       omega arith,
-      subst (Least (heldAt n w) (idAt n w) n (i + 1)) (sym (f .1))
-          (least-keep (heldAt n w) (idAt n w) n i (l .least) (l .inv .0) (c .before .before .before .before .loop-test .taken) (l .inv .1) (ap test (sym (c .before .same-code .ensures)) ∙ f .0 .left)),
+      subst (Least (heldAt n w) (idAt n w) n (s .args .m) (i + 1)) (sym (f .1))
+          (least-keep (heldAt n w) (idAt n w) n (s .args .m) i (l .least) (l .inv .0) (c .before .before .before .before .loop-test .taken) (l .inv .1) (ap test (sym (c .before .same-code .ensures)) ∙ f .0 .left)),
     ))
     (c .if1 .came)
 
 returns : tie.Need-returns Inv-loop μ-loop
-returns c = least-end _ _ _ _ _ (c .loop-test .left) (c .before .loop .inv .1)
+returns c = least-end _ _ _ _ _ _ (c .loop-test .left) (c .before .loop .inv .1)
 
 pub least-second-spec : {M : Type 1} → statement M
 least-second-spec =

@@ -1,6 +1,6 @@
 -- `same_code` meets its contract: codes are equal if both halves are. Assumes nothing.
 use Prim.Native.Nat.{_+_}
-use Rattle.canonical.proofs.Coded.{lower-differs, upper-decides}
+use Rattle.repeats_canonical.proofs.Coded.{lower-differs, upper-decides}
 use borrow.Author.Needs.{needs}
 use Rattle.repeats.proofs.inner.same_code.Statement.{statement}
 use Rattle.repeats.proofs.inner.same_code.Tie as tie

@@ -5,7 +5,7 @@ use native.Mathlib.Omega.{arith}
 use borrow.Author.Needs.{needs}
 use lib.ListN.{length, drop}
 use Rattle.sheet_lines.specs.Cursor.{field, weightAt}
-use Rattle.sheet_text.proofs.Tests.{told-no, told-yes, digit-range}
+use Rattle.sheet.proofs.Tests.{told-no, told-yes, digit-range}
 use Rattle.sheet_lines.proofs.OneWeight.{weightFrom, walk-field, walk-end, walk-bad, walk-next, walk-none, weight-range}
 use Rattle.sheet_lines.proofs.fields.weight_at.Statement.{statement}
 use Rattle.sheet_lines.proofs.fields.weight_at.Tie as tie

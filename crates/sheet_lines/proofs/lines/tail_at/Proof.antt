@@ -2,7 +2,7 @@
 use mathlib.Core.Path.{_≡_, refl, sym, ap, _∙_}
 use native.Mathlib.Omega.{arith}
 use borrow.Author.Needs.{needs}
-use Rattle.sheet_text.proofs.Tests.{told-no, told-yes}
+use Rattle.sheet.proofs.Tests.{told-no, told-yes}
 use Rattle.sheet_lines.specs.Cursor.{tailAt}
 use Rattle.sheet_lines.proofs.Bytes.{byte-here}
 use Rattle.sheet_lines.proofs.Tails.{tail-no-tab, tail-bad, tail-next}

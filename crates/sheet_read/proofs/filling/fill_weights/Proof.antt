@@ -7,7 +7,7 @@ use borrow.Author.Needs.{needs}
 use lib.ListN.{length}
 use Rattle.lists.specs.Fill.{put}
 use Rattle.lists.proofs.Storing.{Storing, begin-at, inside, store, restated, stored}
-use Rattle.sheet_text.proofs.Tests.{told-no, told-yes}
+use Rattle.sheet.proofs.Tests.{told-no, told-yes}
 use Rattle.sheet_lines.specs.Cursor.{tailAt, fine, weightsAt}
 use Rattle.sheet_lines.proofs.Bytes.{byte-here}
 use Rattle.sheet_lines.proofs.Tails.{tail-no-tab, tail-bad, tail-next}

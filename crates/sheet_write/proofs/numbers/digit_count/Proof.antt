@@ -1,7 +1,7 @@
 -- `digit_count` meets its contract: each test leaves the numbers of one length. Assumes nothing.
 use mathlib.Core.Path.{sym}
 use native.Mathlib.Omega.{arith}
-use Rattle.sheet_text.proofs.Digits.{count-one, digits-count}
+use Rattle.sheet.proofs.Digits.{count-one, digits-count}
 use Rattle.sheet_write.proofs.numbers.digit_count.Statement.{statement}
 use Rattle.sheet_write.proofs.numbers.digit_count.Tie as tie
 

@@ -3,7 +3,7 @@ use Prim.Native.Nat.{_+_, _-_}
 use native.Mathlib.Omega.{arith}
 use lib.ListN.{length, take, drop}
 use Rattle.lists.specs.Fill.{put}
-use Rattle.sheet_text.specs.Text.{weightsText}
+use Rattle.sheet.specs.Text.{weightsText}
 use Rattle.sheet_write.proofs.Line.{Weighing, weighing, tab-room, digits-room, weighed, weighed-all}
 use borrow.Author.Needs.{needs}
 use Rattle.sheet_write.proofs.numbers.put_weights.Statement.{statement}

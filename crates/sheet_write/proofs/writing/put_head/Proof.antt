@@ -2,10 +2,10 @@
 use mathlib.Core.List.{[], _∷_}
 use native.Mathlib.Omega.{arith}
 use lib.ListN.{length-set}
-use Rattle.sheet_text.specs.Numbers.{digits}
-use Rattle.sheet_text.specs.Parts.{feed}
+use Rattle.sheet.specs.Numbers.{digits}
+use Rattle.sheet.specs.Parts.{feed}
 use Rattle.lists.proofs.Storing.{inside, store, stored}
-use Rattle.sheet_text.proofs.Blocks.{block-room}
+use Rattle.sheet.proofs.Blocks.{block-room}
 use Rattle.sheet_write.proofs.Line.{head-marked, head-ended}
 use Rattle.sheet_write.proofs.Texts.{head-length}
 use Rattle.sheet_write.proofs.writing.put_head.Statement.{statement}

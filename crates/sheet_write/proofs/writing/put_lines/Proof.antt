@@ -3,9 +3,10 @@ use Prim.Native.Nat.{_+_, _-_}
 use native.Mathlib.Omega.{arith}
 use lib.ListN.{length}
 use Rattle.lists.specs.Fill.{put}
+use Rattle.collection.specs.Collection.{collection}
 use Rattle.collection.specs.Strings.{strings}
 use Rattle.collection.proofs.Judged.{collection-good}
-use Rattle.sheet_text.specs.Text.{linesText}
+use Rattle.sheet.specs.Text.{linesText}
 use Rattle.sheet_write.proofs.Lines.{Lining, lining, next-line, weights-there, line-room, lined, lined-all}
 use Rattle.sheet_write.proofs.Texts.{few-weights}
 use borrow.Author.Needs.{needs}
@@ -13,7 +14,7 @@ use Rattle.sheet_write.proofs.writing.put_lines.Statement.{statement}
 use Rattle.sheet_write.proofs.writing.put_lines.Tie as tie
 
 abbrev Inv-loop : tie.InvT-loop
-Inv-loop k letters ends weights out₀ at before₀ w₀ p₀ i₀ out before w p i = Lining k letters ends weights (length out₀) (at + length (linesText (strings k letters ends weights))) (put at (linesText (strings k letters ends weights)) out₀) out before w p i
+Inv-loop k letters ends weights out₀ at before₀ w₀ p₀ i₀ out before w p i = Lining (collection k letters ends weights) (length out₀) (at + length (linesText (strings (collection k letters ends weights)))) (put at (linesText (strings (collection k letters ends weights))) out₀) out before w p i
 
 abbrev μ-loop : tie.MeasureT-loop
 μ-loop k letters ends weights out₀ at before₀ w₀ p₀ i₀ out before w p i = length ends - i
@@ -21,7 +22,7 @@ abbrev μ-loop : tie.MeasureT-loop
 loop-holds : tie.Need-loop-holds Inv-loop μ-loop
 loop-holds c =
     let g = c .before .before .before .before in
-    lining (collection-good _ _ _ _ (g .pre .0)) _ _ (g .pre .1)
+    lining (collection-good _ (g .pre .0)) _ _ (g .pre .1)
 
 mul-e : tie.Need-mul-e Inv-loop μ-loop
 mul-e c = search needs
@@ -55,7 +56,7 @@ add-w : tie.Need-add-w Inv-loop μ-loop
 add-w c =
     let at = c .before .before .before .before .before .before in
     let g = at .before .before .before .before .before in
-    omega (arith, weights-there (at .loop .inv) (c .before .before .before .before .before .loop-test .taken), few-weights (collection-good _ _ _ _ (g .pre .0)))
+    omega (arith, weights-there (at .loop .inv) (c .before .before .before .before .before .loop-test .taken), few-weights (collection-good _ (g .pre .0)))
 
 add-i : tie.Need-add-i Inv-loop μ-loop
 add-i c = omega (arith, c .before .before .before .before .before .loop-test .taken)
@@ -68,7 +69,7 @@ loop-again c =
     let p = c .before .before in
     let at = p .before .before .before .before in
     let g = at .before .before .before .before .before in
-    let j = collection-good _ _ _ _ (g .pre .0) in
+    let j = collection-good _ (g .pre .0) in
     lined (at .loop .inv) (p .before .before .before .loop-test .taken) (omega (arith, j .shape .k-low)) (p .put-string .ensures .0) (p .put-string .ensures .1)
 
 same-length : tie.Need-same-length Inv-loop μ-loop

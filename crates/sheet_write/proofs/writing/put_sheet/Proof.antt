@@ -1,4 +1,5 @@
 -- `put_sheet` meets its contract: line 1, then the strings. Assumes nothing.
+use Rattle.collection.specs.Collection.{collection}
 use Rattle.collection.proofs.Judged.{collection-good}
 use Rattle.sheet_write.proofs.Lines.{head-room, lines-room, sheet-done}
 use borrow.Author.Needs.{needs}
@@ -8,13 +9,13 @@ use Rattle.sheet_write.proofs.writing.put_sheet.Tie as tie
 put-head-requires : tie.Need-put-head-requires
 put-head-requires c κs =
     let g = c .before .before .before .before .before in
-    (collection-good _ _ _ _ (g .pre .0) .shape .k-high, head-room (g .args .k) (g .args .letters .now) (g .args .ends .now) (g .args .weights .now) (g .args .out .now) (g .pre .1))
+    (collection-good _ (g .pre .0) .shape .k-high, head-room (collection (g .args .k) (g .args .letters .now) (g .args .ends .now) (g .args .weights .now)) (g .args .out .now) (g .pre .1))
 
 put-lines-requires : tie.Need-put-lines-requires
 put-lines-requires c κs =
     let h = c .before .before .before in
     let g = h .before .before .before .before .before .before in
-    (g .pre .0, lines-room (g .args .k) (g .args .letters .now) (g .args .ends .now) (g .args .weights .now) (g .args .out .now) (g .pre .1) (h .put-head .ensures .0) (h .put-head .ensures .1))
+    (g .pre .0, lines-room (collection (g .args .k) (g .args .letters .now) (g .args .ends .now) (g .args .weights .now)) (g .args .out .now) (g .pre .1) (h .put-head .ensures .0) (h .put-head .ensures .1))
 
 same-length : tie.Need-same-length
 same-length c = search needs
@@ -24,7 +25,7 @@ returns c =
     let l = c .before .before in
     let h = l .before .before .before .before in
     let g = h .before .before .before .before .before .before in
-    sheet-done (g .args .k) (g .args .letters .now) (g .args .ends .now) (g .args .weights .now) (g .args .out .now) (g .pre .1) (h .put-head .ensures .0) (h .put-head .ensures .1) (l .put-lines .ensures .0) (l .put-lines .ensures .1)
+    sheet-done (collection (g .args .k) (g .args .letters .now) (g .args .ends .now) (g .args .weights .now)) (g .args .out .now) (g .pre .1) (h .put-head .ensures .0) (h .put-head .ensures .1) (l .put-lines .ensures .0) (l .put-lines .ensures .1)
 
 pub put-sheet-spec : {M : Type 1} → statement M
 put-sheet-spec = tie.close (tie.spec put-head-requires put-lines-requires same-length returns)

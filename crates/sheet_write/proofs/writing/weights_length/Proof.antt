@@ -3,7 +3,7 @@ use mathlib.Core.Path.{_≡_}
 use Prim.Native.Nat.{_+_, _-_, _*_, _≤_}
 use native.Mathlib.Omega.{arith}
 use lib.ListN.{length, drop}
-use Rattle.sheet_text.specs.Text.{weightsText}
+use Rattle.sheet.specs.Text.{weightsText}
 use Rattle.sheet_write.proofs.Texts.{weights-count, weights-counted}
 use borrow.Author.Needs.{needs}
 use Rattle.sheet_write.proofs.writing.weights_length.Statement.{statement}

@@ -18,7 +18,7 @@ returns : tie.Need-returns
 returns c =
     let h = c .before .before .before .before .before in
     let g = h .before .before .before .before .before .before in
-    check-refused _ _ _ _ (g .pre .0) _ (g .pre .1 .2) (h .check .ensures) (c .before .a .given .1)
+    check-refused _ (g .pre .0) _ (g .pre .1 .2) (h .check .ensures) (c .before .a .given .1)
 
 enum-told : tie.Need-enum-told
 enum-told c = search needs
@@ -34,7 +34,7 @@ count-all-requires c κs =
     let b = c .before .before in
     let v = b .before .before .before .before .before in
     let g = v .before .before .before .before .before .before .before .before .before .before .before .before .before in
-    ((strung _ _ _ _ (g .pre .0), weighed _ _ _ _ (g .pre .0)), (paths-low _ _ _ _ (g .pre .0) (v .cover .ensures) (g .pre .1 .0) (omega (arith, g .pre .1 .1)) (b .b .given .1), omega (arith, g .pre .1 .2)))
+    ((strung _ (g .pre .0), weighed _ (g .pre .0)), (paths-low _ (g .pre .0) (v .cover .ensures) (g .pre .1 .0) (omega (arith, g .pre .1 .1)) (b .b .given .1), omega (arith, g .pre .1 .2)))
 
 enum-known-b-2 : tie.Need-enum-known-b-2
 enum-known-b-2 c = search needs
@@ -52,7 +52,7 @@ returns-2 c =
     let a = v .before .before .before in
     let h = a .before .before .before .before in
     let g = h .before .before .before .before .before .before in
-    check-passed _ _ _ _ (g .pre .0) _ (g .pre .1 .2) (h .check .ensures) (a .enum-told .given .1) (numbers-told _ _ _ _ (g .pre .0) (v .cover .ensures) (g .pre .1 .0) (omega (arith, g .pre .1 .1)) (b .b .given .1) (c .before .before .count-all .ensures))
+    check-passed _ (g .pre .0) _ (g .pre .1 .2) (h .check .ensures) (a .enum-told .given .1) (numbers-told _ (g .pre .0) (v .cover .ensures) (g .pre .1 .0) (omega (arith, g .pre .1 .1)) (b .b .given .1) (c .before .before .count-all .ensures))
 
 same-length-4 : tie.Need-same-length-4
 same-length-4 c = search needs
@@ -65,7 +65,7 @@ returns-3 c =
     let b = c .before in
     let v = b .before .before .before .before .before in
     let g = v .before .before .before .before .before .before .before .before .before .before .before .before .before in
-    cover-refused _ _ _ _ (g .pre .0) (v .cover .ensures) (g .pre .1 .0) (omega (arith, g .pre .1 .1)) (b .b2 .given .1)
+    cover-refused _ (g .pre .0) (v .cover .ensures) (g .pre .1 .0) (omega (arith, g .pre .1 .1)) (b .b2 .given .1)
 
 pub tell-checked-spec : {M : Type 1} → statement M
 tell-checked-spec =

@@ -4,8 +4,8 @@ use mathlib.Core.Path.{_≡_}
 use Prim.Native.Nat.{_+_, _≤_}
 use native.Mathlib.Omega.{arith}
 use lib.ListN.{length}
-use Rattle.sheet_text.specs.Numbers.{digits}
-use Rattle.sheet_text.proofs.Digits.{count-one, count-more, digits-short}
+use Rattle.sheet.specs.Numbers.{digits}
+use Rattle.sheet.proofs.Digits.{count-one, count-more, digits-short}
 use borrow.Author.Needs.{needs}
 use Rattle.summary_text.proofs.numbers.digit_count.Statement.{statement}
 use Rattle.summary_text.proofs.numbers.digit_count.Tie as tie

@@ -6,8 +6,8 @@ use native.Mathlib.Omega.{arith}
 use borrow.Author.Needs.{needs}
 use lib.ListN.{length, length-set}
 use Rattle.lists.specs.Fill.{put}
-use Rattle.sheet_text.specs.Numbers.{digits}
-use Rattle.sheet_text.proofs.Digits.{count-one, count-more}
+use Rattle.sheet.specs.Numbers.{digits}
+use Rattle.sheet.proofs.Digits.{count-one, count-more}
 use Rattle.sheet_write.proofs.Decimals.{Backing, back-step, back-end}
 use Rattle.summary_text.proofs.numbers.put_number.Statement.{statement}
 use Rattle.summary_text.proofs.numbers.put_number.Tie as tie

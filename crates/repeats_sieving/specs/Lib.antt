@@ -1,0 +1,3 @@
+-- What the contracts of `sieving` cite. `Sieved` is what a caller of both sieves needs.
+pub mod Kept
+pub mod Slots

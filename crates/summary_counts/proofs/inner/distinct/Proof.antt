@@ -1,0 +1,77 @@
+-- `distinct` meets its contract: weights and ids are written, sorted, and their runs counted. Assumes nothing.
+use native.Mathlib.Omega.{arith}
+use Rattle.summary_counts.proofs.Ids.{ladder-fits, ready, sorted-size, order-low, different}
+use borrow.Author.Needs.{needs}
+use Rattle.summary_counts.proofs.inner.distinct.Statement.{statement}
+use Rattle.summary_counts.proofs.inner.distinct.Tie as tie
+
+mul-e : tie.Need-mul-e
+mul-e c = search needs
+
+copy-weights-requires : tie.Need-copy-weights-requires
+copy-weights-requires c κs = omega (arith, c .before .before .before .pre .1)
+
+write-ladder-requires : tie.Need-write-ladder-requires
+write-ladder-requires c κs =
+    let y = c .before .before .before in
+    let g = y .before .before .before .before in
+    ladder-fits _ _ (g .pre .0) (g .pre .1) (y .copy-weights .ensures)
+
+sort-by-weight-requires : tie.Need-sort-by-weight-requires
+sort-by-weight-requires c κs =
+    let w = c .before .before .before in
+    let y = w .before .before .before .before in
+    let g = y .before .before .before .before in
+    ready _ _ (g .pre .0) (g .pre .1) (y .copy-weights .ensures) (w .write-ladder .ensures)
+
+mul-runs-by : tie.Need-mul-runs-by
+mul-runs-by c = omega (arith, c .before .before .before .before .before .before .before .before .before .before .before .before .before .before .pre .0 .few)
+
+sub-runs-by : tie.Need-sub-runs-by
+sub-runs-by c = search needs
+
+part-runs-by-start : tie.Need-part-runs-by-start
+part-runs-by-start c = search needs
+
+part-runs-by-end : tie.Need-part-runs-by-end
+part-runs-by-end c =
+    let s = c .before .before in
+    let w = s .before .before .before .before in
+    let y = w .before .before .before .before in
+    let g = y .before .before .before .before in
+    omega (arith, g .pre .1, sorted-size _ _ (g .pre .0) (g .pre .1) (y .copy-weights .ensures) (w .write-ladder .ensures) (s .sort-by-weight .ensures))
+
+runs-by-requires : tie.Need-runs-by-requires
+runs-by-requires c κs =
+    let s = c .before .before .before in
+    let w = s .before .before .before .before in
+    let y = w .before .before .before .before in
+    let g = y .before .before .before .before in
+    order-low _ _ (g .pre .0) (g .pre .1) (y .copy-weights .ensures) (w .write-ladder .ensures) (s .sort-by-weight .ensures)
+
+same-length : tie.Need-same-length
+same-length c = search needs
+
+returns : tie.Need-returns
+returns c =
+    let s = c .before .before .before .before .before .before in
+    let w = s .before .before .before .before in
+    let y = w .before .before .before .before in
+    let g = y .before .before .before .before in
+    different _ _ (g .pre .0) (g .pre .1) (y .copy-weights .ensures) (w .write-ladder .ensures) (s .sort-by-weight .ensures) (c .before .before .runs-by .ensures)
+
+pub distinct-spec : {M : Type 1} → statement M
+distinct-spec =
+    tie.close
+    (tie.spec
+    mul-e
+    copy-weights-requires
+    write-ladder-requires
+    sort-by-weight-requires
+    mul-runs-by
+    sub-runs-by
+    part-runs-by-start
+    part-runs-by-end
+    runs-by-requires
+    same-length
+    returns)
