@@ -1,5 +1,6 @@
-// Runs the bench examples of document 01 that are not starred, and some that are, and writes one line each: what was
-// asked, and the answer. The file `stdout` holds what the lines should be.
+// Runs the worked examples that are not proved as theorems, and some that are, and writes one line each: what was asked, and the
+// answer. The file `stdout` holds what the lines should be.
+mod asking;
 mod reordering;
 
 use collection::Side;
@@ -7,15 +8,15 @@ use collection::Verdict;
 use libc::STDOUT_FILENO;
 use plain::PlainAnswer;
 use repeats::CheckAnswer;
-use weight::WeightAnswer;
 use runs::RunsAnswer;
+use weight::WeightAnswer;
 
-// The sheet of 01 after the places +1 +4 -3 -2.
-const LETTERS: [u8; 18] = *b"AAACCTGTAGGCTGAGAT";
+// The sheet of the examples after the places +1 +4 -3 -2.
+pub(crate) const LETTERS: [u8; 18] = *b"AAACCTGTAGGCTGAGAT";
 
-const ENDS: [u32; 4] = [5, 9, 14, 18];
+pub(crate) const ENDS: [u32; 4] = [5, 9, 14, 18];
 
-const WEIGHTS: [u32; 10] = [2, 2, 5, 5, 3, 3, 7, 7, 7, 2];
+pub(crate) const WEIGHTS: [u32; 10] = [2, 2, 5, 5, 3, 3, 7, 7, 7, 2];
 
 pub(crate) fn show(asked: &[u8], a: u64, b: u64) {
     io::write_all(STDOUT_FILENO, asked);
@@ -56,7 +57,7 @@ fn show_plain(word: &[u8]) {
     }
 }
 
-fn wide(x: u32) -> u64 {
+pub(crate) fn wide(x: u32) -> u64 {
     x as u64
 }
 
@@ -126,7 +127,7 @@ fn judge_long(asked: &[u8], k: usize, weight: u32) {
 }
 
 fn judge_all() {
-    judge_sheet(b"the sheet of 01", 3);
+    judge_sheet(b"the sheet of the examples", 3);
     judge_sheet(b"k = 2", 2);
     judge_long(b"k = 31, weight 1", 31, 1);
     judge_long(b"k = 32", 32, 1);
@@ -205,4 +206,5 @@ fn main() {
     check_all();
     reordering::cover_sheet();
     reordering::apply_all();
+    asking::ask_all();
 }

@@ -1,8 +1,8 @@
-// The sheet of 01 as it was given: COVER finds places, APPLY writes the new collection, RUNS counts its runs.
+// The sheet of the examples as it was given: COVER finds places, APPLY writes the new collection, RUNS counts its runs.
 use crate::show;
 use crate::show_count;
-use cover::CoverAnswer;
 use apply::ApplyAnswer;
+use cover::CoverAnswer;
 
 const LETTERS: [u8; 18] = *b"AAACCAGATCAGCCTACA";
 

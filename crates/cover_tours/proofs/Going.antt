@@ -1,5 +1,5 @@
 -- A walk over the table: its state, its start, and the search for an unused half. Each step of the code is one of the steps of a walk over lists (the laws of
--- `trails`).
+-- `cover_trails`).
 use mathlib.Core.Path.{_≡_, refl, ap, sym, _∙_, subst}
 use mathlib.Core.List.{List, [], _++_}
 use Prim.Native.Nat.{ℕ, _+_, _*_, _≤_, _<_}

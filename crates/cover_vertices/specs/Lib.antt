@@ -1,4 +1,4 @@
--- What the contracts of `vertices` cite. `EndWeights` is what COVER's promise speaks of; the others are inner.
+-- What the contracts of `cover_vertices` cite. `EndWeights` is what COVER's promise speaks of; the others are inner.
 pub mod EndWeights
 pub mod Ladder
 pub mod Firsts

@@ -33,8 +33,8 @@ use Rattle.quick.specs.declared.QuickAnswer.{QuickAnswer}
 use Rattle.quick.specs.declared.QuickAnswer.the-variants.{Found, Absent, Refused}
 use Rattle.quick.specs.declared.WordAnswer.the-variants.{Weighs}
 use Rattle.quick.specs.Weighed.{weighs, weighedOf}
-use Rattle.agreement.specs.Agreement.{unnumbered, sided}
-use Rattle.agreement.proofs.Agreed.{found-stands, absent-nowhere, never-refused, stands-found, quick-own}
+use Rattle.dictionary.specs.Agreement.{unnumbered, sided}
+use Rattle.dictionary.proofs.Agreed.{found-stands, absent-nowhere, never-refused, stands-found, quick-own}
 use Rattle.dictionary.specs.Dictionary.{Sound, Answers}
 
 -- a judged word has letters only

@@ -1,4 +1,7 @@
 -- The demands hold.
+pub mod Compared
+pub mod Found
+pub mod Agreed
 pub mod OnceEach
 pub mod Determined
 pub mod Dictionary

@@ -33,7 +33,7 @@ use Rattle.quick.specs.declared.WordAnswer.{WordAnswer}
 use Rattle.quick.specs.declared.WordAnswer.the-variants as word
 use Rattle.quick.specs.Quick.{quickOf}
 use Rattle.quick.specs.Weighed.{weighedOf}
-use Rattle.agreement.specs.Agreement.{sided}
+use Rattle.dictionary.specs.Agreement.{sided}
 use Rattle.dictionary.specs.Dictionary.{Answers, weighed}
 use Rattle.dictionary.proofs.Dictionary.{word-spelt, found-weighs, many, answers}
 use Rattle.dictionary.proofs.OnceEach.{reordered-distinct}

@@ -12,8 +12,8 @@ use Rattle.collection.specs.Judge.{kVerdict, sizeVerdict, endsVerdict, shapeVer
 use Rattle.collection_faults.specs.Faults.{firstShort, lastEnd}
 use Rattle.collection.specs.Strings.{stringsFrom, lettersIn, endsIn, weightsIn}
 use Rattle.collection.specs.Verdict.{andThen, atPlace, settle}
-use Rattle.sheet.specs.Numbers.{valueFrom}
-use Rattle.sheet.specs.Parts.{upTo as partUpTo, later}
+use Rattle.text.specs.Numbers.{valueFrom}
+use Rattle.text.specs.Parts.{upTo as partUpTo, later}
 use Rattle.sheet.specs.Sheet.{sheetK, sheetStrings, stringsOf}
 use Rattle.cover_trails.specs.Groups.{least}
 use Rattle.cover_trails.specs.Places.{standing, arrangedTo}

@@ -20,7 +20,7 @@ use Rattle.quick.specs.declared.WordAnswer.{WordAnswer}
 use Rattle.quick.specs.declared.WordAnswer.the-variants.{Weighs}
 use Rattle.quick.specs.Quick.{quickOf}
 use Rattle.quick.specs.Weighed.{weighedOf}
-use Rattle.agreement.specs.Agreement.{sided}
+use Rattle.dictionary.specs.Agreement.{sided}
 
 -- a collection that passes CHECK: 2 to 6, and no word repeats
 pub record Sound (c : Collection) : Type 0 where

@@ -1,4 +1,5 @@
 -- The demands on the whole library, as types that the proofs inhabit.
+pub mod Agreement
 pub mod Determined
 pub mod Dictionary
 pub mod Journey

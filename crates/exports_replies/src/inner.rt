@@ -1,18 +1,18 @@
 // The reply to each call's answer, and how it is told through a table that has room for it.
 use crate::Reply;
 use access::AccessAnswer;
+use apply::ApplyAnswer;
 use collection::Side;
 use cover::CoverAnswer;
 use index::IndexAnswer;
-use apply::ApplyAnswer;
 use plain::PlainAnswer;
 use quick::QuickAnswer;
 use quick::WordAnswer;
 use repeats::CheckAnswer;
-use weight::WeightAnswer;
 use runs::RunsAnswer;
 use sheet::ReadAnswer;
 use sheet::WriteAnswer;
+use weight::WeightAnswer;
 ghost use mathlib.Core.Path.{_≡_};
 ghost use Prim.Native.Nat.{_≤_};
 ghost use lib.ListN.{length};

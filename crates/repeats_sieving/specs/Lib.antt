@@ -1,3 +1,3 @@
--- What the contracts of `sieving` cite. `Sieved` is what a caller of both sieves needs.
+-- What the contracts of `repeats_sieving` cite. `Sieved` is what a caller of both sieves needs.
 pub mod Kept
 pub mod Slots

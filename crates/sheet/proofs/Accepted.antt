@@ -16,14 +16,14 @@ use Rattle.collection.proofs.Strings.{Whole}
 use Rattle.collection.proofs.Verdicts.{both-good, place-good, test-good}
 use Rattle.lists.specs.Every.{All, every}
 use Rattle.lists.proofs.Every.{and-both}
-use Rattle.sheet.specs.Numbers.{isNumber, value, digits}
-use Rattle.sheet.specs.Parts.{upTo, later, tab, feed}
+use Rattle.text.specs.Numbers.{isNumber, value, digits}
+use Rattle.text.specs.Parts.{upTo, later, tab, feed}
 use Rattle.collection.specs.Strings.{Str}
 use Rattle.sheet.specs.Sheet.{isMark, isK, isKLine, isWeightField, isString, isStringLine, stringOf, stringsOf, firstWrong, kOf, sheetK, sheetStrings, isHead, sheetVerdict, Accepted}
 use Rattle.sheet.specs.Text.{weightsText, stringText, linesText, sheetText}
-use Rattle.sheet.proofs.Tests.{both, never, empty}
-use Rattle.sheet.proofs.Parts.{joined, join-parts}
-use Rattle.sheet.proofs.Numbers.{digits-value}
+use Rattle.text.proofs.Tests.{both, never, empty}
+use Rattle.text.proofs.Parts.{joined, join-parts}
+use Rattle.text.proofs.Numbers.{digits-value}
 
 -- ─── its text ────────────────────────────────────────────────────────────────
 

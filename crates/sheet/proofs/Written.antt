@@ -15,16 +15,16 @@ use Rattle.collection.specs.Verdict.{andThen, atPlace}
 use Rattle.collection.proofs.Judged.{k-good}
 use Rattle.lists.specs.Every.{All, every}
 use Rattle.lists.proofs.Every.{and-both}
-use Rattle.sheet.specs.Numbers.{isDigit, value, digits}
-use Rattle.sheet.specs.Parts.{upTo, later, tab, feed}
+use Rattle.text.specs.Numbers.{isDigit, value, digits}
+use Rattle.text.specs.Parts.{upTo, later, tab, feed}
 use Rattle.collection.specs.Strings.{Str}
 use Rattle.sheet.specs.Sheet.{isMark, isK, isKLine, isWeightField, isString, isStringLine, string, stringOf, stringsOf, firstWrong, kOf, sheetK, sheetStrings, isHead, sheetVerdict, Accepted}
 use Rattle.sheet.specs.Text.{weightsText, stringText, linesText, sheetText}
-use Rattle.sheet.proofs.Tests.{both, every-more, every-append, never, digit-range, unequal}
+use Rattle.text.proofs.Tests.{both, every-more, every-append, never, digit-range, unequal}
 use Rattle.sheet.proofs.Accepted.{Holds}
-use Rattle.sheet.proofs.Parts.{Free, up-last, later-last, up-first, later-first}
-use Rattle.sheet.proofs.Numbers.{value-digits, number-digits, all-digits}
-use Rattle.sheet.proofs.Digits.{digits-short}
+use Rattle.text.proofs.Parts.{Free, up-last, later-last, up-first, later-first}
+use Rattle.text.proofs.Numbers.{value-digits, number-digits, all-digits}
+use Rattle.text.proofs.Digits.{digits-short}
 
 -- ─── no separator stands in a letter or a digit ──────────────────────────────
 

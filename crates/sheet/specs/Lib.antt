@@ -1,6 +1,4 @@
 -- The sheet: what its bytes mean, and what READ and WRITE come to. Laws about them stand in `proofs/`.
-pub mod Parts
-pub mod Numbers
 pub mod Sheet
 pub mod Text
 pub mod Read

@@ -14,8 +14,8 @@ use Rattle.collection.specs.Judge.{kVerdict}
 use Rattle.collection_faults.specs.Faults.{isWeight}
 use Rattle.collection.specs.Strings.{Str}
 use Rattle.collection.specs.Verdict.{andThen, atPlace}
-use Rattle.sheet.specs.Numbers.{isNumber, value}
-use Rattle.sheet.specs.Parts.{upTo, later, tab, feed}
+use Rattle.text.specs.Numbers.{isNumber, value}
+use Rattle.text.specs.Parts.{upTo, later, tab, feed}
 
 -- ─── a line, without its line feed ───────────────────────────────────────────
 

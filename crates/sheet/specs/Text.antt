@@ -3,8 +3,8 @@ use mathlib.Core.List.{List, [], _∷_, _++_}
 use Prim.Native.Nat.{ℕ}
 use Rattle.collection.specs.Collection.{Collection}
 use Rattle.collection.specs.Strings.{Str, strings}
-use Rattle.sheet.specs.Numbers.{digits}
-use Rattle.sheet.specs.Parts.{tab, feed}
+use Rattle.text.specs.Numbers.{digits}
+use Rattle.text.specs.Parts.{tab, feed}
 
 -- a tab and a decimal per weight
 unfoldable pub weightsText : List ℕ → List ℕ

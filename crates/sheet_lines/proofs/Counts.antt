@@ -10,14 +10,14 @@ use lib.Dec.{eqb}
 use lib.ListN.{length, drop, drop-of-length-le, length-drop, length-map, length-append}
 use lib.Seq.{drop-drop}
 use Rattle.lists.specs.Choose.{choose}
-use Rattle.sheet.specs.Numbers.{value}
-use Rattle.sheet.specs.Parts.{upTo, later, tab, feed}
+use Rattle.text.specs.Numbers.{value}
+use Rattle.text.specs.Parts.{upTo, later, tab, feed}
 use Rattle.collection.specs.Strings.{Str, lettersIn, weightsIn}
 use Rattle.sheet.specs.Sheet.{isStringLine, stringOf, stringsOf, firstWrong}
 use Rattle.sheet_lines.specs.Cursor.{lineOf, lineAt, linesAt, countOf}
 use Rattle.sheet_lines.specs.declared.Line.the-variants as line
 use Rattle.sheet_lines.specs.declared.Counted.the-variants as counted
-use Rattle.sheet.proofs.Parts.{parts, past-sep, up-short, later-short, some-part}
+use Rattle.text.proofs.Parts.{parts, past-sep, up-short, later-short, some-part}
 
 -- ─── a string is no longer than its line ─────────────────────────────────────
 

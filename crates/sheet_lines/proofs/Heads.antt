@@ -12,19 +12,20 @@ use Rattle.lists.specs.Choose.{choose}
 use Rattle.collection_faults.specs.Faults.{isWeight}
 use Rattle.lists.specs.Every.{every}
 use Rattle.lists.proofs.Every.{and-both}
-use Rattle.sheet.specs.Numbers.{isDigit, isNumber, valueFrom, value}
-use Rattle.sheet.specs.Parts.{upTo, later, tab, feed}
+use Rattle.text.specs.Numbers.{isDigit, isNumber, valueFrom, value}
+use Rattle.text.specs.Parts.{upTo, later, tab, feed}
 use Rattle.sheet.specs.Sheet.{isMark, isK, isKLine, isWeightField, kOf, isHead}
-use Rattle.sheet_lines.specs.Cursor.{field, weightOf, weightAt, byteIs, headOf, headIn, headEnd}
-use Rattle.sheet_lines.specs.declared.Weight.the-variants as weight
+use Rattle.text.specs.Fields.{field, numberOf, byteIs}
+use Rattle.sheet_lines.specs.Cursor.{weightAt, headOf, headIn, headEnd}
+use Rattle.text.specs.declared.Number.the-variants as number
 use Rattle.sheet_lines.specs.declared.Head.the-variants as head
-use Rattle.sheet.proofs.Tests.{both, never, every-more, digit-range}
-use Rattle.sheet.proofs.Parts.{joined, Free, up-last, later-last, up-first, later-first, join-parts, up-short, up-take, take-up}
-use Rattle.sheet.proofs.Numbers.{number-all}
+use Rattle.text.proofs.Tests.{both, never, every-more, digit-range}
+use Rattle.text.proofs.Parts.{joined, Free, up-last, later-last, up-first, later-first, join-parts, up-short, up-take, take-up}
+use Rattle.text.proofs.Numbers.{number-all}
 use Rattle.sheet.proofs.Accepted.{mark-is}
 use Rattle.sheet.proofs.Written.{clear-digit, mark-free, free-next}
-use Rattle.sheet_lines.proofs.Bytes.{byte-here, byte-other, byte-is}
-use Rattle.sheet_lines.proofs.OneWeight.{range-weight}
+use Rattle.text.proofs.Bytes.{byte-here, byte-other, byte-is}
+use Rattle.text.proofs.OneNumber.{range-is}
 use Rattle.sheet_lines.proofs.Tails.{weight-good}
 
 -- no separator stands in a number
@@ -142,7 +143,7 @@ unfolding isNumber valueFrom every
 small-value [] rest h l e = never h
 small-value (b ∷ []) rest h l e =
     let d = digit-range b h in
-    range-weight (0 * 10 + (b - 48)) (nonzero (b - 48) (λ z. e (omega arith))) (omega arith) where
+    range-is 16777215 (0 * 10 + (b - 48)) (nonzero (b - 48) (λ z. e (omega arith))) (omega arith) where
       nonzero : (x : ℕ) → (x ≡ 0 → ⊥) → 1 ≤ 0 * 10 + x
       nonzero zero z = absurd (z refl)
       nonzero (suc x) z = omega arith
@@ -151,7 +152,7 @@ small-value (b ∷ (c ∷ [])) rest h l e =
     let d = digit-range b (both (isDigit b) _ (t .0) .0) in
     let g = digit-range c (both (isDigit c) _ (t .1) .0) in
     let z = eqb-false b 48 (not-true _ (both (isDigit b) _ (t .0) .1)) in
-    range-weight ((0 * 10 + (b - 48)) * 10 + (c - 48)) (omega arith) (omega arith)
+    range-is 16777215 ((0 * 10 + (b - 48)) * 10 + (c - 48)) (omega arith) (omega arith)
 small-value (b ∷ (c ∷ (d ∷ f))) rest h l e = absurd (omega arith)
 
 zero-is : isNumber (48 ∷ []) ≡ true
@@ -162,22 +163,22 @@ zero-value : value (48 ∷ []) ≡ 0
 unfolding valueFrom
 zero-value = refl
 
-weight-yes : (i : ℕ) (f : List ℕ) → isNumber f ≡ true → isWeight (value f) ≡ true → weightOf i f ≡ weight.Good (value f) (i + length f)
-unfolding weightOf isWeightField
+weight-yes : (i : ℕ) (f : List ℕ) → isNumber f ≡ true → isWeight (value f) ≡ true → numberOf 16777215 i f ≡ number.Good (value f) (i + length f)
+unfolding numberOf
 weight-yes i f h g = rw (h, g)
 
 weight-number : (f : List ℕ) → isWeightField f ≡ true → isNumber f ≡ true
 unfolding isWeightField
 weight-number f h = both (isNumber f) _ h .0
 
-same-place : {v w x y : ℕ} → weight.Good v x ≡ weight.Good w y → x ≡ y
+same-place : {v w x y : ℕ} → number.Good v x ≡ number.Good w y → x ≡ y
 same-place h = cc
 
-no-place : {v x : ℕ} → weight.Good v x ≡ weight.Wrong → ⊥
+no-place : {v x : ℕ} → number.Good v x ≡ number.Wrong → ⊥
 no-place h = let z : _≡_ {A = ℕ} 0 1 = cc in omega arith
 
 -- what stands behind `K` and a tab is the field, then the rest
-front-cut : (s : List ℕ) (next : ℕ) → next ≡ 2 + length (field (drop 2 s)) → drop 2 s ≡ field (drop 2 s) ++ drop next s
+front-cut : (s : List ℕ) (next : ℕ) → next ≡ 2 + length (field tab (drop 2 s)) → drop 2 s ≡ field tab (drop 2 s) ++ drop next s
 unfolding field
 front-cut s next e =
     let x : List ℕ = drop 2 s in
@@ -202,21 +203,21 @@ module _ (s : List ℕ) (k-here : byteIs s 0 75 ≡ true) (tab-here : byteIs s 1
     go false e = sym (head-no s (λ t. let z = zero-led (t .f) (t .rest) (t .is-number) (sym (third t) ∙ b .1) in clash (feed-there s t 3 (omega arith)) e))
 
   module _ (no-zero : byteIs s 2 48 ≡ false) where
-    text-weight : (t : Text s) → weightAt s 2 ≡ weight.Good (value (t .f)) (2 + length (t .f))
+    text-weight : (t : Text s) → weightAt s 2 ≡ number.Good (value (t .f)) (2 + length (t .f))
     unfolding field
     text-weight t =
         let d : drop 2 s ≡ t .f ++ (feed ∷ t .rest) = ap (drop 2) (t .same) in
         let u : upTo feed (drop 2 s) ≡ t .f = ap (upTo feed) d ∙ up-first feed (t .f) (t .rest) (number-free feed (t .f) (omega arith) (t .is-number)) in
         let w : upTo tab (upTo feed (drop 2 s)) ≡ t .f = ap (upTo tab) u ∙ up-last tab (t .f) (number-free tab (t .f) (omega arith) (t .is-number)) in
         let l : 2 < length s = omega (arith, size s t) in
-        ap (weightOf 2) w
+        ap (numberOf 16777215 2) w
         ∙ weight-yes 2 (t .f) (t .is-number) (small-value (t .f) (t .rest) (t .is-number) (t .short) (λ e. byte-other s 2 48 no-zero l (third t ∙ e)))
 
     -- no weight, so no number
-    pub no-number : weightAt s 2 ≡ weight.Wrong → headIn s ≡ head.Wrong
+    pub no-number : weightAt s 2 ≡ number.Wrong → headIn s ≡ head.Wrong
     no-number h = head-no s (λ t. no-place (sym (text-weight t) ∙ h))
 
-    module _ (v next : ℕ) (w : weightAt s 2 ≡ weight.Good v next) where
+    module _ (v next : ℕ) (w : weightAt s 2 ≡ number.Good v next) where
       -- a third digit
       pub too-long : 4 < next → headIn s ≡ head.Wrong
       too-long l = head-no s (λ t. let p = same-place (sym (text-weight t) ∙ w) in omega (arith, t .short))
@@ -225,7 +226,7 @@ module _ (s : List ℕ) (k-here : byteIs s 0 75 ≡ true) (tab-here : byteIs s 1
       pub number-head : next ≤ 4 → headEnd s v next ≡ headIn s
       number-head l = go (byteIs s next feed) refl where
         f : List ℕ
-        f = field (drop 2 s)
+        f = field tab (drop 2 s)
 
         g : (isWeightField f ≡ true) × (next ≡ 2 + length f) × (v ≡ value f)
         g = weight-good 2 f v next w

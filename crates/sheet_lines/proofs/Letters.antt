@@ -12,10 +12,10 @@ use lib.Seq.{drop-cons}
 use Rattle.lists.specs.Choose.{choose}
 use Rattle.lists.specs.Every.{every}
 use Rattle.alphabet.specs.Letter.{isLetter}
-use Rattle.sheet.specs.Parts.{upTo, tab, feed}
+use Rattle.text.specs.Parts.{upTo, tab, feed}
 use Rattle.sheet_lines.specs.Cursor.{span, isEmpty}
-use Rattle.sheet.proofs.Tests.{never}
-use Rattle.sheet.proofs.Parts.{inside-part}
+use Rattle.text.proofs.Tests.{never}
+use Rattle.text.proofs.Parts.{inside-part}
 
 -- ─── byte by byte, as a loop's index counts ──────────────────────────────────
 

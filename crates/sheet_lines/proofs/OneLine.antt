@@ -11,16 +11,16 @@ use lib.Seq.{drop-cons, drop-drop}
 use Rattle.lists.specs.Choose.{choose}
 use Rattle.lists.specs.Every.{every}
 use Rattle.alphabet.specs.Letter.{isLetter}
-use Rattle.sheet.specs.Numbers.{value}
-use Rattle.sheet.specs.Parts.{upTo, later, tab, feed}
+use Rattle.text.specs.Numbers.{value}
+use Rattle.text.specs.Parts.{upTo, later, tab, feed}
 use Rattle.sheet.specs.Sheet.{isMark, isWeightField, isString, isStringLine}
 use Rattle.sheet_lines.specs.Cursor.{span, isEmpty, tailOf, tailAt, lineOf, lineAt, marked}
 use Rattle.sheet_lines.specs.declared.Tail.{Tail}
 use Rattle.sheet_lines.specs.declared.Tail.the-variants as tail
 use Rattle.sheet_lines.specs.declared.Line.{Line}
 use Rattle.sheet_lines.specs.declared.Line.the-variants as line
-use Rattle.sheet.proofs.Tests.{both, never}
-use Rattle.sheet.proofs.Parts.{inside-part, up-short}
+use Rattle.text.proofs.Tests.{both, never}
+use Rattle.text.proofs.Parts.{inside-part, up-short}
 use Rattle.sheet_lines.proofs.Letters.{tab-other, feed-other, span-up, letters-all, letters-length}
 
 -- ─── the line as a list ──────────────────────────────────────────────────────

@@ -11,35 +11,36 @@ use lib.ListN.{length, drop, getD, drop-of-length-le, length-drop}
 use lib.Seq.{drop-length, drop-drop}
 use Rattle.lists.specs.Choose.{choose}
 use Rattle.lists.specs.Every.{every}
-use Rattle.sheet.specs.Numbers.{value}
-use Rattle.sheet.specs.Parts.{upTo, later, tab, feed}
+use Rattle.text.specs.Numbers.{value}
+use Rattle.text.specs.Parts.{upTo, later, tab, feed}
 use Rattle.sheet.specs.Sheet.{isWeightField}
-use Rattle.sheet_lines.specs.Cursor.{field, weightOf, weightAt, tailOf, tailAt, byteIs}
-use Rattle.sheet_lines.specs.declared.Weight.the-variants as weight
+use Rattle.text.specs.Fields.{field, numberOf, byteIs}
+use Rattle.sheet_lines.specs.Cursor.{weightAt, tailOf, tailAt}
+use Rattle.text.specs.declared.Number.the-variants as number
 use Rattle.sheet_lines.specs.declared.Tail.the-variants as tail
-use Rattle.sheet.proofs.Parts.{up-next, up-stop, later-next, later-stop, inside-part, up-short}
-use Rattle.sheet_lines.proofs.Bytes.{byte-here, byte-other}
+use Rattle.text.proofs.Parts.{up-next, up-stop, later-next, later-stop, inside-part, up-short}
+use Rattle.text.proofs.Bytes.{byte-here, byte-other}
 
 -- ─── one weight ──────────────────────────────────────────────────────────────
 
 -- a good weight: its field is good, and this is where it ends and what its value is
-pub weight-good : (i : ℕ) (f : List ℕ) (v next : ℕ) → weightOf i f ≡ weight.Good v next → (isWeightField f ≡ true) × (next ≡ i + length f) × (v ≡ value f)
-unfolding weightOf
+pub weight-good : (i : ℕ) (f : List ℕ) (v next : ℕ) → numberOf 16777215 i f ≡ number.Good v next → (isWeightField f ≡ true) × (next ≡ i + length f) × (v ≡ value f)
+unfolding numberOf isWeightField
 weight-good i f v next h = go (isWeightField f) refl h where
-  go : (t : Bool) → isWeightField f ≡ t → choose t (weight.Good (value f) (i + length f)) weight.Wrong ≡ weight.Good v next → (isWeightField f ≡ true) × (next ≡ i + length f) × (v ≡ value f)
+  go : (t : Bool) → isWeightField f ≡ t → choose t (number.Good (value f) (i + length f)) number.Wrong ≡ number.Good v next → (isWeightField f ≡ true) × (next ≡ i + length f) × (v ≡ value f)
   go true e r = (e, cc, cc)
   go false e r = let z : _≡_ {A = ℕ} 0 1 = cc in absurd (omega arith)
 
-weight-wrong : (i : ℕ) (f : List ℕ) → weightOf i f ≡ weight.Wrong → isWeightField f ≡ false
-unfolding weightOf
+weight-wrong : (i : ℕ) (f : List ℕ) → numberOf 16777215 i f ≡ number.Wrong → isWeightField f ≡ false
+unfolding numberOf isWeightField
 weight-wrong i f h = go (isWeightField f) refl h where
-  go : (t : Bool) → isWeightField f ≡ t → choose t (weight.Good (value f) (i + length f)) weight.Wrong ≡ weight.Wrong → isWeightField f ≡ false
+  go : (t : Bool) → isWeightField f ≡ t → choose t (number.Good (value f) (i + length f)) number.Wrong ≡ number.Wrong → isWeightField f ≡ false
   go true e r = let z : _≡_ {A = ℕ} 0 1 = cc in absurd (omega arith)
   go false e r = e
 
 -- behind a weight stand the rest of its line, and the same lines after it
-pub after-weight : (s : List ℕ) (i v next : ℕ) → weightAt s i ≡ weight.Good v next
-    → (upTo feed (drop next s) ≡ drop (length (field (drop i s))) (upTo feed (drop i s))) × (later feed (drop next s) ≡ later feed (drop i s))
+pub after-weight : (s : List ℕ) (i v next : ℕ) → weightAt s i ≡ number.Good v next
+    → (upTo feed (drop next s) ≡ drop (length (field tab (drop i s))) (upTo feed (drop i s))) × (later feed (drop next s) ≡ later feed (drop i s))
 unfolding field
 after-weight s i v next w =
     let l : List ℕ = upTo feed (drop i s) in
@@ -144,14 +145,14 @@ module _ (s : List ℕ) (i : ℕ) where
     at-tab h q = with-tab j h q ∙ ap (λ (x : ℕ). tailOf x i (tab ∷ upTo feed (drop (i + 1) s)) (later feed (drop (i + 1) s))) (sym up-one)
 
     -- a tab and a wrong weight
-    pub tail-bad : byteIs s i tab ≡ true → weightAt s (i + 1) ≡ weight.Wrong → tailAt s i j ≡ tail.Wrong
+    pub tail-bad : byteIs s i tab ≡ true → weightAt s (i + 1) ≡ number.Wrong → tailAt s i j ≡ tail.Wrong
     unfolding field
     tail-bad h w =
         let b = byte-here s i tab h in
         at-tab (b .0) (b .1) ∙ tail-wrong (j - 1) i _ _ (weight-wrong _ _ w)
 
     -- a tab and a good weight
-    pub tail-next : (v next : ℕ) → byteIs s i tab ≡ true → weightAt s (i + 1) ≡ weight.Good v next → tailAt s i j ≡ tailAt s next (j - 1)
+    pub tail-next : (v next : ℕ) → byteIs s i tab ≡ true → weightAt s (i + 1) ≡ number.Good v next → tailAt s i j ≡ tailAt s next (j - 1)
     unfolding field
     tail-next v next h w =
         let b = byte-here s i tab h in

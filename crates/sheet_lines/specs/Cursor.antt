@@ -1,4 +1,4 @@
--- Inner: what the steps of READ find at a place of a sheet. READ's promise (`sheet_text`, specs/Read) cites nothing of
+-- Inner: what the steps of READ find at a place of a sheet. READ's promise (`sheet`, specs/Read) cites nothing of
 -- this. Each is said by the sheet's parts: the line is what stands up to the next line feed, the field what stands in it up to the next tab.
 use Prim.Native.Nat.{ℕ, suc, _+_}
 use mathlib.Core.Bool.{Bool, true, false, _&&_}
@@ -10,11 +10,11 @@ use Rattle.lists.specs.Every.{every}
 use Rattle.alphabet.specs.Letter.{isLetter}
 use Rattle.collection_faults.specs.Faults.{isWeight}
 use Rattle.collection.specs.Strings.{Str, lettersIn, weightsIn}
-use Rattle.sheet.specs.Numbers.{value}
-use Rattle.sheet.specs.Parts.{upTo, later, tab, feed}
+use Rattle.text.specs.Numbers.{value}
+use Rattle.text.specs.Parts.{upTo, later, tab, feed}
+use Rattle.text.specs.Fields.{byteIs, numberAt}
+use Rattle.text.specs.declared.Number.{Number}
 use Rattle.sheet.specs.Sheet.{isWeightField, isStringLine, stringOf, stringsOf, firstWrong, isHead, kOf}
-use Rattle.sheet_lines.specs.declared.Weight.{Weight}
-use Rattle.sheet_lines.specs.declared.Weight.the-variants as weight
 use Rattle.sheet_lines.specs.declared.Tail.{Tail}
 use Rattle.sheet_lines.specs.declared.Tail.the-variants as tail
 use Rattle.sheet_lines.specs.declared.Line.{Line}
@@ -26,38 +26,14 @@ use Rattle.sheet_lines.specs.declared.Counted.the-variants as counted
 
 -- ─── bytes and fields ────────────────────────────────────────────────────────
 
--- the byte b stands at i
-abbrev pub byteIs : List ℕ → ℕ → ℕ → Bool
-byteIs s i b = choose (ltb i (length s)) (eqb (getD s i 0) b) false
-
 -- how many letters stand in front
 unfoldable pub span : List ℕ → ℕ
 span [] = 0
 span (b ∷ bs) = choose (isLetter b) (suc (span bs)) 0
 
--- a byte that ends a field: a tab, or the line feed
-abbrev pub isEnd : ℕ → Bool
-isEnd b = choose (eqb b tab) true (eqb b feed)
-
--- the field in front
-unfoldable pub field : List ℕ → List ℕ
-field r = upTo tab (upTo feed r)
-
--- a number of the value v that ends at i
-abbrev pub endedAt : ℕ → ℕ → Weight
-endedAt v i = choose (isWeight v) (weight.Good v i) weight.Wrong
-
--- the same where the byte b stands behind it
-abbrev pub weightEnd : ℕ → ℕ → ℕ → Weight
-weightEnd b v i = choose (isEnd b) (endedAt v i) weight.Wrong
-
--- the weight whose field is f and starts at i
-unfoldable pub weightOf : ℕ → List ℕ → Weight
-weightOf i f = choose (isWeightField f) (weight.Good (value f) (i + length f)) weight.Wrong
-
--- the weight at a place of the sheet s
-abbrev pub weightAt : List ℕ → ℕ → Weight
-weightAt s at = weightOf at (field (drop at s))
+-- the weight at a place of the sheet s: the number there, up to the next tab
+abbrev pub weightAt : List ℕ → ℕ → Number
+weightAt s at = numberAt tab 16777215 s at
 
 -- ─── lines ───────────────────────────────────────────────────────────────────
 

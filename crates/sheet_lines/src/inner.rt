@@ -3,9 +3,8 @@ use crate::Counted;
 use crate::Line;
 use crate::lines;
 ghost use mathlib.Core.Path.{_≡_};
-ghost use Prim.Native.Nat.{_+_, _-_, _≤_};
-ghost use lib.ListN.{length, take, drop};
-ghost use Rattle.lists.specs.Fill.{put};
+ghost use Prim.Native.Nat.{_+_, _≤_};
+ghost use lib.ListN.{length, drop};
 ghost use Rattle.sheet_lines.specs.Cursor.{span, linesAt, countOf};
 
 // Where the letters that start at a place end.
@@ -52,19 +51,5 @@ pub fn count_lines(k: usize, s: &[u8], at: usize) -> Counted
         letters: n,
         strings: m,
         weights: w,
-    }
-}
-
-// Copies the bytes from a place up to an end into the entries from o on.
-pub fn copy_bytes(s: &[u8], at: usize, e: usize, out: &mut [u8], o: usize)
-    requires { ⌜ (at ≤ e) × (e ≤ length (now s)) × (o + (e - at) ≤ length (now out)) ⌝ }
-    ensures { λ _. ⌜ now (out .exit) ≡ put o (take (e - at) (drop at (now (s .entry)))) (now (out .entry)) ⌝ }
-{
-    let mut i = at;
-    let mut p = o;
-    while i < e {
-        out[p] = s[i];
-        p += 1;
-        i += 1;
     }
 }

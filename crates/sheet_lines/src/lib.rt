@@ -4,12 +4,6 @@ pub mod fields;
 pub mod inner;
 pub mod lines;
 
-// A weight's field: its value, and where the field ends.
-pub enum Weight {
-    Good { value: u32, next: usize },
-    Wrong,
-}
-
 // The weights up to a line's end: where the next line starts.
 pub enum Tail {
     Good { next: usize },

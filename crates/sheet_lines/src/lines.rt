@@ -2,9 +2,9 @@
 use crate::Head;
 use crate::Line;
 use crate::Tail;
-use crate::Weight;
 use crate::fields;
 use crate::inner;
+use text::Number;
 ghost use mathlib.Core.Path.{_≡_};
 ghost use Prim.Native.Nat.{_≤_};
 ghost use lib.ListN.{length, drop};
@@ -14,7 +14,7 @@ ghost use Rattle.sheet_lines.specs.Cursor.{tailAt, marked, lineAt, headI
 fn tail_end(s: &[u8], i: usize) -> Tail
     ensures { λ r. ⌜ r ≡ tailAt (now (s .entry)) i 0 ⌝ }
 {
-    if fields::byte_is(s, i, b'\n') {
+    if text::byte_is(s, i, b'\n') {
         return Tail::Good { next: i + 1 };
     }
     Tail::Wrong
@@ -27,11 +27,11 @@ fn tail_at(s: &[u8], at: usize, n: usize) -> Tail
     let mut i = at;
     let mut j = n;
     while 0 < j {
-        if !fields::byte_is(s, i, b'\t') {
+        if !text::byte_is(s, i, b'\t') {
             return Tail::Wrong;
         }
         let w = fields::weight_at(s, i + 1);
-        let Weight::Good { value, next } = w else {
+        let Number::Good { value, next } = w else {
             return Tail::Wrong;
         };
         i = next;
@@ -84,7 +84,7 @@ pub(crate) fn line_at(k: usize, s: &[u8], at: usize) -> Line
 fn head_end(s: &[u8], k: usize, i: usize) -> Head
     ensures { λ r. ⌜ r ≡ headEnd (now (s .entry)) k i ⌝ }
 {
-    if fields::byte_is(s, i, b'\n') {
+    if text::byte_is(s, i, b'\n') {
         return Head::Good { k, next: i + 1 };
     }
     Head::Wrong
@@ -94,17 +94,17 @@ fn head_end(s: &[u8], k: usize, i: usize) -> Head
 pub fn head_at(s: &[u8]) -> Head
     ensures { λ r. ⌜ r ≡ headIn (now (s .entry)) ⌝ }
 {
-    if !fields::byte_is(s, 0, b'K') {
+    if !text::byte_is(s, 0, b'K') {
         return Head::Wrong;
     }
-    if !fields::byte_is(s, 1, b'\t') {
+    if !text::byte_is(s, 1, b'\t') {
         return Head::Wrong;
     }
-    if fields::byte_is(s, 2, b'0') {
+    if text::byte_is(s, 2, b'0') {
         return head_end(s, 0, 3);
     }
     let w = fields::weight_at(s, 2);
-    let Weight::Good { value, next } = w else {
+    let Number::Good { value, next } = w else {
         return Head::Wrong;
     };
     if 4 < next {

@@ -8,12 +8,12 @@ use Rattle.lists.specs.Fill.{put, fill}
 use Rattle.lists.proofs.Storing.{Storing, begin, store, restated, stored}
 use Rattle.collection.specs.Strings.{Str, lettersIn, weightsIn, endsIn}
 use Rattle.collection.proofs.Strings.{ends-length}
-use Rattle.sheet.specs.Parts.{upTo, later}
+use Rattle.text.specs.Parts.{upTo, later}
 use Rattle.sheet.specs.Sheet.{string, stringsOf, firstWrong}
-use Rattle.sheet.proofs.Blocks.{block-room, store-block}
+use Rattle.text.proofs.Blocks.{block-room, store-block}
 use Rattle.sheet_lines.specs.Cursor.{span, tailAt, linesAt, stringsAt, weightsAt}
 use Rattle.sheet_lines.specs.declared.Tail.the-variants as tail
-use Rattle.sheet_lines.proofs.Copied.{take-size}
+use Rattle.text.proofs.Copied.{take-size}
 use Rattle.sheet_lines.proofs.OneLine.{marked-room}
 use Rattle.sheet_read.specs.Fits.{Fits}
 use Rattle.sheet_read.proofs.Rows.{Row, row, row-marked}

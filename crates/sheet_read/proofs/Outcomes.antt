@@ -13,7 +13,7 @@ use Rattle.collection.specs.Strings.{Str, lettersIn, endsIn, weightsIn}
 use Rattle.collection.specs.Verdict.{settle}
 use Rattle.collection.proofs.Verdicts.{both-good, test-good, then-bad, then-good, refused, settled, done-by}
 use Rattle.sheet.specs.declared.ReadAnswer.the-variants as answer
-use Rattle.sheet.specs.Parts.{upTo, later, feed}
+use Rattle.text.specs.Parts.{upTo, later, feed}
 use Rattle.sheet.specs.Read.{sheetN, sheetM, sheetWeights, tablesVerdict, readVerdict, readOutcome, readOf}
 use Rattle.sheet.specs.Sheet.{sheetK, sheetStrings, isHead, stringsOf, firstWrong, sheetVerdict}
 use Rattle.sheet.proofs.Accepted.{sheet-good}

@@ -11,15 +11,15 @@ use Rattle.collection.specs.declared.Verdict.the-variants.{Good, Bad}
 use Rattle.collection.specs.Judge.{kVerdict}
 use Rattle.collection.specs.Verdict.{andThen, atPlace, settle}
 use Rattle.collection.proofs.Verdicts.{place-none, place-some}
-use Rattle.sheet.specs.Parts.{upTo, later, feed}
+use Rattle.text.specs.Parts.{upTo, later, feed}
 use Rattle.sheet.specs.Sheet.{isKLine, firstWrong, sheetK, isHead, sheetVerdict}
 use Rattle.sheet_lines.specs.Cursor.{headOf, headIn, linesAt, countOf}
 use Rattle.sheet_read.specs.Judged.{judgedOf, held}
 use Rattle.sheet_lines.specs.declared.Head.the-variants as head
 use Rattle.sheet_lines.specs.declared.Counted.the-variants as counted
 use Rattle.sheet_read.specs.declared.Judged.the-variants as judged
-use Rattle.sheet.proofs.Tests.{never}
-use Rattle.sheet.proofs.Parts.{parts, past-sep}
+use Rattle.text.proofs.Tests.{never}
+use Rattle.text.proofs.Parts.{parts, past-sep}
 use Rattle.sheet_lines.proofs.Counts.{counts-good, counts-wrong}
 
 -- line 1 is wrong

@@ -9,8 +9,8 @@ use lib.Dec.{ltb, eqb}
 use lib.ListN.{length, drop, take, length-drop}
 use lib.Seq.{drop-drop}
 use Rattle.lists.specs.Choose.{choose}
-use Rattle.sheet.specs.Numbers.{value}
-use Rattle.sheet.specs.Parts.{upTo, later, tab, feed}
+use Rattle.text.specs.Numbers.{value}
+use Rattle.text.specs.Parts.{upTo, later, tab, feed}
 use Rattle.collection.specs.Strings.{Str}
 use Rattle.sheet.specs.Sheet.{isStringLine, string, stringOf, stringsOf, firstWrong}
 use Rattle.sheet_lines.specs.Cursor.{span, tailAt, lineOf, lineAt, linesAt, stringsAt, marked, weightsAt}
@@ -18,9 +18,9 @@ use Rattle.sheet_lines.specs.declared.Tail.{Tail}
 use Rattle.sheet_lines.specs.declared.Tail.the-variants as tail
 use Rattle.sheet_lines.specs.declared.Line.{Line}
 use Rattle.sheet_lines.specs.declared.Line.the-variants as line
-use Rattle.sheet.proofs.Tests.{never}
+use Rattle.text.proofs.Tests.{never}
 use Rattle.sheet.proofs.Accepted.{choose-zero}
-use Rattle.sheet.proofs.Parts.{parts, inside-part, past-sep, up-short, up-take, take-up, some-part}
+use Rattle.text.proofs.Parts.{parts, inside-part, past-sep, up-short, up-take, take-up, some-part}
 use Rattle.sheet_lines.proofs.Letters.{tab-other, feed-other, span-up}
 use Rattle.sheet_lines.proofs.OneLine.{line-unmarked, line-few, line-bad, line-good, front, front-up}
 use Rattle.sheet_lines.proofs.Counts.{found}

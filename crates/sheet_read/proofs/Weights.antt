@@ -9,16 +9,17 @@ use lib.Dec.{eqb}
 use lib.ListN.{length, drop, getD}
 use Rattle.lists.specs.Choose.{choose}
 use Rattle.lists.specs.Every.{every}
-use Rattle.sheet.specs.Numbers.{value}
-use Rattle.sheet.specs.Parts.{upTo, later, tab, feed}
+use Rattle.text.specs.Numbers.{value}
+use Rattle.text.specs.Parts.{upTo, later, tab, feed}
 use Rattle.sheet.specs.Sheet.{isWeightField}
-use Rattle.sheet_lines.specs.Cursor.{field, weightAt, tailOf, tailAt, byteIs, fine, weightsAt, isEmpty, endsAt}
-use Rattle.sheet_lines.specs.declared.Weight.the-variants as weight
+use Rattle.text.specs.Fields.{field, byteIs}
+use Rattle.sheet_lines.specs.Cursor.{weightAt, tailOf, tailAt, fine, weightsAt, isEmpty, endsAt}
+use Rattle.text.specs.declared.Number.the-variants as number
 use Rattle.sheet_lines.specs.declared.Tail.{Tail}
 use Rattle.sheet_lines.specs.declared.Tail.the-variants as tail
-use Rattle.sheet.proofs.Tests.{both, never, empty}
-use Rattle.sheet.proofs.Parts.{up-next, inside-part}
-use Rattle.sheet_lines.proofs.Bytes.{byte-here}
+use Rattle.text.proofs.Tests.{both, never, empty}
+use Rattle.text.proofs.Parts.{up-next, inside-part}
+use Rattle.text.proofs.Bytes.{byte-here}
 use Rattle.sheet_lines.proofs.Tails.{weight-good, after-weight, tail-ended, tail-unended}
 
 tab-later : (b : ℕ) (l : List ℕ) → b ≡ tab → later tab (b ∷ l) ≡ upTo tab l ∷ later tab l
@@ -26,7 +27,7 @@ unfolding later
 tab-later b l h = rw h
 
 -- the weight read at a tab is the first of those to the line's end
-pub weights-next : (s : List ℕ) (i v next : ℕ) → byteIs s i tab ≡ true → weightAt s (i + 1) ≡ weight.Good v next → weightsAt s i ≡ v ∷ weightsAt s next
+pub weights-next : (s : List ℕ) (i v next : ℕ) → byteIs s i tab ≡ true → weightAt s (i + 1) ≡ number.Good v next → weightsAt s i ≡ v ∷ weightsAt s next
 unfolding weightsAt field
 weights-next s i v next h w =
     let b = byte-here s i tab h in

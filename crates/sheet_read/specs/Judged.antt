@@ -5,7 +5,7 @@ use lib.ListN.{length}
 use Rattle.collection.specs.declared.Verdict.{Verdict}
 use Rattle.collection.specs.Judge.{sizeVerdict}
 use Rattle.collection.specs.Verdict.{andThen, roomVerdict, settle}
-use Rattle.sheet.specs.Parts.{upTo, feed}
+use Rattle.text.specs.Parts.{upTo, feed}
 use Rattle.sheet.specs.Read.{sheetN, sheetM, sheetWeights, readVerdict}
 use Rattle.sheet.specs.Sheet.{sheetK, sheetVerdict}
 use Rattle.sheet_read.specs.declared.Judged.{Judged}

@@ -1,3 +1,3 @@
--- What the contracts of READ's inner functions cite; READ's promise stands in `sheet_text` (specs/Read).
+-- What the contracts of READ's inner functions cite; READ's promise stands in `sheet` (specs/Read).
 pub mod Judged
 pub mod Fits

@@ -1,5 +1,5 @@
 // The tables of a judged sheet.
-use sheet_lines::Weight;
+use text::Number;
 ghost use mathlib.Core.Bool.{true};
 ghost use mathlib.Core.Path.{_≡_};
 ghost use Prim.Native.Nat.{_+_, _≤_};
@@ -18,11 +18,11 @@ fn fill_weights(s: &[u8], at: usize, n: usize, out: &mut [u32], o: usize) -> usi
     let mut j = n;
     let mut p = o;
     while 0 < j {
-        if !sheet_lines::fields::byte_is(s, i, b'\t') {
+        if !text::byte_is(s, i, b'\t') {
             return i;
         }
         let w = sheet_lines::fields::weight_at(s, i + 1);
-        let Weight::Good { value, next } = w else {
+        let Number::Good { value, next } = w else {
             return i;
         };
         out[p] = value;
@@ -53,7 +53,7 @@ pub(crate) fn fill_lines(
     while i < s.len() {
         let b = i + 2;
         let e = sheet_lines::inner::letters_end(s, b);
-        sheet_lines::inner::copy_bytes(s, b, e, letters, n);
+        text::inner::copy_bytes(s, b, e, letters, n);
         let x = e - b;
         n += x;
         ends[m] = n as u32;

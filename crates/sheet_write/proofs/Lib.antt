@@ -1,5 +1,4 @@
 -- How WRITE's loops meet the text of a collection, and what they come to.
-pub mod Decimals
 pub mod Texts
 pub mod Line
 pub mod Lines

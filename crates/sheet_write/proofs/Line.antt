@@ -1,5 +1,5 @@
 -- One line stored piece by piece: weights, line 1, a string's line. What is still to be stored, and where it ends. Assumes nothing.
-use mathlib.Core.Path.{_≡_, sym, ap, subst}
+use mathlib.Core.Path.{_≡_, sym, ap, subst, _∙_}
 use mathlib.Core.List.{List, [], _∷_, _++_}
 use Prim.Native.Nat.{ℕ, _+_, _-_, _<_, _≤_}
 use native.Mathlib.Omega.{arith}
@@ -7,12 +7,12 @@ use lib.ListN.{length, take, drop, getD, set, length-append}
 use Rattle.lists.specs.Fill.{put}
 use Rattle.lists.proofs.Storing.{Storing, begin-at, inside, store, restated, stored}
 use Rattle.collection.specs.Strings.{Str}
-use Rattle.sheet.specs.Numbers.{digits}
-use Rattle.sheet.specs.Parts.{tab, feed}
+use Rattle.text.specs.Numbers.{digits}
+use Rattle.text.specs.Parts.{tab, feed}
 use Rattle.sheet.specs.Text.{weightsText}
-use Rattle.sheet.proofs.Blocks.{block-room, store-block}
+use Rattle.text.proofs.Blocks.{block-room, store-block}
 use Rattle.sheet_write.specs.Written.{headLine, cutString, stringLine}
-use Rattle.sheet_lines.proofs.Copied.{take-size}
+use Rattle.text.proofs.Copied.{take-size}
 use Rattle.sheet_write.proofs.Texts.{weights-next, weights-end, line-length}
 
 moved : {size o o' : ℕ} {out target rest : List ℕ} → o ≡ o' → Storing size out target rest o → Storing size out target rest o'
@@ -48,9 +48,12 @@ module _ {size : ℕ} {ws : List ℕ} {e total : ℕ} {target out : List ℕ} {i
     digits-room = block-room (digits (getD ws i 0)) _ (store here)
 
     -- one weight more is stored
-    pub weighed : {out' : List ℕ} {p' : ℕ} → p' ≡ p + 1 + length (digits (getD ws i 0)) → out' ≡ put (p + 1) (digits (getD ws i 0)) (set out p tab) → Weighing size ws e total target out' (i + 1) p'
-    weighed {out'} {p'} q f =
+    pub weighed : {w : ℕ} {out' : List ℕ} {p' : ℕ} → w ≡ getD ws i 0 → p' ≡ p + 1 + length (digits w) → out' ≡ put (p + 1) (digits w) (set out p tab)
+        → Weighing size ws e total target out' (i + 1) p'
+    weighed {out' = out'} {p' = p'} is q₀ f₀ =
         let d : List ℕ = digits (getD ws i 0) in
+        let q : p' ≡ p + 1 + length d = q₀ ∙ ap (λ (x : ℕ). p + 1 + length (digits x)) is in
+        let f : out' ≡ put (p + 1) d (set out p tab) = f₀ ∙ ap (λ (x : ℕ). put (p + 1) (digits x) (set out p tab)) is in
         let r : List ℕ = weightsText (take (e - (i + 1)) (drop (i + 1) ws)) in
         record {
           low = omega arith;

@@ -15,7 +15,7 @@ use Rattle.collection.specs.Strings.{Str, stringsFrom, strings}
 use Rattle.collection.proofs.Judged.{Judged, shape-long}
 use Rattle.collection.proofs.Kmers.{kmers-counted, Strings-left, strings-begin, kmers-next, Next, next-string, strings-on}
 use Rattle.sheet.specs.Text.{linesText, writeText}
-use Rattle.sheet.proofs.Blocks.{block-room, store-block}
+use Rattle.text.proofs.Blocks.{block-room, store-block}
 use Rattle.sheet_write.specs.Written.{headLine, cutString, stringLine}
 use Rattle.sheet_write.proofs.Texts.{lines-cons, sheet-lines}
 

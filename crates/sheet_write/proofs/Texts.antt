@@ -9,10 +9,10 @@ use Rattle.collection.specs.Collection.{Collection}
 use Rattle.collection.specs.Strings.{Str, strings, lettersIn, weightsIn}
 use Rattle.collection.proofs.Judged.{Judged}
 use Rattle.collection.proofs.Strings.{strings-joined, ends-length}
-use Rattle.sheet.specs.Numbers.{digits}
-use Rattle.sheet.specs.Parts.{tab, feed}
+use Rattle.text.specs.Numbers.{digits}
+use Rattle.text.specs.Parts.{tab, feed}
 use Rattle.sheet.specs.Text.{weightsText, linesText, sheetText, writeText}
-use Rattle.sheet_lines.proofs.Copied.{take-next, take-none}
+use Rattle.text.proofs.Copied.{take-next, take-none}
 use Rattle.sheet_write.specs.Written.{headLine, stringLine}
 
 -- ─── weights ─────────────────────────────────────────────────────────────────

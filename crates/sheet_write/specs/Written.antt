@@ -1,18 +1,12 @@
--- Inner: what the functions of WRITE store: lines with their line feeds. WRITE's promise (`sheet_text`, specs/Write) cites nothing of this.
+-- Inner: what the functions of WRITE store: lines with their line feeds. WRITE's promise (`sheet`, specs/Write) cites nothing of this.
 use mathlib.Core.List.{List, [], _∷_, _++_}
-use mathlib.Core.Path.{_≡_}
-use Prim.Native.Nat.{ℕ, _+_, _-_}
-use lib.ListN.{length, take, drop}
-use Rattle.lists.specs.Fill.{put}
+use Prim.Native.Nat.{ℕ, _-_}
+use lib.ListN.{take, drop}
 use Rattle.collection.specs.Strings.{Str}
-use Rattle.sheet.specs.Numbers.{digits}
-use Rattle.sheet.specs.Parts.{tab, feed}
+use Rattle.text.specs.Numbers.{digits}
+use Rattle.text.specs.Parts.{tab, feed}
 use Rattle.sheet.specs.Sheet.{string}
 use Rattle.sheet.specs.Text.{weightsText}
-
--- bytes stored in a table from `at` on: where they end, and what the table is afterwards
-abbrev pub Stores : ℕ → List ℕ → List ℕ → ℕ → List ℕ → Type 0
-Stores at bytes table end table' = (end ≡ at + length bytes) × (table' ≡ put at bytes table)
 
 -- line 1: `K` (75), tab, k
 unfoldable pub headLine : ℕ → List ℕ

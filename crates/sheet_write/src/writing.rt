@@ -8,17 +8,18 @@ ghost use Rattle.collection.specs.Collection.{collection};
 ghost use Rattle.collection.specs.Judge.{Passes};
 ghost use Rattle.collection.specs.Strings.{strings};
 ghost use Rattle.sheet.specs.Text.{weightsText, linesText, writeText};
-ghost use Rattle.sheet_write.specs.Written.{Stores, headLine, cutString, stringLine};
+ghost use Rattle.text.specs.Stored.{Stores};
+ghost use Rattle.sheet_write.specs.Written.{headLine, cutString, stringLine};
 
 // How many bytes all weights take, each with its tab.
 fn weights_length(weights: &[u32]) -> usize
     requires { ⌜ length (now weights) ≤ 1048576 ⌝ }
-    ensures { λ r. ⌜ (r ≡ length (weightsText (now (weights .entry)))) × (r ≤ 11 * length (now (weights .entry))) ⌝ }
+    ensures { λ r. ⌜ (r ≡ length (weightsText (now (weights .entry)))) × (r ≤ 21 * length (now (weights .entry))) ⌝ }
 {
     let mut n: usize = 0;
     let mut i = 0;
     while i < weights.len() {
-        n += 1 + numbers::digit_count(weights[i]);
+        n += 1 + text::inner::digit_count(numbers::wide(weights[i]));
         i += 1;
     }
     n
@@ -29,18 +30,18 @@ pub(crate) fn sheet_length(k: usize, letters: &[u8], ends: &[u32], weights: &[u3
     requires { ⌜ Passes (collection k (now letters) (now ends) (now weights)) ⌝ }
     ensures { λ r. ⌜ r ≡ length (writeText (collection k (now (letters .entry)) (now (ends .entry)) (now (weights .entry)))) ⌝ }
 {
-    let head = 3 + numbers::digit_count(k as u32);
+    let head = 3 + text::inner::digit_count(k);
     head + 3 * ends.len() + letters.len() + weights_length(weights)
 }
 
 // Line 1; answers where it ends.
 fn put_head(k: usize, out: &mut [u8]) -> usize
-    requires { ⌜ (k ≤ 31) × (length (headLine k) ≤ length (now out)) ⌝ }
+    requires { ⌜ length (headLine k) ≤ length (now out) ⌝ }
     ensures { λ r. ⌜ (r ≡ length (headLine k)) × (now (out .exit) ≡ put 0 (headLine k) (now (out .entry))) ⌝ }
 {
     out[0] = b'K';
     out[1] = b'\t';
-    let p = numbers::put_number(k as u32, out, 2);
+    let p = text::inner::put_number(k, out, 2);
     out[p] = b'\n';
     p + 1
 }
@@ -62,7 +63,7 @@ fn put_string(
 {
     out[at] = b'S';
     out[at + 1] = b'\t';
-    sheet_lines::inner::copy_bytes(letters, b, e, out, at + 2);
+    text::inner::copy_bytes(letters, b, e, out, at + 2);
     let p = numbers::put_weights(weights, w, n, out, at + 2 + (e - b));
     out[p] = b'\n';
     p + 1

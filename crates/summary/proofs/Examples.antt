@@ -11,8 +11,8 @@ use Rattle.collection.specs.Judge.{kVerdict, sizeVerdict}
 use Rattle.collection.specs.Kmers.{kmersFrom}
 use Rattle.collection.specs.Strings.{stringsFrom, lettersIn, endsIn, weightsIn}
 use Rattle.collection.specs.Verdict.{andThen, atPlace, settle}
-use Rattle.sheet.specs.Numbers.{isNumber, valueFrom, digitsIn, digits}
-use Rattle.sheet.specs.Parts.{upTo, later}
+use Rattle.text.specs.Numbers.{isNumber, valueFrom, digitsIn, digits}
+use Rattle.text.specs.Parts.{upTo, later}
 use Rattle.sheet.specs.Sheet.{isKLine, isWeightField, isString, isStringLine, stringsOf, firstWrong, sheetVerdict}
 use Rattle.repeats.specs.Check.{anyThat, alike, repeated, firstRepeat}
 use Rattle.cover_trails.specs.Groups.{least}

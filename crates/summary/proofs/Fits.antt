@@ -5,13 +5,13 @@ use Prim.Native.Nat.{ℕ, _+_, _*_, _≤_}
 use native.Mathlib.Omega.{arith}
 use lib.ListN.{length, length-append}
 use Rattle.collection.specs.Strings.{Str, lettersIn, weightsIn}
-use Rattle.sheet.specs.Numbers.{digits}
-use Rattle.sheet.specs.Parts.{tab, feed}
+use Rattle.text.specs.Numbers.{digits}
+use Rattle.text.specs.Parts.{tab, feed}
 use Rattle.sheet.specs.Read.{sheetN, sheetM, sheetWeights}
 use Rattle.sheet.specs.Sheet.{sheetK, sheetStrings, Accepted}
 use Rattle.sheet.specs.Text.{weightsText, stringText, linesText, sheetText}
 use Rattle.sheet.proofs.Accepted.{accepted-text}
-use Rattle.sheet.proofs.Digits.{digits-some}
+use Rattle.text.proofs.Digits.{digits-some}
 use Rattle.cover_trails.specs.Groups.{least}
 use Rattle.cover_trails.specs.Places.{arranged}
 use Rattle.cover_trails.specs.Strings.{Ends, turned}

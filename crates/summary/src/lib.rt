@@ -1,4 +1,5 @@
 // What `tally` does: from the bytes of a sheet to the bytes of a report.
+pub mod inner; // of a collection, for callers that have judged it
 mod telling;
 
 use summary_text::ReportAnswer;

@@ -8,9 +8,9 @@ use lib.Seq.{take-all}
 use Rattle.lists.specs.Fill.{put, fill}
 use Rattle.lists.proofs.Puts.{put-only}
 use Rattle.lists.proofs.Storing.{Storing, begin-at, begin, inside, store, restated, stored}
-use Rattle.sheet.specs.Numbers.{digits}
-use Rattle.sheet.specs.Parts.{tab, feed}
-use Rattle.sheet.proofs.Blocks.{block-room, store-block}
+use Rattle.text.specs.Numbers.{digits}
+use Rattle.text.specs.Parts.{tab, feed}
+use Rattle.text.proofs.Blocks.{block-room, store-block}
 use Rattle.summary_text.specs.Text.{entry, line, lines, stringsLabel, kmersLabel, totalLabel, innerLabel, givenLabel, pathsLabel, leastLabel, distinctLabel, bitsLabel, refusedLabel, countedText, refusedText}
 
 -- ─── how long ────────────────────────────────────────────────────────────────

@@ -1,8 +1,8 @@
 -- The lines that `tally` writes: one of a refusal, or nine of numbers.
 use mathlib.Core.List.{List, [], _∷_, _++_}
 use Prim.Native.Nat.{ℕ}
-use Rattle.sheet.specs.Numbers.{digits}
-use Rattle.sheet.specs.Parts.{tab, feed}
+use Rattle.text.specs.Numbers.{digits}
+use Rattle.text.specs.Parts.{tab, feed}
 use Rattle.summary_text.specs.declared.Summary.{Summary}
 use Rattle.summary_text.specs.declared.Summary.the-variants.{Counted, Refused}
 

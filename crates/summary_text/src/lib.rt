@@ -1,13 +1,12 @@
 // The text of a summary: nine lines of numbers, or one of a refusal. Its length is known before a byte is written.
 mod lines;
-mod numbers;
 
 use collection::Verdict;
 ghost use mathlib.Core.Path.{_≡_};
 ghost use Prim.Native.Nat.{_+_, _≤_};
 ghost use lib.ListN.{length};
 ghost use Rattle.lists.specs.Fill.{fill};
-ghost use Rattle.sheet.specs.Numbers.{digits};
+ghost use Rattle.text.specs.Numbers.{digits};
 ghost use Rattle.summary_text.specs.Text.{countedText, refusedText, textFor};
 ghost use Rattle.summary_text.specs.Written.{outcome, writtenOf};
 
@@ -40,7 +39,7 @@ pub enum ReportAnswer {
 fn numbers_length(a: usize, b: usize, c: usize) -> usize
     ensures { λ r. ⌜ (r ≡ length (digits a) + length (digits b) + length (digits c) + 6) × (r ≤ 66) ⌝ }
 {
-    numbers::digit_count(a) + numbers::digit_count(b) + numbers::digit_count(c) + 6
+    text::inner::digit_count(a) + text::inner::digit_count(b) + text::inner::digit_count(c) + 6
 }
 
 // The nine lines; answers where they end.
@@ -134,8 +133,8 @@ fn write_refused(number: usize, place: usize, text: &mut [u8]) -> ReportAnswer
     ensures { λ r. ⌜ outcome r (now (text .exit)) ≡ writtenOf (refusedText number place) (now (text .entry)) ⌝ }
     ensures { λ _. ⌜ length (refusedText number place) ≤ 247 ⌝ }
 {
-    let a = numbers::digit_count(number);
-    let b = numbers::digit_count(place);
+    let a = text::inner::digit_count(number);
+    let b = text::inner::digit_count(place);
     let v = collection::judge_room(text.len(), 10 + a + b);
     if let Verdict::Bad {
         number: n,

@@ -1,9 +1,8 @@
 // Lines of a label and a number.
-use crate::numbers;
 ghost use mathlib.Core.List.{[], _∷_};
 ghost use Prim.Native.Nat.{_+_, _≤_};
 ghost use lib.ListN.{length};
-ghost use Rattle.sheet_write.specs.Written.{Stores};
+ghost use Rattle.text.specs.Stored.{Stores};
 ghost use Rattle.summary_text.specs.Text.{entry, line, lines};
 
 // A label, a tab, and a number, from a place on; answers where they end.
@@ -11,10 +10,10 @@ pub(crate) fn put_entry(label: &[u8], n: usize, out: &mut [u8], at: usize) -> us
     requires { ⌜ at + length (entry (now label) n) ≤ length (now out) ⌝ }
     ensures { λ r. ⌜ Stores at (entry (now (label .entry)) n) (now (out .entry)) r (now (out .exit)) ⌝ }
 {
-    sheet_lines::inner::copy_bytes(label, 0, label.len(), out, at);
+    text::inner::copy_bytes(label, 0, label.len(), out, at);
     let e = at + label.len();
     out[e] = b'\t';
-    numbers::put_number(n, out, e + 1)
+    text::inner::put_number(n, out, e + 1)
 }
 
 // The same as a line, with its line feed.

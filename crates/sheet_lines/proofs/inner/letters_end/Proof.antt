@@ -4,7 +4,7 @@ use mathlib.Core.Path.{_≡_, refl}
 use native.Mathlib.Omega.{arith}
 use borrow.Author.Needs.{needs}
 use lib.ListN.{length, drop}
-use Rattle.sheet.proofs.Tests.{told-no, told-yes}
+use Rattle.text.proofs.Tests.{told-no, told-yes}
 use Rattle.sheet_lines.specs.Cursor.{span}
 use Rattle.sheet_lines.proofs.Letters.{span-stop, span-next, span-none}
 use Rattle.sheet_lines.proofs.inner.letters_end.Statement.{statement}

@@ -1,7 +1,7 @@
 -- `head_at` meets its contract: each test rules out a text of line 1, or finds it. Assumes nothing.
 use mathlib.Core.Path.{sym, _∙_}
 use borrow.Author.Needs.{needs}
-use Rattle.sheet.proofs.Tests.{told-no, told-yes}
+use Rattle.text.proofs.Tests.{told-no, told-yes}
 use Rattle.sheet_lines.proofs.Heads.{not-k, not-tab, zero-head, no-number, too-long, number-head}
 use Rattle.sheet_lines.proofs.lines.head_at.Statement.{statement}
 use Rattle.sheet_lines.proofs.lines.head_at.Tie as tie

@@ -2,7 +2,7 @@
 use mathlib.Core.Path.{sym, _∙_}
 use native.Mathlib.Omega.{arith}
 use borrow.Author.Needs.{needs}
-use Rattle.sheet_lines.proofs.Bytes.{byte-here}
+use Rattle.text.proofs.Bytes.{byte-here}
 use Rattle.sheet_lines.proofs.lines.head_end.Statement.{statement}
 use Rattle.sheet_lines.proofs.lines.head_end.Tie as tie
 

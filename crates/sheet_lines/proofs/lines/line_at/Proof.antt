@@ -1,7 +1,7 @@
 -- `line_at` meets its contract: each step is a part of the line. Assumes nothing.
 use mathlib.Core.Path.{refl, sym, _∙_}
 use borrow.Author.Needs.{needs}
-use Rattle.sheet.proofs.Tests.{told-no, told-yes}
+use Rattle.text.proofs.Tests.{told-no, told-yes}
 use Rattle.sheet_lines.proofs.OneLine.{marked-room, line-few, line-bad, line-good, line-unmarked}
 use Rattle.sheet_lines.proofs.lines.line_at.Statement.{statement}
 use Rattle.sheet_lines.proofs.lines.line_at.Tie as tie

@@ -2,9 +2,9 @@
 use mathlib.Core.Path.{_≡_, refl, sym, ap, _∙_}
 use native.Mathlib.Omega.{arith}
 use borrow.Author.Needs.{needs}
-use Rattle.sheet.proofs.Tests.{told-no, told-yes}
+use Rattle.text.proofs.Tests.{told-no, told-yes}
 use Rattle.sheet_lines.specs.Cursor.{tailAt}
-use Rattle.sheet_lines.proofs.Bytes.{byte-here}
+use Rattle.text.proofs.Bytes.{byte-here}
 use Rattle.sheet_lines.proofs.Tails.{tail-no-tab, tail-bad, tail-next}
 use Rattle.sheet_lines.proofs.lines.tail_at.Statement.{statement}
 use Rattle.sheet_lines.proofs.lines.tail_at.Tie as tie

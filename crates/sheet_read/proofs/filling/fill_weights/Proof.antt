@@ -7,9 +7,9 @@ use borrow.Author.Needs.{needs}
 use lib.ListN.{length}
 use Rattle.lists.specs.Fill.{put}
 use Rattle.lists.proofs.Storing.{Storing, begin-at, inside, store, restated, stored}
-use Rattle.sheet.proofs.Tests.{told-no, told-yes}
+use Rattle.text.proofs.Tests.{told-no, told-yes}
 use Rattle.sheet_lines.specs.Cursor.{tailAt, fine, weightsAt}
-use Rattle.sheet_lines.proofs.Bytes.{byte-here}
+use Rattle.text.proofs.Bytes.{byte-here}
 use Rattle.sheet_lines.proofs.Tails.{tail-no-tab, tail-bad, tail-next}
 use Rattle.sheet_read.proofs.Weights.{weights-next, weights-none, not-fine, tail-fine}
 use Rattle.sheet_read.proofs.filling.fill_weights.Statement.{statement}

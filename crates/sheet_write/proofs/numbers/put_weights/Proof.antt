@@ -15,6 +15,13 @@ Inv-loop weights w n out₀ at e i₀ p₀ out i p = Weighing (length out₀) we
 abbrev μ-loop : tie.MeasureT-loop
 μ-loop weights w n out₀ at e i₀ p₀ out i p = w + n - i
 
+-- the head of the loop, and its test, seen from where a weight is widened
+abbrev turn : tie.After-wide Inv-loop μ-loop → tie.At-loop Inv-loop μ-loop
+turn c = c .before .before .before
+
+abbrev test : tie.After-wide Inv-loop μ-loop → tie.In-loop Inv-loop μ-loop
+test c = c .before .before
+
 add-e : tie.Need-add-e Inv-loop μ-loop
 add-e c = omega (arith, c .before .before .pre .0)
 
@@ -24,28 +31,34 @@ loop-holds c = let s = c .before .before in weighing _ _ _ _ _ (s .pre .0) (s .p
 slice-write-out : tie.Need-slice-write-out Inv-loop μ-loop
 slice-write-out c = tab-room (c .before .loop .inv) (c .loop-test .taken)
 
-mul-put-number : tie.Need-mul-put-number Inv-loop μ-loop
-mul-put-number c = search needs
+mul-wide : tie.Need-mul-wide Inv-loop μ-loop
+mul-wide c = search needs
 
-shared-slice-read-put-number : tie.Need-shared-slice-read-put-number Inv-loop μ-loop
-shared-slice-read-put-number c = omega (arith, c .before .before .loop .inv .high, c .before .loop-test .taken)
+shared-slice-read-wide : tie.Need-shared-slice-read-wide Inv-loop μ-loop
+shared-slice-read-wide c = omega (arith, c .before .before .loop .inv .high, c .before .loop-test .taken)
+
+wide-requires : tie.Need-wide-requires Inv-loop μ-loop
+wide-requires c κs = search needs
 
 add-put-number : tie.Need-add-put-number Inv-loop μ-loop
-add-put-number c = omega (arith, tab-room (c .before .before .before .loop .inv) (c .before .before .loop-test .taken))
+add-put-number c = let w = c .before in omega (arith, tab-room (turn w .loop .inv) (test w .loop-test .taken))
 
 put-number-requires : tie.Need-put-number-requires Inv-loop μ-loop
-put-number-requires c κs = digits-room (c .before .before .before .loop .inv) (c .before .before .loop-test .taken)
+put-number-requires c κs = let w = c .before in rw (w .wide .ensures) (digits-room (turn w .loop .inv) (test w .loop-test .taken))
 
 add-i : tie.Need-add-i Inv-loop μ-loop
-add-i c = let at = c .before .before .before .before .before .before in omega (arith, at .loop .inv .high, c .before .before .before .before .before .loop-test .taken)
+add-i c =
+    let w = c .before .before .before .before in
+    omega (arith, turn w .loop .inv .high, test w .loop-test .taken)
 
 loop-less : tie.Need-loop-less Inv-loop μ-loop
-loop-less c = omega (arith, c .before .before .before .before .before .loop-test .taken)
+loop-less c = omega (arith, test (c .before .before .before .before) .loop-test .taken)
 
 loop-again : tie.Need-loop-again Inv-loop μ-loop
 loop-again c =
     let p = c .before .before in
-    weighed (p .before .before .before .before .loop .inv) (p .before .before .before .loop-test .taken) (p .put-number .ensures .0) (p .put-number .ensures .1)
+    let w = p .before .before in
+    weighed (turn w .loop .inv) (test w .loop-test .taken) (w .wide .ensures) (p .put-number .ensures .0) (p .put-number .ensures .1)
 
 same-length : tie.Need-same-length Inv-loop μ-loop
 same-length c = c .before .loop .inv .storing .size-kept
@@ -62,8 +75,9 @@ put-weights-spec =
     add-e
     loop-holds
     slice-write-out
-    mul-put-number
-    shared-slice-read-put-number
+    mul-wide
+    shared-slice-read-wide
+    wide-requires
     add-put-number
     put-number-requires
     add-i

@@ -1,6 +1,5 @@
 -- `put_sheet` meets its contract: line 1, then the strings. Assumes nothing.
 use Rattle.collection.specs.Collection.{collection}
-use Rattle.collection.proofs.Judged.{collection-good}
 use Rattle.sheet_write.proofs.Lines.{head-room, lines-room, sheet-done}
 use borrow.Author.Needs.{needs}
 use Rattle.sheet_write.proofs.writing.put_sheet.Statement.{statement}
@@ -9,7 +8,7 @@ use Rattle.sheet_write.proofs.writing.put_sheet.Tie as tie
 put-head-requires : tie.Need-put-head-requires
 put-head-requires c κs =
     let g = c .before .before .before .before .before in
-    (collection-good _ (g .pre .0) .shape .k-high, head-room (collection (g .args .k) (g .args .letters .now) (g .args .ends .now) (g .args .weights .now)) (g .args .out .now) (g .pre .1))
+    head-room (collection (g .args .k) (g .args .letters .now) (g .args .ends .now) (g .args .weights .now)) (g .args .out .now) (g .pre .1)
 
 put-lines-requires : tie.Need-put-lines-requires
 put-lines-requires c κs =

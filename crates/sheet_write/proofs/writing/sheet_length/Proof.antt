@@ -6,9 +6,6 @@ use borrow.Author.Needs.{needs}
 use Rattle.sheet_write.proofs.writing.sheet_length.Statement.{statement}
 use Rattle.sheet_write.proofs.writing.sheet_length.Tie as tie
 
-cast-digit-count : tie.Need-cast-digit-count
-cast-digit-count c = omega (arith, collection-good _ (c .before .before .before .pre) .shape .k-high)
-
 digit-count-requires : tie.Need-digit-count-requires
 digit-count-requires c κs = search needs
 
@@ -41,7 +38,6 @@ pub sheet-length-spec : {M : Type 1} → statement M
 sheet-length-spec =
     tie.close
     (tie.spec
-    cast-digit-count
     digit-count-requires
     add-head
     mul-result

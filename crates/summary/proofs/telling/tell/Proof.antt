@@ -15,56 +15,56 @@ read-requires c κs = search needs
 enum-known-a : tie.Need-enum-known-a
 enum-known-a c = search needs
 
-slice-reshare-prefix-tell-checked : tie.Need-slice-reshare-prefix-tell-checked
-slice-reshare-prefix-tell-checked c =
+slice-reshare-prefix-tell-collection : tie.Need-slice-reshare-prefix-tell-collection
+slice-reshare-prefix-tell-collection c =
     let a = c .before in
     let r = a .before .before .before .before .before .before .before .before in
     let t = r .before .before .before .before in
     let g = t .before .before .before .before .before .before in
     parts-inside _ _ _ _ _ _ (t .if1 .left) (g .pre) (r .read .ensures) (a .a .given .1) .0
 
-slice-aggregate-tell-checked : tie.Need-slice-aggregate-tell-checked
-slice-aggregate-tell-checked c =
+slice-aggregate-tell-collection : tie.Need-slice-aggregate-tell-collection
+slice-aggregate-tell-collection c =
     let a = c .before .before in
     let r = a .before .before .before .before .before .before .before .before in
     let t = r .before .before .before .before in
     let g = t .before .before .before .before .before .before in
     sym (length-take-le _ _ (parts-inside _ _ _ _ _ _ (t .if1 .left) (g .pre) (r .read .ensures) (a .a .given .1) .0))
 
-slice-reshare-prefix-tell-checked-2 : tie.Need-slice-reshare-prefix-tell-checked-2
-slice-reshare-prefix-tell-checked-2 c =
+slice-reshare-prefix-tell-collection-2 : tie.Need-slice-reshare-prefix-tell-collection-2
+slice-reshare-prefix-tell-collection-2 c =
     let a = c .before .before in
     let r = a .before .before .before .before .before .before .before .before in
     let t = r .before .before .before .before in
     let g = t .before .before .before .before .before .before in
     parts-inside _ _ _ _ _ _ (t .if1 .left) (g .pre) (r .read .ensures) (a .a .given .1) .1
 
-slice-aggregate-tell-checked-2 : tie.Need-slice-aggregate-tell-checked-2
-slice-aggregate-tell-checked-2 c =
+slice-aggregate-tell-collection-2 : tie.Need-slice-aggregate-tell-collection-2
+slice-aggregate-tell-collection-2 c =
     let a = c .before .before .before in
     let r = a .before .before .before .before .before .before .before .before in
     let t = r .before .before .before .before in
     let g = t .before .before .before .before .before .before in
     sym (length-take-le _ _ (parts-inside _ _ _ _ _ _ (t .if1 .left) (g .pre) (r .read .ensures) (a .a .given .1) .1))
 
-slice-reshare-prefix-tell-checked-3 : tie.Need-slice-reshare-prefix-tell-checked-3
-slice-reshare-prefix-tell-checked-3 c =
+slice-reshare-prefix-tell-collection-3 : tie.Need-slice-reshare-prefix-tell-collection-3
+slice-reshare-prefix-tell-collection-3 c =
     let a = c .before .before .before in
     let r = a .before .before .before .before .before .before .before .before in
     let t = r .before .before .before .before in
     let g = t .before .before .before .before .before .before in
     parts-inside _ _ _ _ _ _ (t .if1 .left) (g .pre) (r .read .ensures) (a .a .given .1) .2
 
-slice-aggregate-tell-checked-3 : tie.Need-slice-aggregate-tell-checked-3
-slice-aggregate-tell-checked-3 c =
+slice-aggregate-tell-collection-3 : tie.Need-slice-aggregate-tell-collection-3
+slice-aggregate-tell-collection-3 c =
     let a = c .before .before .before .before in
     let r = a .before .before .before .before .before .before .before .before in
     let t = r .before .before .before .before in
     let g = t .before .before .before .before .before .before in
     sym (length-take-le _ _ (parts-inside _ _ _ _ _ _ (t .if1 .left) (g .pre) (r .read .ensures) (a .a .given .1) .2))
 
-tell-checked-requires : tie.Need-tell-checked-requires
-tell-checked-requires c κs =
+tell-collection-requires : tie.Need-tell-collection-requires
+tell-collection-requires c κs =
     let a = c .before .before .before .before .before .before in
     let r = a .before .before .before .before .before .before .before .before in
     let t = r .before .before .before .before in
@@ -95,7 +95,7 @@ returns-2 c =
     let r = a .before .before .before .before .before .before .before .before in
     let t = r .before .before .before .before in
     let g = t .before .before .before .before .before .before in
-    read-told _ _ _ _ _ _ (t .if1 .left) (g .pre) (r .read .ensures) (a .a .given .1) (c .before .before .before .tell-checked .ensures)
+    read-told _ _ _ _ _ _ (t .if1 .left) (g .pre) (r .read .ensures) (a .a .given .1) (c .before .before .before .tell-collection .ensures)
 
 same-length-6 : tie.Need-same-length-6
 same-length-6 c = search needs
@@ -121,13 +121,13 @@ tell-spec =
     returns
     read-requires
     enum-known-a
-    slice-reshare-prefix-tell-checked
-    slice-aggregate-tell-checked
-    slice-reshare-prefix-tell-checked-2
-    slice-aggregate-tell-checked-2
-    slice-reshare-prefix-tell-checked-3
-    slice-aggregate-tell-checked-3
-    tell-checked-requires
+    slice-reshare-prefix-tell-collection
+    slice-aggregate-tell-collection
+    slice-reshare-prefix-tell-collection-2
+    slice-aggregate-tell-collection-2
+    slice-reshare-prefix-tell-collection-3
+    slice-aggregate-tell-collection-3
+    tell-collection-requires
     enum-known-a-2
     same-length
     same-length-2

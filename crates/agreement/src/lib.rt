@@ -1,1 +1,0 @@
-// QUICK and PLAIN agree: a definition and laws, no code.
