@@ -39,12 +39,26 @@ MOST_LETTERS = 1_048_576
 MOST_STRINGS = 65_536
 
 _BUILT = pathlib.Path(__file__).resolve().parents[2] / "target" / "hosts" / "python" / "libcorrivume.so"
-_library = ctypes.CDLL(os.environ.get("CORRIVUME_LIBRARY") or str(_BUILT))
 _LARGEST = ctypes.c_size_t(-1).value
 # The type code of an unsigned and a signed 32-bit array.
 _U32, _I32 = ("I", "i") if array("I").itemsize == 4 else ("L", "l")
 # How a buffer's format marks this machine's order of bytes, where it marks it.
 _NATIVE = "<" if sys.byteorder == "little" else ">"
+
+
+def _load() -> ctypes.CDLL:
+    """The shared library: where the variable says, else where `build` puts it."""
+    path = os.environ.get("CORRIVUME_LIBRARY") or str(_BUILT)
+    try:
+        return ctypes.CDLL(path)
+    except OSError as error:
+        raise ImportError(
+            f"no shared library at {path} ({error}); make it, from the root of the repository, by "
+            "`rt staticlib exports` and then `hosts/python/build`"
+        ) from error
+
+
+_library = _load()
 
 _SENTENCES = {
     1: "a lent output or work table is too short",

@@ -1,4 +1,4 @@
-"""The examples of document 01, refusals, inputs of every kind, and seeded collections beside a dict of words."""
+"""The worked examples, refusals, inputs of every kind, and seeded collections beside a dict of words."""
 
 import ctypes
 import doctest

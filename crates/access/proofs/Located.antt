@@ -24,8 +24,10 @@ position-in {k} {ends} g handle i w =
     let b : ℕ = length (kmers k (take i ends)) in
     let j : ℕ = handle - 1 - b in
     let s = start-count g i (omega (arith, w .inside)) in
-    let cut : ends ≡ take i ends ++ (e ∷ drop (suc i) ends) = sym (take-append-drop i ends) ∙ ap (λ (l : List ℕ). take i ends ++ l) (drop-cons ends i 0 (w .inside)) in
-    let all : kmers k ends ≡ kmers k (take i ends) ++ (countFrom a (within k a e) ++ kmersFrom k e (drop (suc i) ends)) = ap (kmers k) cut ∙ kmers-split k 0 (take i ends) (e ∷ drop (suc i) ends) in
+    let cut : ends ≡ take i ends ++ (e ∷ drop (suc i) ends) =
+    sym (take-append-drop i ends) ∙ ap (λ (l : List ℕ). take i ends ++ l) (drop-cons ends i 0 (w .inside)) in
+    let all : kmers k ends ≡ kmers k (take i ends) ++ (countFrom a (within k a e) ++ kmersFrom k e (drop (suc i) ends)) =
+    ap (kmers k) cut ∙ kmers-split k 0 (take i ends) (e ∷ drop (suc i) ends) in
     let one : take (i + 1) ends ≡ take i ends ++ (e ∷ []) = ap (λ (n : ℕ). take n ends) (add-one i) ∙ take-suc ends i 0 (w .inside) in
     let count : length (kmers k (take (i + 1) ends)) ≡ b + within k a e =
     ap (λ (l : List ℕ). length (kmers k l)) one
@@ -78,4 +80,9 @@ halving-begins k handle ends h l =
 pub halving-ends : {k handle low high : ℕ} {ends : List ℕ} → Halving k ends handle low high → high ≤ low → Holds k ends handle low
 halving-ends {k} {handle} {low} {high} {ends} w h =
     let q : high ≡ low = omega (arith, w .order) in
-    record { inside = omega (arith, w .order, w .inside); before = w .before; up-to = subst (λ (n : ℕ). handle ≤ length (kmers k (take (n + 1) ends))) q (w .up-to) }
+    record {
+      inside =
+          omega (arith, w .order, w .inside);
+      before = w .before;
+      up-to = subst (λ (n : ℕ). handle ≤ length (kmers k (take (n + 1) ends))) q (w .up-to);
+    }

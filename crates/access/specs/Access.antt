@@ -1,4 +1,5 @@
 -- ACCESS: the k letters of a handle, as a part of the lent letters.
+-- Specification: 9.11.
 use mathlib.Core.List.{List, []}
 use Prim.Native.Nat.{ℕ}
 use lib.ListN.{take, drop}

@@ -17,7 +17,9 @@ pub enum AccessAnswer {
 
 // ACCESS: the k letters of a handle as a part of the lent letters, not a copy; refused, the empty part at their start.
 pub fn access<'a>(k: usize, letters: &'a [u8], ends: &[u32], handle: usize) -> &'a [u8]
-    ensures { λ r. ⌜ (now r ≡ accessPart (spelling k (now (letters .entry)) (now (ends .entry))) handle) × (r .ptr .0 ≡ letters .entry .ptr .0) × (r .ptr .1 ≡ letters .entry .ptr .1 + accessStart (spelling k (now (letters .entry)) (now (ends .entry))) handle) ⌝ }
+    ensures { λ r.
+        ⌜ (now r ≡ accessPart (spelling k (now (letters .entry)) (now (ends .entry))) handle) × (r .ptr .0 ≡ letters .entry .ptr .0)
+        × (r .ptr .1 ≡ letters .entry .ptr .1 + accessStart (spelling k (now (letters .entry)) (now (ends .entry))) handle) ⌝ }
 {
     let v = locating::judge_access(k, letters, ends, handle);
     let Verdict::Good = v else {

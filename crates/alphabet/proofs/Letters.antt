@@ -1,12 +1,13 @@
 -- Laws of letters: the tests and the bits that the machine takes agree with the one definition, `letter`. Assumes nothing.
 use mathlib.Core.Path.{_≡_, refl, sym, ap, _∙_, subst}
-use mathlib.Core.Bool.{Bool, true, false, _||_, false≢true}
+use mathlib.Core.Bool.{Bool, true, false, _||_}
 use Prim.Native.Nat.{ℕ, zero, suc, _/_, _^_, _<_}
 use native.Mathlib.Omega.{arith}
 use lib.Bits.{bitAnd, and-le-r, xor-lt}
 use lib.Dec.{eqb, ltb}
 use borrow.Author.Tests.{eqb-true, ltb-true, lt-ltb}
 use Rattle.lists.specs.Choose.{choose}
+use Rattle.lists.proofs.Refuted.{never}
 use Rattle.alphabet.specs.Letter.{letter, isLetter, capital, twoBits}
 
 -- of any byte, letter or not
@@ -42,7 +43,7 @@ letter-bits b = go (eqb b 65) refl (eqb b 67) refl (eqb b 71) refl (eqb b 84) re
     go false _ true e u _ v _ h = ap twoBits (eqb-true b 67 e)
     go false _ false _ true e v _ h = ap twoBits (eqb-true b 71 e)
     go false _ false _ false _ true e h = ap twoBits (eqb-true b 84 e)
-    go false _ false _ false _ false _ h = absurd (false≢true h)
+    go false _ false _ false _ false _ h = never h
 
 -- the capital of a letter's code is the letter
 pub capital-letter : (b : ℕ) → isLetter b ≡ true → capital (letter b) ≡ b
@@ -55,7 +56,7 @@ capital-letter b = go (eqb b 65) refl (eqb b 67) refl (eqb b 71) refl (eqb b 84)
     go false _ true e u _ v _ h = sym (eqb-true b 67 e)
     go false _ false _ true e v _ h = sym (eqb-true b 71 e)
     go false _ false _ false _ true e h = sym (eqb-true b 84 e)
-    go false _ false _ false _ false _ h = absurd (false≢true h)
+    go false _ false _ false _ false _ h = never h
 
 -- so two bytes that are letters with one code are one byte
 pub letter-injective : (a b : ℕ) → isLetter a ≡ true → isLetter b ≡ true → letter a ≡ letter b → a ≡ b

@@ -1,4 +1,5 @@
 -- Letters: the capitals A C G T, with codes 0 1 2 3. No other place says which byte is which letter.
+-- Specification: 2.1.
 use mathlib.Core.Bool.{Bool}
 use Prim.Native.Nat.{ℕ, _-_, _/_, _^_}
 use lib.Bits.{bitAnd, bitXor}

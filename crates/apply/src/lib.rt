@@ -3,9 +3,11 @@ mod judging;
 
 use collection::Verdict;
 ghost use mathlib.Core.Path.{_≡_};
-ghost use Rattle.apply.specs.Apply.{lent, roomsOf, outcome, placedOf, applyOf};
+ghost use lib.ListN.{length};
+ghost use Rattle.apply.specs.Apply.{lent, outcome, placedOf, applyOf};
 ghost use Rattle.apply.specs.Ready.{Ready};
 ghost use Rattle.collection.specs.Collection.{collection};
+ghost use Rattle.collection.specs.Tables.{tables, roomsOf};
 
 // What APPLY answers: how many letters, ends and weights it filled.
 pub enum ApplyAnswer {
@@ -32,8 +34,12 @@ fn apply_places(
     new_weights: &mut [u32],
     work: &mut [u32],
 ) -> ApplyAnswer
-    requires { ⌜ Ready (collection k (now letters) (now ends) (now weights)) (roomsOf (lent (now «new_letters») (now «new_ends») (now «new_weights») (now work))) ⌝ }
-    ensures { λ r. ⌜ outcome r (lent (now («new_letters» .exit)) (now («new_ends» .exit)) (now («new_weights» .exit)) (now (work .exit))) ≡ placedOf (collection k (now (letters .entry)) (now (ends .entry)) (now (weights .entry))) (now (signed .entry)) (lent (now («new_letters» .entry)) (now («new_ends» .entry)) (now («new_weights» .entry)) (now (work .entry))) ⌝ }
+    requires { ⌜ Ready (collection k (now letters) (now ends) (now weights))
+        (roomsOf (tables (now «new_letters») (now «new_ends») (now «new_weights»))) (length (now work)) ⌝ }
+    ensures { λ r.
+        ⌜ outcome r (lent (tables (now («new_letters» .exit)) (now («new_ends» .exit)) (now («new_weights» .exit))) (now (work .exit)))
+        ≡ placedOf (collection k (now (letters .entry)) (now (ends .entry)) (now (weights .entry))) (now (signed .entry))
+        (lent (tables (now («new_letters» .entry)) (now («new_ends» .entry)) (now («new_weights» .entry))) (now (work .entry))) ⌝ }
 {
     let m = ends.len();
     let v = apply_places::inner::judge_places(signed, work, m);
@@ -72,7 +78,10 @@ pub fn apply(
     new_weights: &mut [u32],
     work: &mut [u32],
 ) -> ApplyAnswer
-    ensures { λ r. ⌜ outcome r (lent (now («new_letters» .exit)) (now («new_ends» .exit)) (now («new_weights» .exit)) (now (work .exit))) ≡ applyOf (collection k (now (letters .entry)) (now (ends .entry)) (now (weights .entry))) (now (signed .entry)) (lent (now («new_letters» .entry)) (now («new_ends» .entry)) (now («new_weights» .entry)) (now (work .entry))) ⌝ }
+    ensures { λ r.
+        ⌜ outcome r (lent (tables (now («new_letters» .exit)) (now («new_ends» .exit)) (now («new_weights» .exit))) (now (work .exit)))
+        ≡ applyOf (collection k (now (letters .entry)) (now (ends .entry)) (now (weights .entry))) (now (signed .entry))
+        (lent (tables (now («new_letters» .entry)) (now («new_ends» .entry)) (now («new_weights» .entry))) (now (work .entry))) ⌝ }
 {
     let v = judging::judge_tables(
         k,

@@ -94,8 +94,10 @@ marks-more m work places a p q r u marks b h = go (ℕ-discrete (suc b) a)
         ∙ (marks b h ∙ sym (first-snoc-other (eqb (suc b)) places a (ne-eqb (suc b) a n)))
 
 -- the places, sign aside, of the first strings, with one more
-pub sizes-more : (places : List ℤ) (i : ℕ) → i < length places → map natAbs (take (i + 1) places) ≡ map natAbs (take i places) ++ (natAbs (getD places i (pos 0)) ∷ [])
-sizes-more places i l = ap (λ (n : ℕ). map natAbs (take n places)) (add-one i) ∙ (ap (map natAbs) (take-suc places i (pos 0) l) ∙ map-snoc (take i places) (getD places i (pos 0)))
+pub sizes-more : (places : List ℤ) (i : ℕ) → i < length places
+    → map natAbs (take (i + 1) places) ≡ map natAbs (take i places) ++ (natAbs (getD places i (pos 0)) ∷ [])
+sizes-more places i l =
+    ap (λ (n : ℕ). map natAbs (take n places)) (add-one i) ∙ (ap (map natAbs) (take-suc places i (pos 0) l) ∙ map-snoc (take i places) (getD places i (pos 0)))
   where
     map-snoc : (ps : List ℤ) (p : ℤ) → map natAbs (ps ++ (p ∷ [])) ≡ map natAbs ps ++ (natAbs p ∷ [])
     map-snoc [] p = refl
@@ -118,7 +120,8 @@ pub record Marking (m : ℕ) (places : List ℤ) (before work : List ℕ) (i : �
 pub marking-begins : (places : List ℤ) (work : List ℕ) → take (length places) work ≡ replicate (length places) 0 → Marking (length places) places work work 0
 marking-begins places work e = record { inside = omega arith; size = refl; rest = refl; marks = marks-none (length places) work e; first = refl }
 
-module _ {m : ℕ} {places : List ℤ} {before work : List ℕ} {i : ℕ} (w : Marking m places before work i) (l : i < length places) (a : ℕ) (e : a ≡ natAbs (getD places i (pos 0))) where
+module _ {m : ℕ} {places : List ℤ} {before work : List ℕ} {i : ℕ} (w : Marking m places before work i) (l : i < length places) (a : ℕ)
+    (e : a ≡ natAbs (getD places i (pos 0))) where
   -- the places before, sign aside
   abbrev pub earlier : List ℕ
   earlier = map natAbs (take i places)
@@ -143,7 +146,8 @@ module _ {m : ℕ} {places : List ℤ} {before work : List ℕ} {i : ℕ} (w : M
           inside = omega arith;
           size = length-set work (a - 1) (i + 1) ∙ w .size;
           rest = drop-set-lt m work (a - 1) (i + 1) (omega arith) ∙ w .rest;
-          marks = subst (λ (ys : List ℕ). Marks m (set work (a - 1) (i + 1)) ys) s (subst (λ (x : ℕ). Marks m (set work (a - 1) (x + 1)) (es ++ (a ∷ []))) n (marks-more m work es a nz high r h (w .marks)));
+          marks = subst (λ (ys : List ℕ). Marks m (set work (a - 1) (i + 1)) ys) s
+              (subst (λ (x : ℕ). Marks m (set work (a - 1) (x + 1)) (es ++ (a ∷ []))) n (marks-more m work es a nz high r h (w .marks)));
           first =
               w .first
               ∙ (bad-later m places i es l (ap (badPlace m es) (sym e) ∙ good-place m es a nz high h)
@@ -151,7 +155,8 @@ module _ {m : ℕ} {places : List ℤ} {before work : List ℕ} {i : ℕ} (w : M
         }
 
 -- all places passed
-pub marking-ends : {places : List ℤ} {before work : List ℕ} {i : ℕ} → Marking (length places) places before work i → length places ≤ i → Scanned (length places) places before work 0
+pub marking-ends : {places : List ℤ} {before work : List ℕ} {i : ℕ} → Marking (length places) places before work i → length places ≤ i
+    → Scanned (length places) places before work 0
 marking-ends {places} {before} {work} {i} w l =
     record {
       first = sym (w .first ∙ bad-none (length places) i (map natAbs (take i places)) places l);
@@ -168,19 +173,22 @@ unfolding placesVerdict
 judged-number m places work n = record { judged = rw (ne-eqb (length places) m n); size = refl; rest = refl; marked = λ q. absurd (bad-good q) }
 
 -- m places, judged one after the other over zeros
-pub judged-each : (m : ℕ) (places : List ℤ) (before zeros after : List ℕ) (r : ℕ) (verdict : Verdict) → length places ≡ m → m ≤ length before → zeros ≡ fill (replicate m 0) before
+pub judged-each : (m : ℕ) (places : List ℤ) (before zeros after : List ℕ) (r : ℕ) (verdict : Verdict) → length places ≡ m → m ≤ length before
+    → zeros ≡ fill (replicate m 0) before
     → Scanned (length places) places zeros after r → verdict ≡ atPlace 8 r → (verdict ≡ Good → r ≡ 0) → PlacesJudged m places before after verdict
 unfolding placesVerdict
 judged-each m places before zeros after r verdict e l z s v g =
     record {
-      judged = v ∙ (ap (atPlace 8) (s .first ∙ ap (λ (n : ℕ). firstBad n 0 [] places) e) ∙ sym (ap (λ (b : Bool). choose b (atPlace 8 (firstBad m 0 [] places)) (Bad 8 0)) (eq-eqb (length places) m e)));
+      judged = v ∙ (ap (atPlace 8) (s .first ∙ ap (λ (n : ℕ). firstBad n 0 [] places) e)
+          ∙ sym (ap (λ (b : Bool). choose b (atPlace 8 (firstBad m 0 [] places)) (Bad 8 0)) (eq-eqb (length places) m e)));
       size = s .size ∙ (ap length z ∙ length-fill (replicate m 0) before (omega (arith, length-replicate {A = ℕ} m 0)));
       rest = subst (λ (n : ℕ). drop n after ≡ drop n zeros) e (s .rest) ∙ (ap (drop m) z ∙ drop-fill (replicate m 0) before m (length-replicate {A = ℕ} m 0));
       marked = λ q. subst (λ (n : ℕ). Marks n after (map natAbs places)) e (s .marked (g q));
     }
 
 -- zeroed work is ready for the marks of n places
-pub zeros-ready : (m n : ℕ) (work before : List ℕ) → n ≡ m → m ≤ length before → work ≡ fill (replicate m 0) before → (n ≤ length work) × (take n work ≡ replicate n 0)
+pub zeros-ready : (m n : ℕ) (work before : List ℕ) → n ≡ m → m ≤ length before → work ≡ fill (replicate m 0) before
+    → (n ≤ length work) × (take n work ≡ replicate n 0)
 zeros-ready m n work before e l z =
     let k = length-replicate {A = ℕ} m 0 in (
       omega (arith, ap length z, length-fill (replicate m 0) before (omega arith)),

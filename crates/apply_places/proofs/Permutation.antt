@@ -1,4 +1,5 @@
--- Places that pass 8 are a signed permutation, and a signed permutation passes: none is bad exactly if all are from 1 to m and none is used twice. Assumes nothing.
+-- Places that pass 8 are a signed permutation, and a signed permutation passes: none is bad exactly if all are from 1 to m and none is used twice. Assumes
+-- nothing.
 use mathlib.Core.Path.{_≡_, refl, sym, ap, _∙_}
 use mathlib.Core.Bool.{Bool, true, false, not, _||_}
 use mathlib.Core.Logic.{inl, inr}
@@ -23,6 +24,7 @@ use Rattle.cover_trails.specs.Counting.{occurs}
 use Rattle.cover_trails.specs.Places.{SignedPermutation}
 use Rattle.cover_trails.proofs.Arranged.{permutation-if-apart}
 use Rattle.lists.proofs.Agree.{Agreeing, agree-same, agree-other, agree-cases}
+use Rattle.lists.proofs.Refuted.{refuted}
 use Rattle.cover_trails.proofs.Counting.{occurs-at, occurs-between}
 use Rattle.apply_places.specs.Places.{holder, badPlace, firstBad, placesVerdict}
 use Rattle.apply_places.proofs.Marking.{good-place}
@@ -51,9 +53,9 @@ unfolding badPlace
 fine m earlier a h = go (eqb a 0) (ltb m a) (eqb (holder a earlier) 0) refl refl refl h
   where
     go : (t u v : Bool) → eqb a 0 ≡ t → ltb m a ≡ u → eqb (holder a earlier) 0 ≡ v → ((t || u) || not v) ≡ false → Fine m earlier a
-    go true u v x y z q = let o : _≡_ {A = ℕ} 0 1 = cc in absurd (omega arith)
-    go false true v x y z q = let o : _≡_ {A = ℕ} 0 1 = cc in absurd (omega arith)
-    go false false false x y z q = let o : _≡_ {A = ℕ} 0 1 = cc in absurd (omega arith)
+    go true u v x y z q = refuted (cc)
+    go false true v x y z q = refuted (cc)
+    go false false false x y z q = refuted (cc)
     go false false true x y z q =
         let n = eqb-false a 0 x in
         record {
@@ -78,7 +80,8 @@ apart m i earlier [] o h = record { range = tt; once = λ a. omega (arith, o a) 
 apart m i earlier (p ∷ places) o h = go (badPlace m earlier (natAbs p)) refl h (apart m (suc i) (earlier ++ (natAbs p ∷ [])) places)
   where
     go : (t : Bool) → badPlace m earlier (natAbs p) ≡ t → choose t (suc i) (firstBad m (suc i) (earlier ++ (natAbs p ∷ [])) places) ≡ 0
-        → (((a : ℕ) → occurs a (earlier ++ (natAbs p ∷ [])) ≤ 1) → firstBad m (suc i) (earlier ++ (natAbs p ∷ [])) places ≡ 0 → Apart m (earlier ++ (natAbs p ∷ [])) places)
+        → (((a : ℕ) → occurs a (earlier ++ (natAbs p ∷ [])) ≤ 1) → firstBad m (suc i) (earlier ++ (natAbs p ∷ [])) places ≡ 0
+        → Apart m (earlier ++ (natAbs p ∷ [])) places)
         → Apart m earlier (p ∷ places)
     go true e q ih = absurd (omega arith)
     go false e q ih =
@@ -129,7 +132,8 @@ twice w (x ∷ xs) zero (suc j) l b e f = omega (arith, agree-same w x (sym e), 
 twice w (x ∷ xs) (suc i) (suc j) l b e f = omega (arith, twice w xs i j (omega arith) (omega arith) e f)
 
 -- no two strings have one place
-pub one-string : {m : ℕ} {places : List ℤ} → SignedPermutation m places → (i j : ℕ) → i < m → j < m → natAbs (getD places i (pos 0)) ≡ natAbs (getD places j (pos 0)) → i ≡ j
+pub one-string : {m : ℕ} {places : List ℤ} → SignedPermutation m places → (i j : ℕ) → i < m → j < m
+    → natAbs (getD places i (pos 0)) ≡ natAbs (getD places j (pos 0)) → i ≡ j
 one-string {m} {places} s i j l b e = go (decLt i j) (decLt j i)
   where
     not-twice : (i j : ℕ) → i < j → j < m → natAbs (getD places i (pos 0)) ≡ natAbs (getD places j (pos 0)) → ⊥
@@ -139,7 +143,8 @@ one-string {m} {places} s i j l b e = go (decLt i j) (decLt j i)
         omega (
           arith,
           s .once w (r .0) (r .1),
-          twice w (map natAbs places) i j l (omega (arith, length-map places natAbs, s .number)) (map-at natAbs (pos 0) places i ∙ e) (map-at natAbs (pos 0) places j),
+          twice w (map natAbs places) i j l (omega (arith, length-map places natAbs, s .number)) (map-at natAbs (pos 0) places i ∙ e)
+              (map-at natAbs (pos 0) places j),
         )
 
     go : Dec (i < j) → Dec (j < i) → i ≡ j

@@ -7,10 +7,11 @@ use native.Mathlib.Omega.{arith}
 use borrow.Author.Tests.{le-ltb}
 use lib.Dec.{T}
 use lib.IntN.{ℤ, pos, negsuc, natAbs, _-ℤ_}
-use lib.Signed.{ltZ, mag, nonNeg}
+use lib.Signed.{ltZ, nonNeg}
 use mir.Syntax.{w32, w64}
 use mir.Val.{SFits, Fits, toZ, ofZ}
 use mir.ValLaws.{toZ-ofZ}
+use Rattle.lists.proofs.Refuted.{refuted}
 use Rattle.cover_trails.specs.Places.{isTurned}
 
 wide : {z : ℤ} → SFits w32 z → SFits w64 z
@@ -35,12 +36,12 @@ below-zero (pos n) f = ap (λ (x : ℤ). ltZ x (pos 0)) (same (pos n) f) ∙ no-
 below-zero (negsuc n) f = ap (λ (x : ℤ). ltZ x (pos 0)) (same (negsuc n) f)
 
 sized-neg : (z : ℤ) → isTurned z ≡ true → pos 0 -ℤ z ≡ pos (natAbs z)
-sized-neg (pos n) h = let q : _≡_ {A = ℕ} 0 1 = cc in absurd (omega arith)
+sized-neg (pos n) h = refuted (cc)
 sized-neg (negsuc n) h = ap pos (zero-add (suc n))
 
 sized-pos : (z : ℤ) → isTurned z ≡ false → z ≡ pos (natAbs z)
 sized-pos (pos n) h = refl
-sized-pos (negsuc n) h = let q : _≡_ {A = ℕ} 0 1 = cc in absurd (omega arith)
+sized-pos (negsuc n) h = refuted (cc)
 
 -- no size is beyond 2 ^ 31
 pub size-high : (z : ℤ) → SFits w32 z → natAbs z ≤ 2147483648
@@ -74,7 +75,3 @@ module _ (z : ℤ) (f : SFits w32 z) (h : ltZ (toZ w32 (ofZ w32 z)) (pos 0) ≡ 
 
   pub pos-size : natAbs (toZ w32 (ofZ w32 z)) ≡ natAbs z
   pos-size = ap natAbs stays
-
--- a number that went through memory or a call is the number
-pub kept : (z : ℤ) → mag z < 2147483648 → toZ w32 (ofZ w32 z) ≡ z
-kept z h = toZ-ofZ w32 z (record { sfits = h })

@@ -1,4 +1,5 @@
 -- 8: when signed places are refused.
+-- Specification: 8.2.
 use mathlib.Core.Bool.{Bool, not, _||_}
 use mathlib.Core.List.{List, [], _∷_, _++_}
 use Prim.Native.Nat.{ℕ, suc}

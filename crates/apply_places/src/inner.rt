@@ -4,6 +4,7 @@ ghost use mathlib.Core.Path.{_≡_};
 ghost use Prim.Native.Nat.{_≤_};
 ghost use lib.IntN.{natAbs};
 ghost use lib.ListN.{length, take, replicate};
+ghost use Rattle.lists.specs.Limits.{mostStrings};
 ghost use Rattle.cover_trails.specs.Places.{isTurned};
 ghost use Rattle.apply_places.specs.Marks.{Scanned};
 ghost use Rattle.apply_places.specs.Judged.{PlacesJudged};
@@ -28,7 +29,8 @@ pub fn is_turned(p: i32) -> bool
 
 // The first string with a bad place, from 1, or 0. Work names the string of each place that was met.
 fn mark_places(signed: &[i32], work: &mut [u32]) -> usize
-    requires { ⌜ (length (now signed) ≤ 65536) × (length (now signed) ≤ length (now work)) × (take (length (now signed)) (now work) ≡ replicate (length (now signed)) 0) ⌝ }
+    requires { ⌜ (length (now signed) ≤ mostStrings) × (length (now signed) ≤ length (now work))
+        × (take (length (now signed)) (now work) ≡ replicate (length (now signed)) 0) ⌝ }
     ensures { λ r. ⌜ Scanned (length (now (signed .entry))) (now (signed .entry)) (now (work .entry)) (now (work .exit)) r ⌝ }
 {
     let m = signed.len();
@@ -53,7 +55,7 @@ fn mark_places(signed: &[i32], work: &mut [u32]) -> usize
 
 // 8: not m places, or the first string whose place is zero, beyond m or used by an earlier string.
 pub fn judge_places(signed: &[i32], work: &mut [u32], m: usize) -> Verdict
-    requires { ⌜ (m ≤ 65536) × (m ≤ length (now work)) ⌝ }
+    requires { ⌜ (m ≤ mostStrings) × (m ≤ length (now work)) ⌝ }
     ensures { λ r. ⌜ PlacesJudged m (now (signed .entry)) (now (work .entry)) (now (work .exit)) r ⌝ }
 {
     if signed.len() != m {

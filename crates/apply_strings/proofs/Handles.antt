@@ -32,7 +32,8 @@ use Rattle.apply_strings.proofs.Reordered.{reordered-passes, reordered-
 
 module _ {k : ℕ} {ends : List ℕ} (g : Long k ends) (i a : ℕ) (l : i < length ends) (b : a < within k (startOf ends i) (getD ends i 0)) where
   -- the k-mers of the strings before, then those of string i, then the others
-  split : kmers k ends ≡ kmers k (take i ends) ++ (countFrom (startOf ends i) (within k (startOf ends i) (getD ends i 0)) ++ kmersFrom k (getD ends i 0) (drop (i + 1) ends))
+  split : kmers k ends
+      ≡ kmers k (take i ends) ++ (countFrom (startOf ends i) (within k (startOf ends i) (getD ends i 0)) ++ kmersFrom k (getD ends i 0) (drop (i + 1) ends))
   split =
       ap (kmers k) (sym (take-append-drop i ends))
       ∙ (kmers-split k 0 (take i ends) (drop i ends) ∙ ap (λ (r : List ℕ). kmers k (take i ends) ++ r) (kmers-next k (startOf ends i) ends i l))
@@ -48,7 +49,8 @@ module _ {k : ℕ} {ends : List ℕ} (g : Long k ends) (i a : ℕ) (l : i < leng
       omega (
         arith,
         ap length split,
-        length-append (kmers k (take i ends)) (countFrom (startOf ends i) (within k (startOf ends i) (getD ends i 0)) ++ kmersFrom k (getD ends i 0) (drop (i + 1) ends)),
+        length-append (kmers k (take i ends))
+            (countFrom (startOf ends i) (within k (startOf ends i) (getD ends i 0)) ++ kmersFrom k (getD ends i 0) (drop (i + 1) ends)),
         length-append (countFrom (startOf ends i) (within k (startOf ends i) (getD ends i 0))) (kmersFrom k (getD ends i 0) (drop (i + 1) ends)),
         before-is,
         numbers,
@@ -58,13 +60,16 @@ module _ {k : ℕ} {ends : List ℕ} (g : Long k ends) (i a : ℕ) (l : i < leng
   kmer-position =
       ap (λ (n : ℕ). getD (kmers k ends) (n + a) 0) (sym before-is)
       ∙ (ap (λ (r : List ℕ). getD r (length (kmers k (take i ends)) + a) 0) split
-      ∙ (getD-append-add (kmers k (take i ends)) (countFrom (startOf ends i) (within k (startOf ends i) (getD ends i 0)) ++ kmersFrom k (getD ends i 0) (drop (i + 1) ends)) a 0
-      ∙ (List·getD-append (countFrom (startOf ends i) (within k (startOf ends i) (getD ends i 0))) (kmersFrom k (getD ends i 0) (drop (i + 1) ends)) 0 a (omega (arith, numbers))
+      ∙ (getD-append-add (kmers k (take i ends))
+      (countFrom (startOf ends i) (within k (startOf ends i) (getD ends i 0)) ++ kmersFrom k (getD ends i 0) (drop (i + 1) ends)) a 0
+      ∙ (List·getD-append (countFrom (startOf ends i) (within k (startOf ends i) (getD ends i 0))) (kmersFrom k (getD ends i 0) (drop (i + 1) ends)) 0 a
+      (omega (arith, numbers))
       ∙ count-at (startOf ends i) (within k (startOf ends i) (getD ends i 0)) a b)))
 
   -- its word and its weight are those of the string
   module _ (letters weights : List ℕ) where
-    kmer-word : wordAt k letters (getD (kmers k ends) (firstOf k ends i + a) 0) ≡ wordAt k (getD (strings (collection k letters ends weights)) i none .letters) a
+    kmer-word : wordAt k letters (getD (kmers k ends) (firstOf k ends i + a) 0)
+        ≡ wordAt k (getD (strings (collection k letters ends weights)) i none .letters) a
     kmer-word =
         ap (wordAt k letters) kmer-position
         ∙ (ap (λ (r : List ℕ). spell (take k r)) (sym (drop-drop a (startOf ends i) letters))
@@ -80,7 +85,8 @@ module _ {k : ℕ} {ends : List ℕ} (g : Long k ends) (i a : ℕ) (l : i < leng
 -- ─── from a handle to a string ───────────────────────────────────────────────
 
 located : (k before : ℕ) (ends : List ℕ) (t : ℕ) → t < length (kmersFrom k before ends)
-    → (i : ℕ) × (a : ℕ) × (i < length ends) × (a < within k (lastEnd before (take i ends)) (getD ends i 0)) × (t ≡ length (kmersFrom k before (take i ends)) + a)
+    → (i : ℕ) × (a : ℕ) × (i < length ends) × (a < within k (lastEnd before (take i ends)) (getD ends i 0))
+    × (t ≡ length (kmersFrom k before (take i ends)) + a)
 unfolding kmersFrom lastEnd
 located k before [] t l = absurd (omega arith)
 located k before (e ∷ ends) t l = go (decLt t (within k before e)) (located k e ends (t - within k before e))
@@ -90,8 +96,10 @@ located k before (e ∷ ends) t l = go (decLt t (within k before e)) (located k 
 
     go : Dec (t < within k before e)
         → (t - within k before e < length (kmersFrom k e ends)
-        → (i : ℕ) × (a : ℕ) × (i < length ends) × (a < within k (lastEnd e (take i ends)) (getD ends i 0)) × (t - within k before e ≡ length (kmersFrom k e (take i ends)) + a))
-        → (i : ℕ) × (a : ℕ) × (i < suc (length ends)) × (a < within k (lastEnd before (take i (e ∷ ends))) (getD (e ∷ ends) i 0)) × (t ≡ length (kmersFrom k before (take i (e ∷ ends))) + a)
+        → (i : ℕ) × (a : ℕ) × (i < length ends) × (a < within k (lastEnd e (take i ends)) (getD ends i 0))
+        × (t - within k before e ≡ length (kmersFrom k e (take i ends)) + a))
+        → (i : ℕ) × (a : ℕ) × (i < suc (length ends)) × (a < within k (lastEnd before (take i (e ∷ ends))) (getD (e ∷ ends) i 0))
+        × (t ≡ length (kmersFrom k before (take i (e ∷ ends))) + a)
     go (yes q) ih = (0, t, omega arith, q, omega arith)
     go (no q) ih =
         let u = ih (omega (arith, length-append (countFrom before (within k before e)) (kmersFrom k e ends), n)) in
@@ -108,12 +116,13 @@ module _ (c : Collection) (passes : Passes c) (word : List ℕ) (weight : ℕ) w
   long = shape-long (judged .shape)
 
   number : length (strings c) ≡ length c.ends
-  number = strings-count c.k 0 c.letters c.ends c.weights
+  number = strings-count c
 
   weights-within : (i : ℕ) → i < length c.ends → length (getD (strings c) i none .weights) ≡ within c.k (startOf c.ends i) (getD c.ends i 0)
   weights-within i l =
       ap (λ (s : Str). length (s .weights)) (string-at c none long i l)
-      ∙ length-take-le (within c.k (startOf c.ends i) (getD c.ends i 0)) (drop (firstOf c.k c.ends i) c.weights) (rw length-drop (omega (arith, last-inside long i l, judged .counted, judged .shape .last)))
+      ∙ length-take-le (within c.k (startOf c.ends i) (getD c.ends i 0)) (drop (firstOf c.k c.ends i) c.weights)
+      (rw length-drop (omega (arith, last-inside long i l, judged .counted, judged .shape .last)))
 
   -- from strings to handles
   pub handle-weighs : Weighs c.k (strings c) word weight → WeighsAt c word weight
@@ -127,7 +136,8 @@ module _ (c : Collection) (passes : Passes c) (word : List ℕ) (weight : ℕ) w
         t + 1,
         omega arith,
         omega (arith, kmer-inside long i a l b),
-        subst (λ (v : List ℕ). (v ≡ word) ⊎ (turn v ≡ word)) (sym (kmer-word long i a l b c.letters c.weights) ∙ ap (λ (n : ℕ). wordAt c.k c.letters (getD (kmers c.k c.ends) n 0)) q) (u .2 .2),
+        subst (λ (v : List ℕ). (v ≡ word) ⊎ (turn v ≡ word))
+            (sym (kmer-word long i a l b c.letters c.weights) ∙ ap (λ (n : ℕ). wordAt c.k c.letters (getD (kmers c.k c.ends) n 0)) q) (u .2 .2),
         ap (λ (n : ℕ). getD c.weights n 0) (sym q) ∙ (kmer-weight long i a l b c.letters c.weights ∙ u .2 .3),
       )
 
@@ -145,7 +155,8 @@ module _ (c : Collection) (passes : Passes c) (word : List ℕ) (weight : ℕ) w
         (
           a,
           omega (arith, weights-within i l),
-          subst (λ (v : List ℕ). (v ≡ word) ⊎ (turn v ≡ word)) (ap (λ (n : ℕ). wordAt c.k c.letters (getD (kmers c.k c.ends) n 0)) q ∙ kmer-word long i a l b c.letters c.weights) (u .3),
+          subst (λ (v : List ℕ). (v ≡ word) ⊎ (turn v ≡ word))
+              (ap (λ (n : ℕ). wordAt c.k c.letters (getD (kmers c.k c.ends) n 0)) q ∙ kmer-word long i a l b c.letters c.weights) (u .3),
           sym (kmer-weight long i a l b c.letters c.weights) ∙ (ap (λ (n : ℕ). getD c.weights n 0) (sym q) ∙ u .4),
         ),
       )

@@ -12,21 +12,16 @@ use Rattle.collection.specs.Kmers.{within}
 use Rattle.collection.specs.Ready.{Long}
 use Rattle.collection.specs.Strings.{Str, stringsFrom, strings}
 use Rattle.collection.proofs.Judged.{long-cons, ends-room}
+use Rattle.collection.proofs.Kmers.{last-take}
 use Rattle.apply_strings.specs.Parts.{startOf, firstOf}
 
 -- ─── starts and ends ─────────────────────────────────────────────────────────
-
-start-from : (before j : ℕ) (ends : List ℕ) → j < length ends → lastEnd before (take (suc j) ends) ≡ getD ends j 0
-unfolding lastEnd
-start-from before j [] h = absurd (omega arith)
-start-from before zero (e ∷ ends) h = refl
-start-from before (suc j) (e ∷ ends) h = start-from e j ends (omega arith)
 
 -- a later string starts where the one before ends
 pub start-later : (ends : List ℕ) (i : ℕ) → (i ≡ 0 → ⊥) → i < length ends → getD ends (i - 1) 0 ≡ startOf ends i
 start-later ends i n l =
     let q : suc (i - 1) ≡ i = omega arith in
-    sym (start-from 0 (i - 1) ends (omega arith)) ∙ ap (λ (j : ℕ). lastEnd 0 (take j ends)) q
+    sym (last-take 0 (i - 1) ends (omega arith)) ∙ ap (λ (j : ℕ). lastEnd 0 (take j ends)) q
 
 -- the first starts at 0
 pub start-first : (ends : List ℕ) (i : ℕ) → i ≡ 0 → 0 ≡ startOf ends i
@@ -50,11 +45,23 @@ standing k n before i [] h l = absurd (omega arith)
 standing k n before zero (e ∷ ends) h l =
     let a = long-cons k n before e ends h in
     let b = ends-room k (suc n) e ends (a .1) in
-    record { long = a .0; room = omega (arith, zero-mul (k - 1)); inside = omega arith; after = omega (arith, suc-mul (length ends) (k - 1), suc-mul 0 (k - 1), zero-mul (k - 1), less-mul (length ends) k) }
+    record {
+      long =
+          a .0;
+      room = omega (arith, zero-mul (k - 1));
+      inside = omega arith;
+      after = omega (arith, suc-mul (length ends) (k - 1), suc-mul 0 (k - 1), zero-mul (k - 1), less-mul (length ends) k);
+    }
 standing k n before (suc i) (e ∷ ends) h l =
     let a = long-cons k n before e ends h in
     let s = standing k (suc n) e i ends (a .1) (omega arith) in
-    record { long = s .long; room = omega (arith, s .room, suc-mul i (k - 1), a .0); inside = s .inside; after = omega (arith, s .after, suc-mul (length ends) (k - 1), suc-mul (suc i) (k - 1)) }
+    record {
+      long =
+          s .long;
+      room = omega (arith, s .room, suc-mul i (k - 1), a .0);
+      inside = s .inside;
+      after = omega (arith, s .after, suc-mul (length ends) (k - 1), suc-mul (suc i) (k - 1));
+    }
 
 module _ {k : ℕ} {ends : List ℕ} (g : Long k ends) (i : ℕ) (l : i < length ends) where
   pub string-long : startOf ends i + k ≤ getD ends i 0
@@ -102,9 +109,17 @@ string-from k n before (suc i) letters (e ∷ ends) weights d low h l =
 -- string i by its parts of the tables
 pub string-at : (c : Collection) (d : Str) → Long c.k c.ends → (i : ℕ) → i < length c.ends
     → getD (strings c) i d
-    ≡ record { letters = take (getD c.ends i 0 - startOf c.ends i) (drop (startOf c.ends i) c.letters); weights = take (within c.k (startOf c.ends i) (getD c.ends i 0)) (drop (firstOf c.k c.ends i) c.weights) }
+    ≡ record {
+      letters =
+          take (getD c.ends i 0 - startOf c.ends i) (drop (startOf c.ends i) c.letters);
+      weights = take (within c.k (startOf c.ends i) (getD c.ends i 0)) (drop (firstOf c.k c.ends i) c.weights);
+    }
 string-at c d g i l =
     let p : startOf c.ends i - 0 ≡ startOf c.ends i = omega arith in
     let q : firstOf c.k c.ends i - 0 ≡ firstOf c.k c.ends i = omega arith in
     string-from c.k 0 0 i c.letters c.ends c.weights d (g .k-low) (g .long) l
-    ∙ (λ t. record { letters = take (getD c.ends i 0 - startOf c.ends i) (drop (p t) c.letters); weights = take (within c.k (startOf c.ends i) (getD c.ends i 0)) (drop (q t) c.weights) })
+    ∙ (λ t. record {
+      letters =
+          take (getD c.ends i 0 - startOf c.ends i) (drop (p t) c.letters);
+      weights = take (within c.k (startOf c.ends i) (getD c.ends i 0)) (drop (q t) c.weights);
+    })

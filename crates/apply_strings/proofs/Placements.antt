@@ -12,10 +12,12 @@ use lib.Seq.{length-take-le}
 use Rattle.lists.specs.Choose.{choose}
 use Rattle.lists.specs.Every.{every}
 use Rattle.lists.specs.Fill.{put, fill}
+use Rattle.lists.specs.Limits.{mostLetters, mostStrings}
 use Rattle.lists.proofs.Every.{all-at, all-take, all-drop, all-every}
 use Rattle.lists.proofs.First.{first-none, first-found-from}
 use Rattle.lists.proofs.Mapped.{map-at}
 use Rattle.lists.proofs.Storing.{Storing, begin, inside, store, store-many, restated, stored, drop-next}
+use Rattle.lists.proofs.Refuted.{refuted}
 use Rattle.alphabet.specs.Letter.{isLetter}
 use Rattle.collection.specs.Collection.{Collection}
 use Rattle.collection.specs.Kmers.{within}
@@ -39,15 +41,15 @@ use Rattle.apply_strings.proofs.Turning.{length-turned}
 -- ─── the string of a place ───────────────────────────────────────────────────
 
 -- a place that is used has a string
-holder-found : (a : ℕ) (places : List ℕ) → 1 ≤ occurs a places → (1 ≤ holder a places) × (holder a places ≤ length places) × (getD places (holder a places - 1) 0 ≡ a)
+holder-found : (a : ℕ) (places : List ℕ) → 1 ≤ occurs a places
+    → (1 ≤ holder a places) × (holder a places ≤ length places) × (getD places (holder a places - 1) 0 ≡ a)
 holder-found a places h = go (holder a places) refl (occurs-where a places h)
   where
     go : (n : ℕ) → holder a places ≡ n → (i : ℕ) × (i < length places) × (getD places i 0 ≡ a) → (1 ≤ n) × (n ≤ length places) × (getD places (n - 1) 0 ≡ a)
     go zero e u =
         let f : eqb a (getD places (u .0) 0) ≡ false = all-at (λ b. eqb a b ≡ false) places (first-none (eqb a) places e) (u .0) 0 (u .1) in
         let t : eqb a (getD places (u .0) 0) ≡ true = eq-eqb a (getD places (u .0) 0) (sym (u .2)) in
-        let z : _≡_ {A = ℕ} 0 1 = cc in
-        absurd (omega arith)
+        refuted (cc)
     go (suc n) e u =
         let f = first-found-from (eqb a) 0 places n e in
         (omega arith, omega (arith, f .high), sym (eqb-true a (getD places (suc n - 1) 0) (f .meets 0)))
@@ -60,17 +62,18 @@ module _ {c : Collection} {places : List ℤ} {work : List ℕ} (p : Placeable c
   long = shape-long (judged .shape)
 
   -- no number that is counted here comes near the widest
-  pub few-strings : length c.ends ≤ 65536
+  pub few-strings : length c.ends ≤ mostStrings
   few-strings = judged .shape .m-high
 
-  pub few-weights : length c.weights ≤ 1048576
+  pub few-weights : length c.weights ≤ mostLetters
   few-weights = omega (arith, judged .counted, judged .shape .N-high)
 
   sizes : Sizes c.letters c.ends c.weights (reordered c places)
   sizes = reordered-sizes c places (p .passes) (p .permutation)
 
   -- what work names at an entry is a string, and that entry is its place
-  pub named : (j : ℕ) → j < length c.ends → (1 ≤ getD work j 0) × (getD work j 0 - 1 < length c.ends) × (natAbs (getD places (getD work j 0 - 1) (pos 0)) ≡ suc j)
+  pub named : (j : ℕ) → j < length c.ends
+      → (1 ≤ getD work j 0) × (getD work j 0 - 1 < length c.ends) × (natAbs (getD places (getD work j 0 - 1) (pos 0)) ≡ suc j)
   named j l =
       let q = p .permutation in
       let e = p .marked j l in
@@ -84,7 +87,8 @@ module _ {c : Collection} {places : List ℤ} {work : List ℕ} (p : Placeable c
   pub part-asked : (j : ℕ) → j < length c.ends → Long c.k c.ends × (getD work j 0 - 1 < length c.ends) × (length places ≡ length c.ends)
   part-asked j l = (long, named j l .1, p .permutation .number)
 
-  there : (j : ℕ) → j < length c.ends → getD (reordered c places) j none ≡ turnedBy turnStr (getD places (getD work j 0 - 1) (pos 0)) (getD (strings c) (getD work j 0 - 1) none)
+  there : (j : ℕ) → j < length c.ends
+      → getD (reordered c places) j none ≡ turnedBy turnStr (getD places (getD work j 0 - 1) (pos 0)) (getD (strings c) (getD work j 0 - 1) none)
   there j l =
       let i = getD work j 0 - 1 in
       let n = named j l in
@@ -97,8 +101,10 @@ module _ {c : Collection} {places : List ℤ} {work : List ℕ} (p : Placeable c
   module _ (j : ℕ) (l : j < length c.ends) (r : Part) (o : PartOf c.k c.ends places (getD work j 0 - 1) r) where
     pub letters-inside : (r .start ≤ r .end) × (r .end ≤ length c.letters)
     letters-inside =
-        let n = named j l .1 in
-        (omega (arith, o .start-is, o .end-is, string-long long (getD work j 0 - 1) n), omega (arith, o .end-is, end-inside long (getD work j 0 - 1) n, judged .shape .last))
+        let n = named j l .1 in (
+          omega (arith, o .start-is, o .end-is, string-long long (getD work j 0 - 1) n),
+          omega (arith, o .end-is, end-inside long (getD work j 0 - 1) n, judged .shape .last),
+        )
 
     pub weights-inside : (r .first ≤ r .last) × (r .last ≤ length c.weights)
     weights-inside =
@@ -122,20 +128,25 @@ module _ {c : Collection} {places : List ℤ} {work : List ℕ} (p : Placeable c
         string-at c none long i (named j l .1)
         ∙ (λ t. record { letters = take (b t - a t) (drop (a t) c.letters); weights = take (w t) (drop (f t) c.weights) })
 
-    now-there : getD (reordered c places) j none ≡ choose (r .turned) (turnStr (record { letters = letters-from; weights = weights-from })) (record { letters = letters-from; weights = weights-from })
+    now-there : getD (reordered c places) j none
+        ≡ choose (r .turned) (turnStr (record { letters = letters-from; weights = weights-from })) (record { letters = letters-from; weights = weights-from })
     now-there = let u = sym (o .turned-is) in there j l ∙ (λ t. choose (u t) (turnStr (before t)) (before t))
 
     letters-there : getD (reordered c places) j none .letters ≡ lettersBy (r .turned) letters-from
     letters-there = ap (λ (s : Str). s .letters) now-there ∙ go (r .turned)
       where
-        go : (t : Bool) → choose t (turnStr (record { letters = letters-from; weights = weights-from })) (record { letters = letters-from; weights = weights-from }) .letters ≡ lettersBy t letters-from
+        go : (t : Bool)
+            → choose t (turnStr (record { letters = letters-from; weights = weights-from }))
+            (record { letters = letters-from; weights = weights-from }) .letters ≡ lettersBy t letters-from
         go true = refl
         go false = refl
 
     weights-there : getD (reordered c places) j none .weights ≡ columnBy (r .turned) weights-from
     weights-there = ap (λ (s : Str). s .weights) now-there ∙ go (r .turned)
       where
-        go : (t : Bool) → choose t (turnStr (record { letters = letters-from; weights = weights-from })) (record { letters = letters-from; weights = weights-from }) .weights ≡ columnBy t weights-from
+        go : (t : Bool)
+            → choose t (turnStr (record { letters = letters-from; weights = weights-from }))
+            (record { letters = letters-from; weights = weights-from }) .weights ≡ columnBy t weights-from
         go true = refl
         go false = refl
 
@@ -154,7 +165,10 @@ module _ {c : Collection} {places : List ℤ} {work : List ℕ} (p : Placeable c
         go false = refl
 
     pub letters-asked : every isLetter letters-from ≡ true
-    letters-asked = all-every isLetter letters-from (all-take (λ b. isLetter b ≡ true) (r .end - r .start) (drop (r .start) c.letters) (all-drop (λ b. isLetter b ≡ true) (r .start) c.letters (judged .all-letters)))
+    letters-asked =
+        all-every isLetter letters-from
+        (all-take (λ b. isLetter b ≡ true) (r .end - r .start) (drop (r .start) c.letters)
+        (all-drop (λ b. isLetter b ≡ true) (r .start) c.letters (judged .all-letters)))
 
     -- what is left to be written starts with it
     next-there : drop j (reordered c places) ≡ getD (reordered c places) j none ∷ drop (j + 1) (reordered c places)
@@ -171,7 +185,8 @@ module _ {c : Collection} {places : List ℤ} {work : List ℕ} (p : Placeable c
     weights-next = ap weightsIn next-there ∙ ap (λ (x : List ℕ). x ++ weightsIn (drop (j + 1) (reordered c places))) weights-there
 
     -- one end more
-    pub ends-next : (at : ℕ) → endsIn at (drop j (reordered c places)) ≡ (at + (r .end - r .start)) ∷ endsIn (at + (r .end - r .start)) (drop (j + 1) (reordered c places))
+    pub ends-next : (at : ℕ)
+        → endsIn at (drop j (reordered c places)) ≡ (at + (r .end - r .start)) ∷ endsIn (at + (r .end - r .start)) (drop (j + 1) (reordered c places))
     unfolding endsIn
     ends-next at =
         ap (endsIn at) next-there
@@ -182,15 +197,16 @@ module _ {c : Collection} {places : List ℤ} {work : List ℕ} (p : Placeable c
 -- the strings at the first j places are written: `at` letters and `kmer` weights
 pub record Placing (ss : List Str) (m : ℕ) (letters₀ ends₀ weights₀ letters ends weights : List ℕ) (at kmer j : ℕ) : Type 0 where
   pub inside : j ≤ m
-  pub few : at + length (lettersIn (drop j ss)) ≤ 1048576
-  pub few-weights : kmer + length (weightsIn (drop j ss)) ≤ 1048576
+  pub few : at + length (lettersIn (drop j ss)) ≤ mostLetters
+  pub few-weights : kmer + length (weightsIn (drop j ss)) ≤ mostLetters
   pub letters-left : Storing (length letters₀) letters (fill (lettersIn ss) letters₀) (lettersIn (drop j ss)) at
   pub ends-left : Storing (length ends₀) ends (fill (endsIn 0 ss) ends₀) (endsIn at (drop j ss)) j
   pub weights-left : Storing (length weights₀) weights (fill (weightsIn ss) weights₀) (weightsIn (drop j ss)) kmer
 
 module _ {c : Collection} {places : List ℤ} {work : List ℕ} (p : Placeable c places work) {letters₀ ends₀ weights₀ : List ℕ} where
-  pub placing-begins : length c.letters ≤ length letters₀ → length c.ends ≤ length ends₀ → length c.weights ≤ length weights₀ → Placing (reordered c places) (length c.ends) letters₀ ends₀ weights₀ letters₀ ends₀ weights₀ 0 0 0
-  placing-begins a b c₁ =
+  pub placing-begins : length c.letters ≤ length letters₀ → length c.ends ≤ length ends₀ → length c.weights ≤ length weights₀
+      → Placing (reordered c places) (length c.ends) letters₀ ends₀ weights₀ letters₀ ends₀ weights₀ 0 0 0
+  placing-begins letters-fit ends-fit weights-fit =
       record {
         inside = omega arith;
         few = omega (arith, sizes p .letters-number, judged p .shape .N-high);
@@ -200,31 +216,45 @@ module _ {c : Collection} {places : List ℤ} {work : List ℕ} (p : Placeable c
         weights-left = begin weights₀ (weightsIn (reordered c places)) (omega (arith, sizes p .weights-number));
       }
 
-  module _ {letters₁ ends₁ weights₁ : List ℕ} {at kmer j : ℕ} (w : Placing (reordered c places) (length c.ends) letters₀ ends₀ weights₀ letters₁ ends₁ weights₁ at kmer j) where
+  module _ {letters₁ ends₁ weights₁ : List ℕ} {at kmer j : ℕ}
+      (w : Placing (reordered c places) (length c.ends) letters₀ ends₀ weights₀ letters₁ ends₁ weights₁ at kmer j) where
     module _ (l : j < length c.ends) (r : Part) (o : PartOf c.k c.ends places (getD work j 0 - 1) r) where
-      letters-step : Storing (length letters₀) letters₁ (fill (lettersIn (reordered c places)) letters₀) (lettersBy (r .turned) (letters-from p j l r o) ++ lettersIn (drop (j + 1) (reordered c places))) at
+      letters-step : Storing (length letters₀) letters₁ (fill (lettersIn (reordered c places)) letters₀)
+          (lettersBy (r .turned) (letters-from p j l r o) ++ lettersIn (drop (j + 1) (reordered c places))) at
       letters-step = restated (letters-next p j l r o) (w .letters-left)
 
-      ends-step : Storing (length ends₀) ends₁ (fill (endsIn 0 (reordered c places)) ends₀) ((at + (r .end - r .start)) ∷ endsIn (at + (r .end - r .start)) (drop (j + 1) (reordered c places))) j
+      ends-step : Storing (length ends₀) ends₁ (fill (endsIn 0 (reordered c places)) ends₀)
+          ((at + (r .end - r .start)) ∷ endsIn (at + (r .end - r .start)) (drop (j + 1) (reordered c places))) j
       ends-step = restated (ends-next p j l r o at) (w .ends-left)
 
-      weights-step : Storing (length weights₀) weights₁ (fill (weightsIn (reordered c places)) weights₀) (columnBy (r .turned) (weights-from p j l r o) ++ weightsIn (drop (j + 1) (reordered c places))) kmer
+      weights-step : Storing (length weights₀) weights₁ (fill (weightsIn (reordered c places)) weights₀)
+          (columnBy (r .turned) (weights-from p j l r o) ++ weightsIn (drop (j + 1) (reordered c places))) kmer
       weights-step = restated (weights-next p j l r o) (w .weights-left)
 
       pub letters-room : at + length (letters-from p j l r o) ≤ length letters₁
       letters-room =
           let n = length-take-le (r .end - r .start) (drop (r .start) c.letters) (rw length-drop (omega (arith, letters-inside p j l r o))) in
-          omega (arith, letters-step .room, length-append (lettersBy (r .turned) (letters-from p j l r o)) (lettersIn (drop (j + 1) (reordered c places))), letters-length p j l r o)
+          omega (
+            arith,
+            letters-step .room,
+            length-append (lettersBy (r .turned) (letters-from p j l r o)) (lettersIn (drop (j + 1) (reordered c places))),
+            letters-length p j l r o,
+          )
 
       pub weights-room : kmer + length (weights-from p j l r o) ≤ length weights₁
       weights-room =
           let n = length-take-le (r .last - r .first) (drop (r .first) c.weights) (rw length-drop (omega (arith, weights-inside p j l r o))) in
-          omega (arith, weights-step .room, length-append (columnBy (r .turned) (weights-from p j l r o)) (weightsIn (drop (j + 1) (reordered c places))), weights-length p j l r o)
+          omega (
+            arith,
+            weights-step .room,
+            length-append (columnBy (r .turned) (weights-from p j l r o)) (weightsIn (drop (j + 1) (reordered c places))),
+            weights-length p j l r o,
+          )
 
       pub ends-room : j < length ends₁
       ends-room = inside ends-step
 
-      few-left : at + (r .end - r .start) + length (lettersIn (drop (j + 1) (reordered c places))) ≤ 1048576
+      few-left : at + (r .end - r .start) + length (lettersIn (drop (j + 1) (reordered c places))) ≤ mostLetters
       few-left =
           omega (
             arith,
@@ -234,10 +264,10 @@ module _ {c : Collection} {places : List ℤ} {work : List ℕ} (p : Placeable c
             letters-length p j l r o,
           )
 
-      pub at-few : at + (r .end - r .start) ≤ 1048576
+      pub at-few : at + (r .end - r .start) ≤ mostLetters
       at-few = omega (arith, few-left)
 
-      few-weights-left : kmer + (r .last - r .first) + length (weightsIn (drop (j + 1) (reordered c places))) ≤ 1048576
+      few-weights-left : kmer + (r .last - r .first) + length (weightsIn (drop (j + 1) (reordered c places))) ≤ mostLetters
       few-weights-left =
           omega (
             arith,
@@ -247,12 +277,14 @@ module _ {c : Collection} {places : List ℤ} {work : List ℕ} (p : Placeable c
             weights-length p j l r o,
           )
 
-      pub kmer-few : kmer + (r .last - r .first) ≤ 1048576
+      pub kmer-few : kmer + (r .last - r .first) ≤ mostLetters
       kmer-few = omega (arith, few-weights-left)
 
       -- the next string is written
-      pub placing-next : {letters₂ weights₂ : List ℕ} → letters₂ ≡ put at (lettersBy (r .turned) (letters-from p j l r o)) letters₁ → weights₂ ≡ put kmer (columnBy (r .turned) (weights-from p j l r o)) weights₁
-          → Placing (reordered c places) (length c.ends) letters₀ ends₀ weights₀ letters₂ (set ends₁ j (at + (r .end - r .start))) weights₂ (at + (r .end - r .start)) (kmer + (r .last - r .first)) (j + 1)
+      pub placing-next : {letters₂ weights₂ : List ℕ} → letters₂ ≡ put at (lettersBy (r .turned) (letters-from p j l r o)) letters₁
+          → weights₂ ≡ put kmer (columnBy (r .turned) (weights-from p j l r o)) weights₁
+          → Placing (reordered c places) (length c.ends) letters₀ ends₀ weights₀ letters₂ (set ends₁ j (at + (r .end - r .start))) weights₂
+          (at + (r .end - r .start)) (kmer + (r .last - r .first)) (j + 1)
       placing-next e f =
           record {
             inside = omega arith;
@@ -265,8 +297,12 @@ module _ {c : Collection} {places : List ℤ} {work : List ℕ} (p : Placeable c
 
     -- all places passed
     pub placing-ends : length c.ends ≤ j
-        → (letters₁ ≡ fill (lettersIn (reordered c places)) letters₀) × (ends₁ ≡ fill (endsIn 0 (reordered c places)) ends₀) × (weights₁ ≡ fill (weightsIn (reordered c places)) weights₀)
+        → (letters₁ ≡ fill (lettersIn (reordered c places)) letters₀) × (ends₁ ≡ fill (endsIn 0 (reordered c places)) ends₀)
+        × (weights₁ ≡ fill (weightsIn (reordered c places)) weights₀)
     unfolding lettersIn endsIn weightsIn
     placing-ends l =
-        let e : drop j (reordered c places) ≡ [] = drop-of-length-le (reordered c places) {i = j} (omega (arith, sizes p .number)) in
-        (stored (restated (ap lettersIn e) (w .letters-left)), stored (restated (ap (endsIn at) e) (w .ends-left)), stored (restated (ap weightsIn e) (w .weights-left)))
+        let e : drop j (reordered c places) ≡ [] = drop-of-length-le (reordered c places) {i = j} (omega (arith, sizes p .number)) in (
+          stored (restated (ap lettersIn e) (w .letters-left)),
+          stored (restated (ap (endsIn at) e) (w .ends-left)),
+          stored (restated (ap weightsIn e) (w .weights-left)),
+        )

@@ -1,4 +1,5 @@
--- What a collection keeps in its new order: it passes the same checks, its strings are the old ones, each once, perhaps turned, and every word has the weights it had. Assumes nothing.
+-- What a collection keeps in its new order: it passes the same checks, its strings are the old ones, each once, perhaps turned, and every word has the weights
+-- it had. Assumes nothing.
 use mathlib.Core.Path.{_≡_, refl, sym, ap, ap₂, _∙_, subst}
 use mathlib.Core.Bool.{true}
 use mathlib.Core.List.{List, map}
@@ -41,7 +42,7 @@ module _ (c : Collection) (places : List ℤ) (passes : Passes c) (permutation :
   -- ─── how many there are ────────────────────────────────────────────────────
 
   many : length (strings c) ≡ length c.ends
-  many = strings-count c.k 0 c.letters c.ends c.weights
+  many = strings-count c
 
   -- as many letters, ends and weights as before
   pub reordered-sizes : Sizes c.letters c.ends c.weights (reordered c places)
@@ -53,10 +54,12 @@ module _ (c : Collection) (places : List ℤ) (passes : Passes c) (permutation :
         number = n;
         ends-number = ends-length 0 (reordered c places) ∙ n;
         letters-number =
-            total-arranged turnStr (λ s. length (s .letters)) (λ ss. length (lettersIn ss)) refl (λ s ss. length-append (s .letters) (lettersIn ss)) (λ s. length-turned (s .letters)) (length c.ends) places ss permutation many
+            total-arranged turnStr (λ s. length (s .letters)) (λ ss. length (lettersIn ss)) refl (λ s ss. length-append (s .letters) (lettersIn ss))
+            (λ s. length-turned (s .letters)) (length c.ends) places ss permutation many
             ∙ ap (λ (x : Collection). length (x .letters)) (strings-joined c (judged .shape) (judged .counted));
         weights-number =
-            total-arranged turnStr (λ s. length (s .weights)) (λ ss. length (weightsIn ss)) refl (λ s ss. length-append (s .weights) (weightsIn ss)) (λ s. length-reverse (s .weights)) (length c.ends) places ss permutation many
+            total-arranged turnStr (λ s. length (s .weights)) (λ ss. length (weightsIn ss)) refl (λ s ss. length-append (s .weights) (weightsIn ss))
+            (λ s. length-reverse (s .weights)) (length c.ends) places ss permutation many
             ∙ ap (λ (x : Collection). length (x .weights)) (strings-joined c (judged .shape) (judged .counted));
       }
 
@@ -77,10 +80,10 @@ module _ (c : Collection) (places : List ℤ) (passes : Passes c) (permutation :
   unfolding collectionVerdict shapeVerdict
   reordered-passes =
       let n = reordered-sizes in
-      let a = both-good (shapeVerdict (spellingOf c)) _ passes in
-      let b = both-good (kVerdict c.k) _ (a .0) in
-      let c₁ = both-good (sizeVerdict (length c.letters) (length c.ends)) _ (b .1) in
-      tables-pass c.k (reordered c places) (b .0) (ap₂ sizeVerdict (n .letters-number) (n .number) ∙ c₁ .0) reordered-whole
+      let shape = both-good (shapeVerdict (spellingOf c)) _ passes in
+      let good-k = both-good (kVerdict c.k) _ (shape .0) in
+      let good-size = both-good (sizeVerdict (length c.letters) (length c.ends)) _ (good-k .1) in
+      tables-pass c.k (reordered c places) (good-k .0) (ap₂ sizeVerdict (n .letters-number) (n .number) ∙ good-size .0) reordered-whole
       (all-arranged turnStr (λ s. All (λ b. isLetter b ≡ true) (s .letters)) (λ s h. turned-letters (s .letters) h) places (strings c) old-letters)
       (all-arranged turnStr (λ s. All (λ w. isWeight w ≡ true) (s .weights)) (λ s h. turned-weights (λ w. isWeight w ≡ true) s h) places (strings c)
       (each-weights (λ w. isWeight w ≡ true) c.k 0 c.letters c.ends c.weights (judged .all-weights)))
@@ -122,15 +125,19 @@ module _ (c : Collection) (places : List ℤ) (passes : Passes c) (permutation :
       has-here (negsuc n) h =
           let s = getD (strings c) i none in
           subst (Has c.k word weight) (turn-turn-str c.k s letters-at)
-          (has-turned c.k (turnStr s) (turned-letters (s .letters) letters-at) (turned-whole c.k s whole-at) (omega (arith, judged .shape .k-low)) word weight h)
+          (has-turned c.k (turnStr s) (turned-letters (s .letters) letters-at) (turned-whole c.k s whole-at)
+          (omega (arith, judged .shape .k-low)) word weight h)
 
     -- a word keeps its weight
     pub weighs-after : Weighs c.k (strings c) word weight → Weighs c.k (reordered c places) word weight
     weighs-after u =
         let i : ℕ = u .0 in
         let l : i < length c.ends = omega (arith, u .1, many) in
-        let r = all-at (λ p. (1 ≤ natAbs p) × (natAbs p ≤ length c.ends)) places (permutation .range) i (pos 0) (omega (arith, permutation .number)) in
-        (natAbs (getD places i (pos 0)) - 1, omega (arith, r, reordered-sizes .number), subst (Has c.k word weight) (sym (string-stands i l)) (has-there i l (getD places i (pos 0)) (u .2)))
+        let r = all-at (λ p. (1 ≤ natAbs p) × (natAbs p ≤ length c.ends)) places (permutation .range) i (pos 0) (omega (arith, permutation .number)) in (
+          natAbs (getD places i (pos 0)) - 1,
+          omega (arith, r, reordered-sizes .number),
+          subst (Has c.k word weight) (sym (string-stands i l)) (has-there i l (getD places i (pos 0)) (u .2)),
+        )
 
     -- and gains none
     pub weighs-before : Weighs c.k (reordered c places) word weight → Weighs c.k (strings c) word weight

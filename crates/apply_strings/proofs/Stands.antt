@@ -61,7 +61,8 @@ sum-back f g i j (suc n) h =
     let first : f i ≡ g (j + n) = ap f (alone i) ∙ h n 0 (omega arith) in
     let rest = sum-back f g (suc i) j n (λ a b e. ap f (shift i b) ∙ h a (suc b) (omega arith)) in
     let split : countFrom j (n + 1) ≡ countFrom j n ++ ((j + n) ∷ []) = count-append j n 1 in
-    let apart = ap (λ (l : List ℕ). sum (map g l)) split ∙ (ap sum (map-append g (countFrom j n) ((j + n) ∷ [])) ∙ sum-append (map g (countFrom j n)) (g (j + n) ∷ [])) in
+    let apart = ap (λ (l : List ℕ). sum (map g l)) split
+    ∙ (ap sum (map-append g (countFrom j n) ((j + n) ∷ [])) ∙ sum-append (map g (countFrom j n)) (g (j + n) ∷ [])) in
     let next : suc n ≡ n + 1 = omega arith in
     let whole : sum (map g (countFrom j (suc n))) ≡ sum (map g (countFrom j (n + 1))) = ap (λ (m : ℕ). sum (map g (countFrom j m))) next in
     omega (arith, first, rest, apart, whole)
@@ -79,7 +80,8 @@ module _ (word : List ℕ) where
   once-turned : (kmer : List ℕ) → Letters kmer → once word (turn kmer) ≡ once word kmer
   unfolding once
   once-turned kmer h =
-      ap (λ (v : List ℕ). choose (same (turn kmer) word || same v word) 1 0) (turn-turn kmer h) ∙ ap (λ (t : Bool). choose t 1 0) (or-swap (same (turn kmer) word) (same kmer word))
+      ap (λ (v : List ℕ). choose (same (turn kmer) word || same v word) 1 0) (turn-turn kmer h)
+      ∙ ap (λ (t : Bool). choose t 1 0) (or-swap (same (turn kmer) word) (same kmer word))
 
   -- how often the word stands in a string
   timesIn : ℕ → List ℕ → ℕ
@@ -118,7 +120,8 @@ module _ (word : List ℕ) where
       let number : length part ≡ e - before = length-take-le (e - before) (drop before letters) (omega (arith, length-drop before letters)) in
       let kmers-here : within k before e ≡ length part + 1 - k = omega (arith, number) in
       let here : sum (map f (countFrom before (within k before e))) ≡ timesIn k part =
-      sum-same f (λ a. once word (wordAt k part a)) before 0 (within k before e) (λ a m. ap (once word) (same-word a (omega arith) ∙ ap (wordAt k part) (behind a)))
+      sum-same f (λ a. once word (wordAt k part a)) before 0 (within k before e)
+      (λ a m. ap (once word) (same-word a (omega arith) ∙ ap (wordAt k part) (behind a)))
       ∙ ap (λ (n : ℕ). sum (map (λ a. once word (wordAt k part a)) (countFrom 0 n))) kmers-here
       in
       let end : before + (e - before) ≡ e = omega arith in
@@ -158,7 +161,8 @@ module _ (word : List ℕ) where
   length-spelled [] h = refl
   length-spelled (s ∷ ss) h = ap suc (length-spelled ss (h .1))
 
-  times-arranged : (k m : ℕ) (places : List ℤ) (ss : List Str) → All (λ s. All (λ b. isLetter b ≡ true) (s .letters)) ss → SignedPermutation m places → length ss ≡ m
+  times-arranged : (k m : ℕ) (places : List ℤ) (ss : List Str) → All (λ s. All (λ b. isLetter b ≡ true) (s .letters)) ss → SignedPermutation m places
+      → length ss ≡ m
       → timesAll k (arranged turnStr places ss) ≡ timesAll k ss
   unfolding timesAll
   times-arranged k m places ss h perm n =
@@ -167,7 +171,8 @@ module _ (word : List ℕ) where
       map-arranged turnSpelled turnStr bare (λ z. refl) places zs ∙ ap (arranged turnStr places) (bare-spelled ss h)
       in
       ap (timesAll k) (sym bared)
-      ∙ (total-arranged turnSpelled (λ z. timesIn k (z .0 .letters)) (λ qs. timesAll k (map bare qs)) refl (λ z qs. refl) (λ z. times-turned k (z .0 .letters) (z .1)) m places zs perm (length-spelled ss h ∙ n)
+      ∙ (total-arranged turnSpelled (λ z. timesIn k (z .0 .letters)) (λ qs. timesAll k (map bare qs)) refl (λ z qs. refl)
+      (λ z. times-turned k (z .0 .letters) (z .1)) m places zs perm (length-spelled ss h ∙ n)
       ∙ ap (timesAll k) (bare-spelled ss h))
 
   by-strings : (c : Collection) → Passes c → timesAt (spellingOf c) word ≡ timesAll c.k (strings c)
@@ -183,5 +188,6 @@ module _ (word : List ℕ) where
       let new = reordered-passes c places passes perm in
       by-strings _ new
       ∙ (ap (timesAll c.k) (reordered-strings c places passes perm)
-      ∙ (times-arranged c.k (length c.ends) places (strings c) (each-letters (λ b. isLetter b ≡ true) c.k 0 c.letters c.ends c.weights (collection-good c passes .all-letters)) perm (strings-count c.k 0 c.letters c.ends c.weights)
+      ∙ (times-arranged c.k (length c.ends) places (strings c)
+      (each-letters (λ b. isLetter b ≡ true) c.k 0 c.letters c.ends c.weights (collection-good c passes .all-letters)) perm (strings-count c)
       ∙ sym (by-strings c passes)))

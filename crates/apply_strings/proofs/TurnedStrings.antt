@@ -35,7 +35,8 @@ turn-cut w a k b e =
     let y : List ℕ = take k (drop a w) in
     let z : List ℕ = drop k (drop a w) in
     let whole : w ≡ x ++ (y ++ z) = sym (ap (λ (l : List ℕ). x ++ l) (take-append-drop k (drop a w)) ∙ take-append-drop a w) in
-    let turned : turn w ≡ turn z ++ (turn y ++ turn x) = ap turn whole ∙ (turn-append x (y ++ z) ∙ (ap (λ (l : List ℕ). l ++ turn x) (turn-append y z) ∙ append-assoc (turn z) (turn y) (turn x))) in
+    let turned : turn w ≡ turn z ++ (turn y ++ turn x) =
+    ap turn whole ∙ (turn-append x (y ++ z) ∙ (ap (λ (l : List ℕ). l ++ turn x) (turn-append y z) ∙ append-assoc (turn z) (turn y) (turn x))) in
     let m : length z ≡ b = length-drop k (drop a w) ∙ omega (arith, length-drop a w) in
     let n : length y ≡ k = length-take-le k (drop a w) (omega (arith, length-drop a w)) in
     ap (λ (l : List ℕ). take k (drop b l)) turned
@@ -79,14 +80,20 @@ module _ (letters : List ℕ) (h : All (λ b. isLetter b ≡ true) letters) wher
   -- turned twice they are the letters again
   pub turned-back : turnLetters (turnLetters letters) ≡ letters
   unfolding turnLetters
-  turned-back = ap (λ (w : List ℕ). map capital (turn w)) turned-spells ∙ (ap (map capital) (turn-turn (spell letters) (spell-letters letters h)) ∙ capital-spell letters h)
+  turned-back =
+      ap (λ (w : List ℕ). map capital (turn w)) turned-spells
+      ∙ (ap (map capital) (turn-turn (spell letters) (spell-letters letters h)) ∙ capital-spell letters h)
 
 -- ─── strings ─────────────────────────────────────────────────────────────────
 
 -- a turned string has its letters and its weights
 pub turned-whole : (k : ℕ) (s : Str) → Whole k s → Whole k (turnStr s)
 turned-whole k s h =
-    record { long = omega (arith, h .long, length-turned (s .letters)); counted = omega (arith, h .counted, length-turned (s .letters), length-reverse (s .weights)) }
+    record {
+      long =
+          omega (arith, h .long, length-turned (s .letters));
+      counted = omega (arith, h .counted, length-turned (s .letters), length-reverse (s .weights));
+    }
 
 -- what holds of all weights holds of the turned ones
 pub turned-weights : (P : ℕ → Type 0) (s : Str) → All P (s .weights) → All P (turnStr s .weights)
@@ -108,8 +115,10 @@ module _ (k : ℕ) (s : Str) (h : All (λ b. isLetter b ≡ true) (s .letters)) 
         (b, omega (arith, length-reverse (s .weights)), way t (u .2), reverse-at (s .weights) a b (omega arith) ∙ u .3)
       where
         codes : Letters (wordAt k (s .letters) (u .0))
-        codes = spell-letters (take k (drop (u .0) (s .letters))) (all-take (λ b. isLetter b ≡ true) k (drop (u .0) (s .letters)) (all-drop (λ b. isLetter b ≡ true) (u .0) (s .letters) h))
+        codes = spell-letters (take k (drop (u .0) (s .letters)))
+            (all-take (λ b. isLetter b ≡ true) k (drop (u .0) (s .letters)) (all-drop (λ b. isLetter b ≡ true) (u .0) (s .letters) h))
 
-        way : {turned : List ℕ} → turned ≡ turn (wordAt k (s .letters) (u .0)) → (wordAt k (s .letters) (u .0) ≡ word) ⊎ (turn (wordAt k (s .letters) (u .0)) ≡ word) → (turned ≡ word) ⊎ (turn turned ≡ word)
+        way : {turned : List ℕ} → turned ≡ turn (wordAt k (s .letters) (u .0))
+            → (wordAt k (s .letters) (u .0) ≡ word) ⊎ (turn (wordAt k (s .letters) (u .0)) ≡ word) → (turned ≡ word) ⊎ (turn turned ≡ word)
         way t (inl e) = inr (ap turn t ∙ (turn-turn (wordAt k (s .letters) (u .0)) codes ∙ e))
         way t (inr e) = inl (t ∙ e)

@@ -1,13 +1,15 @@
 -- Turned letters and columns, as loops write them from the last entry on. Assumes nothing.
-use mathlib.Core.Path.{_≡_, refl, sym, ap, _∙_}
-use mathlib.Core.Bool.{true}
-use mathlib.Core.List.{List, [], _∷_, _++_, map, reverse, reverse-append}
+use mathlib.Core.Path.{_≡_, sym, ap, _∙_}
+use mathlib.Core.Bool.{true, Bool}
+use mathlib.Core.List.{List, [], _∷_, _++_, map, reverse, reverse-append, map-append}
 use Prim.Native.Nat.{ℕ, suc, _-_, _<_, _≤_}
 use native.Mathlib.Omega.{arith}
-use lib.ListN.{length, take, getD, length-map}
+use lib.ListN.{length, take, getD, length-map, drop}
 use lib.Seq.{take-suc}
 use Rattle.lists.specs.Every.{All}
+use Rattle.lists.specs.Fill.{fill, put}
 use Rattle.lists.proofs.Every.{all-at}
+use Rattle.lists.proofs.Storing.{put-lent}
 use Rattle.alphabet.specs.Letter.{letter, isLetter, capital, twoBits, paired}
 use Rattle.words.specs.Word.{spell, turn}
 use Rattle.alphabet.proofs.Letters.{letter-bits}
@@ -28,13 +30,9 @@ turned-last letters good left x h l e =
     let g : isLetter b ≡ true = all-at (λ b. isLetter b ≡ true) letters good (left - 1) 0 (omega arith) in
     ap (λ (n : ℕ). map capital (turn (spell (take n letters)))) q
     ∙ (ap (λ (w : List ℕ). map capital (turn (spell w))) (take-suc letters (left - 1) 0 (omega arith))
-    ∙ (ap (λ (w : List ℕ). map capital (turn w)) (map-snoc (take (left - 1) letters) b)
+    ∙ (ap (λ (w : List ℕ). map capital (turn w)) (map-append letter (take (left - 1) letters) (b ∷ []))
     ∙ (ap (map capital) (turn-snoc (spell (take (left - 1) letters)) (letter b))
     ∙ ap (λ (y : ℕ). y ∷ map capital (turn (spell (take (left - 1) letters)))) (sym (e ∙ ap (λ (y : ℕ). capital (paired y)) (letter-bits b g))))))
-  where
-    map-snoc : (bs : List ℕ) (b : ℕ) → map letter (bs ++ (b ∷ [])) ≡ map letter bs ++ (letter b ∷ [])
-    map-snoc [] b = refl
-    map-snoc (c ∷ bs) b = ap (λ (w : List ℕ). letter c ∷ w) (map-snoc bs b)
 
 pub turned-none : (letters : List ℕ) (left : ℕ) → left ≤ 0 → turnLetters (take left letters) ≡ []
 unfolding turnLetters
@@ -43,7 +41,8 @@ turned-none letters left h =
     ap (λ (n : ℕ). map capital (turn (spell (take n letters)))) q ∙ ap (map capital) turn-none
 
 -- the last weight comes first
-pub reversed-last : (column : List ℕ) (left : ℕ) → 0 < left → left ≤ length column → reverse (take left column) ≡ getD column (left - 1) 0 ∷ reverse (take (left - 1) column)
+pub reversed-last : (column : List ℕ) (left : ℕ) → 0 < left → left ≤ length column
+    → reverse (take left column) ≡ getD column (left - 1) 0 ∷ reverse (take (left - 1) column)
 reversed-last column left h l =
     let q : left ≡ suc (left - 1) = omega arith in
     ap (λ (n : ℕ). reverse (take n column)) q
@@ -51,3 +50,11 @@ reversed-last column left h l =
 
 pub reversed-none : (column : List ℕ) (left : ℕ) → left ≤ 0 → reverse (take left column) ≡ []
 reversed-none column left h = let q : left ≡ 0 = omega arith in ap (λ (n : ℕ). reverse (take n column)) q
+
+-- ─── one of two ways to write ────────────────────────────────────────────────
+
+-- the part from entry n on was lent and filled with xs, as they are or turned: what that makes of the whole
+pub written-by : (by : Bool → List ℕ → List ℕ) (n : ℕ) (xs old : List ℕ) (way : Bool) {turned : Bool} {lent : List ℕ} → turned ≡ way
+    → lent ≡ fill (by way xs) (take (length old - n) (drop n old))
+    → take n old ++ (lent ++ drop (length old - n) (drop n old)) ≡ put n (by turned xs) old
+written-by by n xs old way e q = put-lent n (by way xs) old q ∙ ap (λ (t : Bool). put n (by t xs) old) (sym e)

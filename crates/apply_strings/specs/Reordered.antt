@@ -1,4 +1,5 @@
 -- Strings in a new order, some of them turned.
+-- Specification: 9.5.
 use mathlib.Core.List.{List}
 use lib.IntN.{ℤ}
 use Rattle.cover_trails.specs.Places.{arranged}

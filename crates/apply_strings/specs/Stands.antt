@@ -1,4 +1,5 @@
 -- How often a word stands in a collection, read either way.
+-- Specification: 12.2.
 use mathlib.Core.Bool.{_||_}
 use mathlib.Core.List.{List, map}
 use Prim.Native.Nat.{ℕ}

@@ -1,4 +1,5 @@
 -- A string turned: its letters' reverse complement, in capitals, and its weights the other way round.
+-- Specification: 3.5.
 use mathlib.Core.Bool.{Bool}
 use mathlib.Core.List.{List, map, reverse}
 use Prim.Native.Nat.{ℕ}

@@ -1,4 +1,5 @@
 -- The weight of a word in strings, read either way.
+-- Specification: 12.2, 12.4.
 use mathlib.Core.Path.{_≡_}
 use mathlib.Core.List.{List, []}
 use mathlib.Core.Logic.{_⊎_}

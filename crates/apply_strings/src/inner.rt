@@ -62,8 +62,18 @@ pub fn place_strings(
     new_ends: &mut [u32],
     new_weights: &mut [u32],
 )
-    requires { ⌜ Placeable (collection k (now letters) (now ends) (now weights)) (now signed) (now work) × (length (now letters) ≤ length (now «new_letters»)) × (length (now ends) ≤ length (now «new_ends»)) × (length (now weights) ≤ length (now «new_weights»)) ⌝ }
-    ensures { λ _. ⌜ (now («new_letters» .exit) ≡ fill (lettersIn (reordered (collection k (now (letters .entry)) (now (ends .entry)) (now (weights .entry))) (now (signed .entry)))) (now («new_letters» .entry))) × (now («new_ends» .exit) ≡ fill (endsIn 0 (reordered (collection k (now (letters .entry)) (now (ends .entry)) (now (weights .entry))) (now (signed .entry)))) (now («new_ends» .entry))) × (now («new_weights» .exit) ≡ fill (weightsIn (reordered (collection k (now (letters .entry)) (now (ends .entry)) (now (weights .entry))) (now (signed .entry)))) (now («new_weights» .entry))) ⌝ }
+    requires { ⌜ Placeable (collection k (now letters) (now ends) (now weights)) (now signed) (now work) × (length (now letters) ≤ length (now «new_letters»))
+        × (length (now ends) ≤ length (now «new_ends»)) × (length (now weights) ≤ length (now «new_weights»)) ⌝ }
+    ensures { λ _.
+        ⌜ (now («new_letters» .exit)
+        ≡ fill (lettersIn (reordered (collection k (now (letters .entry)) (now (ends .entry)) (now (weights .entry))) (now (signed .entry))))
+        (now («new_letters» .entry)))
+        × (now («new_ends» .exit)
+        ≡ fill (endsIn 0 (reordered (collection k (now (letters .entry)) (now (ends .entry)) (now (weights .entry))) (now (signed .entry))))
+        (now («new_ends» .entry)))
+        × (now («new_weights» .exit)
+        ≡ fill (weightsIn (reordered (collection k (now (letters .entry)) (now (ends .entry)) (now (weights .entry))) (now (signed .entry))))
+        (now («new_weights» .entry))) ⌝ }
 {
     let mut at = 0;
     let mut kmer = 0;

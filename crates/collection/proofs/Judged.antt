@@ -10,13 +10,26 @@ use lib.Dec.{leb, ltb, eqb}
 use lib.ListN.{length}
 use Rattle.lists.specs.Choose.{choose}
 use Rattle.lists.specs.Every.{All, every}
+use Rattle.lists.specs.Limits.{mostLetters, mostStrings, leastK, mostK}
 use Rattle.lists.proofs.Every.{and-left, and-right, and-both, all-map}
 use Rattle.lists.proofs.First.{first-none}
 use Rattle.alphabet.specs.Letter.{isLetter}
 use Rattle.collection.specs.Collection.{Spelling, Collection, spellingOf}
 use Rattle.collection.specs.declared.Verdict.the-variants.{Good, Bad}
 use Rattle.collection.specs.Verdict.{atPlace}
-use Rattle.collection.specs.Judge.{kVerdict, sizeVerdict, endsVerdict, shapeVerdict, kmersIn, lettersVerdict, weightsVerdict, collectionVerdict, Passes, handleVerdict, wordVerdict}
+use Rattle.collection.specs.Judge.{
+  kVerdict,
+  sizeVerdict,
+  endsVerdict,
+  shapeVerdict,
+  kmersIn,
+  lettersVerdict,
+  weightsVerdict,
+  collectionVerdict,
+  Passes,
+  handleVerdict,
+  wordVerdict,
+}
 use Rattle.collection_faults.specs.Faults.{firstShort, lastEnd, isWeight}
 use Rattle.collection.specs.Ready.{Long}
 use Rattle.collection.proofs.Verdicts.{both-good, test-good, place-good}
@@ -24,23 +37,23 @@ use Rattle.collection.proofs.Verdicts.{both-good, test-good, place-good
 -- ─── 2 and 3 ─────────────────────────────────────────────────────────────────
 
 -- what passes 2
-pub k-good : (k : ℕ) → kVerdict k ≡ Good → (3 ≤ k) × (k ≤ 31)
+pub k-good : (k : ℕ) → kVerdict k ≡ Good → (leastK ≤ k) × (k ≤ mostK)
 unfolding kVerdict
 k-good k h =
-    let t = test-good (leb 3 k && leb k 31) 2 0 Good h .0 in
-    (leb-true 3 k (and-left (leb 3 k) (leb k 31) t), leb-true k 31 (and-right (leb 3 k) (leb k 31) t))
+    let t = test-good (leb leastK k && leb k mostK) 2 0 Good h .0 in
+    (leb-true leastK k (and-left (leb leastK k) (leb k mostK) t), leb-true k mostK (and-right (leb leastK k) (leb k mostK) t))
 
 -- what passes 3
-pub size-good : (N m : ℕ) → sizeVerdict N m ≡ Good → (N ≤ 1048576) × (m ≤ 65536)
+pub size-good : (N m : ℕ) → sizeVerdict N m ≡ Good → (N ≤ mostLetters) × (m ≤ mostStrings)
 unfolding sizeVerdict
 size-good N m h =
-    let t = test-good (leb N 1048576 && leb m 65536) 3 0 Good h .0 in
-    (leb-true N 1048576 (and-left (leb N 1048576) (leb m 65536) t), leb-true m 65536 (and-right (leb N 1048576) (leb m 65536) t))
+    let t = test-good (leb N mostLetters && leb m mostStrings) 3 0 Good h .0 in
+    (leb-true N mostLetters (and-left (leb N mostLetters) (leb m mostStrings) t), leb-true m mostStrings (and-right (leb N mostLetters) (leb m mostStrings) t))
 
 -- within the limits nothing is refused by 3
-pub good-size : {N m : ℕ} → N ≤ 1048576 → m ≤ 65536 → sizeVerdict N m ≡ Good
+pub good-size : {N m : ℕ} → N ≤ mostLetters → m ≤ mostStrings → sizeVerdict N m ≡ Good
 unfolding sizeVerdict
-good-size {N} {m} a b = ap (λ t. choose t Good (Bad 3 0)) (and-both (le-leb N 1048576 a) (le-leb m 65536 b))
+good-size {N} {m} a b = ap (λ t. choose t Good (Bad 3 0)) (and-both (le-leb N mostLetters a) (le-leb m mostStrings b))
 
 -- ─── 4 ───────────────────────────────────────────────────────────────────────
 
@@ -73,10 +86,10 @@ ends-good k N ends h =
 
 -- the strings have their places
 pub record Shape (t : Spelling) : Type 0 where
-  pub k-low : 3 ≤ t.k
-  pub k-high : t.k ≤ 31
-  pub N-high : length t.letters ≤ 1048576
-  pub m-high : length t.ends ≤ 65536
+  pub k-low : leastK ≤ t.k
+  pub k-high : t.k ≤ mostK
+  pub N-high : length t.letters ≤ mostLetters
+  pub m-high : length t.ends ≤ mostStrings
   pub long : firstShort t.k 0 0 t.ends ≡ 0
   pub last : lastEnd 0 t.ends ≡ length t.letters
   pub room : length t.ends * t.k ≤ length t.letters

@@ -23,7 +23,8 @@ use Rattle.collection.proofs.Judged.{long-cons, Shape, ends-room}
 -- ─── how many ────────────────────────────────────────────────────────────────
 
 -- each string has k - 1 letters more than k-mers
-pub kmers-length : (k i before : ℕ) (ends : List ℕ) → 1 ≤ k → firstShort k i before ends ≡ 0 → length (kmersFrom k before ends) + length ends * (k - 1) + before ≡ lastEnd before ends
+pub kmers-length : (k i before : ℕ) (ends : List ℕ) → 1 ≤ k → firstShort k i before ends ≡ 0
+    → length (kmersFrom k before ends) + length ends * (k - 1) + before ≡ lastEnd before ends
 unfolding kmersFrom lastEnd
 kmers-length k i before [] k1 h = omega (arith, zero-mul (k - 1))
 kmers-length k i before (e ∷ ends) k1 h =
@@ -55,7 +56,8 @@ long-take k i before (suc j) (e ∷ ends) h =
     let a = long-cons k i before e ends h in
     rw (le-ltb e (before + k) (a .0)) (long-take k (suc i) e j ends (a .1))
 
-last-take : (before j : ℕ) (ends : List ℕ) → j < length ends → lastEnd before (take (suc j) ends) ≡ getD ends j 0
+-- the last of the first ends is the end before
+pub last-take : (before j : ℕ) (ends : List ℕ) → j < length ends → lastEnd before (take (suc j) ends) ≡ getD ends j 0
 unfolding lastEnd
 last-take before j [] h = absurd (not-suc-le-zero h)
 last-take before zero (e ∷ ends) h = refl
@@ -89,7 +91,8 @@ kmers-fit k i before (e ∷ ends) h =
     (kmers-fit k (suc i) e ends (a .1))
 
 -- the k letters of a handle lie within the letters
-pub position-fits : {t : Spelling} → Shape t → (handle : ℕ) → 1 ≤ handle → handle ≤ length (kmers t.k t.ends) → positionOf t.k t.ends handle + t.k ≤ length t.letters
+pub position-fits : {t : Spelling} → Shape t → (handle : ℕ) → 1 ≤ handle → handle ≤ length (kmers t.k t.ends)
+    → positionOf t.k t.ends handle + t.k ≤ length t.letters
 position-fits {t} s handle h l =
     omega (arith, all-at (λ a. a + t.k ≤ lastEnd 0 t.ends) (kmers t.k t.ends) (kmers-fit t.k 0 0 t.ends (s .long)) (handle - 1) 0 (omega arith), s .last)
 
@@ -107,7 +110,8 @@ pub strings-begin : {k N : ℕ} {ends : List ℕ} → Long k ends → lastEnd 0 
 strings-begin g e = record { inside = omega arith; long = g .long; last = e; few = omega arith }
 
 -- the k-mers of one string more
-pub kmers-next : (k before : ℕ) (ends : List ℕ) (i : ℕ) → i < length ends → kmersFrom k before (drop i ends) ≡ countFrom before (within k before (getD ends i 0)) ++ kmersFrom k (getD ends i 0) (drop (i + 1) ends)
+pub kmers-next : (k before : ℕ) (ends : List ℕ) (i : ℕ) → i < length ends
+    → kmersFrom k before (drop i ends) ≡ countFrom before (within k before (getD ends i 0)) ++ kmersFrom k (getD ends i 0) (drop (i + 1) ends)
 unfolding kmersFrom
 kmers-next k before ends i l = ap (kmersFrom k before) (drop-next ends i 0 l)
 

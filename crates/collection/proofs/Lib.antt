@@ -4,3 +4,4 @@ pub mod Judged
 pub mod Kmers
 pub mod Strings
 pub mod Ready
+pub mod Strung

@@ -30,7 +30,8 @@ pub record Whole (k : ℕ) (s : Str) : Type 0 where
 -- ─── the tables of strings, cut, are the strings ─────────────────────────────
 
 cut-first : (k before : ℕ) (s : Str) (letters ends weights : List ℕ) → Whole k s
-    → stringsFrom k before (s .letters ++ letters) ((before + length (s .letters)) ∷ ends) (s .weights ++ weights) ≡ s ∷ stringsFrom k (before + length (s .letters)) letters ends weights
+    → stringsFrom k before (s .letters ++ letters) ((before + length (s .letters)) ∷ ends) (s .weights ++ weights) ≡ s
+    ∷ stringsFrom k (before + length (s .letters)) letters ends weights
 unfolding stringsFrom
 cut-first k before s letters ends weights h =
     let n : length (s .letters) ≡ before + length (s .letters) - before = omega arith in
@@ -79,17 +80,28 @@ weights-length : (k : ℕ) (ss : List Str) → 1 ≤ k → All (Whole k) ss → 
 unfolding weightsIn lettersIn
 weights-length k [] l h = omega (arith, zero-mul (k - 1))
 weights-length k (s ∷ ss) l h =
-    omega (arith, weights-length k ss l (h .1), h .0 .long, h .0 .counted, suc-mul (length ss) (k - 1), length-append (s .weights) (weightsIn ss), length-append (s .letters) (lettersIn ss))
+    omega (
+      arith,
+      weights-length k ss l (h .1),
+      h .0 .long,
+      h .0 .counted,
+      suc-mul (length ss) (k - 1),
+      length-append (s .weights) (weightsIn ss),
+      length-append (s .letters) (lettersIn ss),
+    )
 
 -- as many weights as k-mers
 pub weights-counted : (k : ℕ) (ss : List Str) → 1 ≤ k → All (Whole k) ss → length (weightsIn ss) ≡ kmersIn (spellingOf (joined k ss))
 weights-counted k ss l h = omega (arith, weights-length k ss l h, ap (λ (m : ℕ). m * (k - 1)) (ends-length 0 ss))
 
--- as many strings as ends
-pub strings-count : (k before : ℕ) (letters ends weights : List ℕ) → length (stringsFrom k before letters ends weights) ≡ length ends
+count-from : (k before : ℕ) (letters ends weights : List ℕ) → length (stringsFrom k before letters ends weights) ≡ length ends
 unfolding stringsFrom
-strings-count k before letters [] weights = refl
-strings-count k before letters (e ∷ ends) weights = ap suc (strings-count k e (drop (e - before) letters) ends (drop (within k before e) weights))
+count-from k before letters [] weights = refl
+count-from k before letters (e ∷ ends) weights = ap suc (count-from k e (drop (e - before) letters) ends (drop (within k before e) weights))
+
+-- as many strings as ends
+pub strings-count : (c : Collection) → length (strings c) ≡ length c.ends
+strings-count c = count-from c.k 0 c.letters c.ends c.weights
 
 -- ─── what holds of each letter and weight ────────────────────────────────────
 
@@ -103,17 +115,23 @@ unfolding weightsIn
 all-weights-in P [] h = tt
 all-weights-in P (s ∷ ss) h = all-append P (s .weights) (weightsIn ss) (h .0) (all-weights-in P ss (h .1))
 
-pub each-letters : (P : ℕ → Type 0) (k before : ℕ) (letters ends weights : List ℕ) → All P letters → All (λ s. All P (s .letters)) (stringsFrom k before letters ends weights)
+pub each-letters : (P : ℕ → Type 0) (k before : ℕ) (letters ends weights : List ℕ) → All P letters
+    → All (λ s. All P (s .letters)) (stringsFrom k before letters ends weights)
 unfolding stringsFrom
 each-letters P k before letters [] weights h = tt
-each-letters P k before letters (e ∷ ends) weights h =
-    (all-take P (e - before) letters h, each-letters P k e (drop (e - before) letters) ends (drop (within k before e) weights) (all-drop P (e - before) letters h))
+each-letters P k before letters (e ∷ ends) weights h = (
+  all-take P (e - before) letters h,
+  each-letters P k e (drop (e - before) letters) ends (drop (within k before e) weights) (all-drop P (e - before) letters h),
+)
 
-pub each-weights : (P : ℕ → Type 0) (k before : ℕ) (letters ends weights : List ℕ) → All P weights → All (λ s. All P (s .weights)) (stringsFrom k before letters ends weights)
+pub each-weights : (P : ℕ → Type 0) (k before : ℕ) (letters ends weights : List ℕ) → All P weights
+    → All (λ s. All P (s .weights)) (stringsFrom k before letters ends weights)
 unfolding stringsFrom
 each-weights P k before letters [] weights h = tt
-each-weights P k before letters (e ∷ ends) weights h =
-    (all-take P (within k before e) weights h, each-weights P k e (drop (e - before) letters) ends (drop (within k before e) weights) (all-drop P (within k before e) weights h))
+each-weights P k before letters (e ∷ ends) weights h = (
+  all-take P (within k before e) weights h,
+  each-weights P k e (drop (e - before) letters) ends (drop (within k before e) weights) (all-drop P (within k before e) weights h),
+)
 
 -- the tables of strings pass 2 to 6
 pub tables-pass : (k : ℕ) (ss : List Str) → kVerdict k ≡ Good → sizeVerdict (length (lettersIn ss)) (length ss) ≡ Good
@@ -196,7 +214,8 @@ same-next k i before e letters ends weights ss f s =
       whole = (record { long = omega arith; counted = omega arith }, s .whole);
     }
 
-cut-same : (k i before : ℕ) (letters ends weights : List ℕ) → Left k i before letters ends weights → Same k before letters ends weights (stringsFrom k before letters ends weights)
+cut-same : (k i before : ℕ) (letters ends weights : List ℕ) → Left k i before letters ends weights
+    → Same k before letters ends weights (stringsFrom k before letters ends weights)
 unfolding stringsFrom lettersIn endsIn weightsIn lastEnd
 cut-same k i before letters [] weights h =
     let a : before ≡ before + length letters = h .last in

@@ -2,16 +2,16 @@
 use mathlib.Core.Path.{_≡_, refl, sym, ap, _∙_}
 use mathlib.Core.Bool.{Bool, true, false}
 use Prim.Native.Nat.{ℕ, zero, suc, _≤_}
-use native.Mathlib.Omega.{arith}
 use borrow.Author.Tests.{ltb-false, le-ltb}
 use lib.Dec.{ltb}
 use Rattle.lists.specs.Choose.{choose}
+use Rattle.lists.proofs.Refuted.{refuted}
 use Rattle.collection.specs.declared.Verdict.{Verdict}
 use Rattle.collection.specs.declared.Verdict.the-variants.{Good, Bad}
 use Rattle.collection.specs.Verdict.{atPlace, andThen, settle, roomVerdict}
 
 pub bad-good : {number place : ℕ} → Bad number place ≡ Good → ⊥
-bad-good h = let z : _≡_ {A = ℕ} 0 1 = cc in omega arith
+bad-good h = refuted (cc)
 
 -- ─── a row of judgements, as a call goes through it ──────────────────────────
 
@@ -95,14 +95,16 @@ module _ {Out : Type 0} {verdict : Verdict} (refuse : ℕ → ℕ → Out) where
 -- ─── what an answer tells of the call ────────────────────────────────────────
 
 -- `answer` is the part of an outcome that is told. An answer r that no refusal gives: the call was not refused
-pub done-by : {Out Answer : Type 0} (answer : Out → Answer) (v : Verdict) (refuse : ℕ → ℕ → Out) (done : Out) (r : Answer) → ((number place : ℕ) → answer (refuse number place) ≡ r → ⊥)
+pub done-by : {Out Answer : Type 0} (answer : Out → Answer) (v : Verdict) (refuse : ℕ → ℕ → Out) (done : Out) (r : Answer)
+    → ((number place : ℕ) → answer (refuse number place) ≡ r → ⊥)
     → answer (settle v refuse done) ≡ r → (v ≡ Good) × (settle v refuse done ≡ done) × (answer done ≡ r)
 unfolding settle
 done-by answer Good refuse done r not e = (refl, refl, e)
 done-by answer (Bad number place) refuse done r not e = absurd (not number place e)
 
 -- an answer r that a call gives only where it is refused
-pub refused-by : {Out Answer : Type 0} (answer : Out → Answer) (v : Verdict) (refuse : ℕ → ℕ → Out) (done : Out) (r : Answer) → (answer done ≡ r → ⊥) → answer (settle v refuse done) ≡ r
+pub refused-by : {Out Answer : Type 0} (answer : Out → Answer) (v : Verdict) (refuse : ℕ → ℕ → Out) (done : Out) (r : Answer) → (answer done ≡ r → ⊥)
+    → answer (settle v refuse done) ≡ r
     → (number : ℕ) × (place : ℕ) × (settle v refuse done ≡ refuse number place) × (answer (refuse number place) ≡ r)
 unfolding settle
 refused-by answer Good refuse done r not e = absurd (not e)

@@ -1,4 +1,5 @@
 -- A collection as one value: k and its tables. What reads no weight takes the spelling of a collection, so that calls that are lent no weights cite it too.
+-- Specification: 3.1.
 use mathlib.Core.List.{List}
 use Prim.Native.Nat.{ℕ}
 

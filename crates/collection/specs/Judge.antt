@@ -1,4 +1,5 @@
 -- The refusals 2 to 6 of a collection and 9 of a question, in the words and the order of the table of refusals.
+-- Specification: 8.1, 8.2, 8.3.
 use mathlib.Core.Bool.{not, _&&_}
 use mathlib.Core.List.{List}
 use mathlib.Core.Path.{_≡_}
@@ -8,6 +9,7 @@ use lib.ListN.{length}
 use Rattle.lists.specs.Choose.{choose}
 use Rattle.lists.specs.Every.{every}
 use Rattle.lists.specs.First.{firstThat}
+use Rattle.lists.specs.Limits.{mostLetters, mostStrings, leastK, mostK}
 use Rattle.alphabet.specs.Letter.{isLetter}
 use Rattle.collection_faults.specs.Faults.{firstShort, lastEnd, isWeight}
 use Rattle.collection.specs.Collection.{Spelling, Collection, spellingOf}
@@ -19,11 +21,11 @@ use Rattle.collection.specs.Verdict.{andThen, atPlace}
 
 -- 2: k is 3 to 31
 unfoldable pub kVerdict : ℕ → Verdict
-kVerdict k = choose (leb 3 k && leb k 31) Good (Bad 2 0)
+kVerdict k = choose (leb leastK k && leb k mostK) Good (Bad 2 0)
 
 -- 3: N is at most 1,048,576, m at most 65,536
 unfoldable pub sizeVerdict : ℕ → ℕ → Verdict
-sizeVerdict N m = choose (leb N 1048576 && leb m 65536) Good (Bad 3 0)
+sizeVerdict N m = choose (leb N mostLetters && leb m mostStrings) Good (Bad 3 0)
 
 -- ─── 4 ───────────────────────────────────────────────────────────────────────
 

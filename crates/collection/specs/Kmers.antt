@@ -1,4 +1,5 @@
 -- The k-mers of a collection in handle order, their words and weights.
+-- Specification: 3.3, 3.4.
 use mathlib.Core.List.{List, [], _∷_, _++_}
 use mathlib.Core.Logic.{_⊎_}
 use mathlib.Core.Path.{_≡_}

@@ -4,4 +4,6 @@ pub mod Verdict
 pub mod Judge
 pub mod Kmers
 pub mod Strings
+pub mod EndWeights
+pub mod Tables
 pub mod Ready

@@ -1,4 +1,5 @@
 -- The strings of a collection, each with its letters and weights, and the tables that strings make.
+-- Specification: 3.3.
 use mathlib.Core.List.{List, [], _∷_, _++_}
 use Prim.Native.Nat.{ℕ, _+_, _-_}
 use lib.ListN.{length, take, drop}

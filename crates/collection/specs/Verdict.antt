@@ -1,4 +1,5 @@
 -- Verdicts: a call finds nothing to refuse, or refuses with a number and a place.
+-- Specification: 8.1, 8.3, 8.4.
 use Prim.Native.Nat.{ℕ, zero, suc}
 use lib.Dec.{ltb}
 use Rattle.lists.specs.Choose.{choose}

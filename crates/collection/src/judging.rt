@@ -2,6 +2,7 @@
 use crate::Verdict;
 ghost use mathlib.Core.Path.{_≡_};
 ghost use Prim.Native.Nat.{_≤_};
+ghost use Rattle.lists.specs.Limits.{mostK};
 ghost use Rattle.collection.specs.Verdict.{atPlace};
 ghost use Rattle.collection.specs.Judge.{endsVerdict, lettersVerdict, weightsVerdict};
 
@@ -17,7 +18,7 @@ fn at_place(number: u32, place: usize) -> Verdict
 
 // 4: a string shorter than k, or a last end that is not the number of letters.
 pub(crate) fn judge_ends(k: usize, letters: usize, ends: &[u32]) -> Verdict
-    requires { ⌜ k ≤ 31 ⌝ }
+    requires { ⌜ k ≤ mostK ⌝ }
     ensures { λ r. ⌜ r ≡ endsVerdict k letters (now (ends .entry)) ⌝ }
 {
     let short = collection_faults::inner::first_short(k, ends);

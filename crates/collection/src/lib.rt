@@ -5,10 +5,11 @@ mod judging;
 
 ghost use mathlib.Core.Path.{_≡_};
 ghost use Rattle.collection.specs.Collection.{spelling, collection};
+ghost use Rattle.collection.specs.Tables.{rooms, roomsVerdict};
 ghost use Rattle.collection.specs.Verdict.{roomVerdict};
 ghost use Rattle.collection.specs.Judge.{kVerdict, sizeVerdict, shapeVerdict, collectionVerdict, handleVerdict, wordVerdict};
 
-// What judging finds: nothing to refuse, or the first refusal in document 01's order.
+// What judging finds: nothing to refuse, or the first refusal, in the order of the specification (8.3).
 pub enum Verdict {
     Good,
     Bad { number: u32, place: usize },
@@ -94,6 +95,28 @@ pub fn judge_room(have: usize, need: usize) -> Verdict
         };
     }
     Verdict::Good
+}
+
+// 1: tables of these lengths for so many letters, ends and weights.
+pub fn judge_rooms(
+    letters: usize,
+    ends: usize,
+    weights: usize,
+    need_letters: usize,
+    need_ends: usize,
+    need_weights: usize,
+) -> Verdict
+    ensures { λ r. ⌜ r ≡ roomsVerdict (rooms letters ends weights) «need_letters» «need_ends» «need_weights» ⌝ }
+{
+    let a = judge_room(letters, need_letters);
+    let Verdict::Good = a else {
+        return a;
+    };
+    let b = judge_room(ends, need_ends);
+    let Verdict::Good = b else {
+        return b;
+    };
+    judge_room(weights, need_weights)
 }
 
 // 9: a handle that is not 1 to n.

@@ -2,19 +2,20 @@
 use mathlib.Core.Path.{_≡_, refl, sym, ap, _∙_}
 use mathlib.Core.Bool.{Bool, true, not, _&&_}
 use mathlib.Core.List.{List, [], _∷_}
-use Prim.Native.Nat.{ℕ, _+_, _-_, _<_, _≤_}
+use Prim.Native.Nat.{ℕ, _+_, _-_, _<_, _≤_, _^_}
 use native.Mathlib.Numerals.{add-one, sub-one}
 use native.Mathlib.Omega.{arith}
 use native.Mathlib.Decide.{decLe}
-use borrow.Author.Tests.{le-leb, lt-leb, ne-eqb, lt-ltb, le-ltb}
+use borrow.Author.Tests.{le-leb, lt-leb, ne-eqb, lt-ltb, le-ltb, leb-true}
 use lib.Dec.{leb, eqb}
 use lib.ListN.{length, drop, getD, drop-of-length-le}
 use lib.Seq.{drop-cons}
 use Rattle.lists.specs.Every.{All}
 use Rattle.lists.specs.First.{firstThat}
-use Rattle.lists.proofs.Every.{and-assoc, and-true, all-map}
+use Rattle.lists.specs.Limits.{mostWeight}
+use Rattle.lists.proofs.Every.{and-assoc, and-true, all-map, and-right}
 use Rattle.lists.proofs.First.{none-first}
-use Rattle.collection_faults.specs.Faults.{firstShort, lastEnd}
+use Rattle.collection_faults.specs.Faults.{firstShort, lastEnd, isWeight}
 
 -- ─── short strings ───────────────────────────────────────────────────────────
 
@@ -43,11 +44,15 @@ module _ (k before : ℕ) (ends : List ℕ) (i : ℕ) where
     where
       go : Dec (before + k ≤ getD ends i 0) → noneShort ≡ (leb (before + k) (getD ends i 0) && eqb (firstShort k (i + 1) (getD ends i 0) (drop (i + 1) ends)) 0)
       go (yes l) = rw (short-next k before ends i h l, le-leb (before + k) (getD ends i 0) l)
-      go (no l) = let s : getD ends i 0 < before + k = omega arith in rw (short-here k before ends i h s, lt-leb (before + k) (getD ends i 0) s) (ne-eqb (i + 1) 0 (λ q. omega arith))
+      go (no l) = let s : getD ends i 0 < before + k = omega arith in
+          rw (short-here k before ends i h s, lt-leb (before + k) (getD ends i 0) s) (ne-eqb (i + 1) 0 (λ q. omega arith))
 
   -- one string more was tested
-  pub none-short-next : i < length ends → (all good : Bool) → all ≡ (good && noneShort) → all ≡ ((good && leb (before + k) (getD ends i 0)) && eqb (firstShort k (i + 1) (getD ends i 0) (drop (i + 1) ends)) 0)
-  none-short-next h all good q = q ∙ (ap (λ (t : Bool). good && t) (none-short-step h) ∙ and-assoc good (leb (before + k) (getD ends i 0)) (eqb (firstShort k (i + 1) (getD ends i 0) (drop (i + 1) ends)) 0))
+  pub none-short-next : i < length ends → (all good : Bool) → all ≡ (good && noneShort)
+      → all ≡ ((good && leb (before + k) (getD ends i 0)) && eqb (firstShort k (i + 1) (getD ends i 0) (drop (i + 1) ends)) 0)
+  none-short-next h all good q =
+      q ∙ (ap (λ (t : Bool). good && t) (none-short-step h)
+      ∙ and-assoc good (leb (before + k) (getD ends i 0)) (eqb (firstShort k (i + 1) (getD ends i 0) (drop (i + 1) ends)) 0))
 
   -- all were tested
   pub none-short-end : length ends ≤ i → (all good : Bool) → all ≡ (good && noneShort) → good ≡ all
@@ -76,3 +81,9 @@ last-none (e ∷ ends) h = absurd (omega arith)
 -- a test of a whole table that all pass finds no first that fails
 pub every-first : (test : ℕ → Bool) (xs : List ℕ) → All (λ x. test x ≡ true) xs → firstThat (λ x. not (test x)) xs ≡ 0
 every-first test xs h = none-first (λ x. not (test x)) xs (all-map (λ x e. ap not e) xs h)
+
+-- ─── weights ─────────────────────────────────────────────────────────────────
+
+-- a weight fits 24 bits
+pub weights-low : (ws : List ℕ) → All (λ w. isWeight w ≡ true) ws → All (λ w. w < 2 ^ 24) ws
+weights-low ws h = all-map (λ w e. let l = leb-true w mostWeight (and-right (leb 1 w) (leb w mostWeight) e) in let z : w < 2 ^ 24 = omega arith in z) ws h

@@ -6,12 +6,13 @@ ghost use Prim.Native.Nat.{_≤_};
 ghost use lib.Dec.{eqb};
 ghost use Rattle.lists.specs.Every.{every};
 ghost use Rattle.lists.specs.First.{firstThat};
+ghost use Rattle.lists.specs.Limits.{mostK};
 ghost use Rattle.alphabet.specs.Letter.{isLetter};
 ghost use Rattle.collection_faults.specs.Faults.{firstShort, lastEnd, isWeight};
 
 // Whether no string is shorter than k.
 fn none_short(k: usize, ends: &[u32]) -> bool
-    requires { ⌜ k ≤ 31 ⌝ }
+    requires { ⌜ k ≤ mostK ⌝ }
     ensures { λ r. ⌜ r ≡ eqb (firstShort k 0 0 (now (ends .entry))) 0 ⌝ }
 {
     let mut good = true;
@@ -28,7 +29,7 @@ fn none_short(k: usize, ends: &[u32]) -> bool
 
 // The number of the first string shorter than k, or 0.
 pub fn first_short(k: usize, ends: &[u32]) -> usize
-    requires { ⌜ k ≤ 31 ⌝ }
+    requires { ⌜ k ≤ mostK ⌝ }
     ensures { λ r. ⌜ r ≡ firstShort k 0 0 (now (ends .entry)) ⌝ }
 {
     if none_short(k, ends) {

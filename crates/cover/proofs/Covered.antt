@@ -94,7 +94,8 @@ module _ {m : ℕ} {t u : Tables} {z walks : ℕ} (g : Graph m (t .verts) (t .ro
 
   module _ (ps : List ℤ) (l : length ps ≡ m) where
     each-placed : (n : ℕ) → n < m
-        → (getD (marks m halves) n (0, false) .0 < m) × (getD (placeAll m 0 halves ps) (getD (marks m halves) n (0, false) .0) (pos 0) ≡ signed (suc n) (getD (marks m halves) n (0, false) .1))
+        → (getD (marks m halves) n (0, false) .0 < m)
+        × (getD (placeAll m 0 halves ps) (getD (marks m halves) n (0, false) .0) (pos 0) ≡ signed (suc n) (getD (marks m halves) n (0, false) .1))
     each-placed n b =
         let r = marks-placed m 0 halves ps l (λ e h. omega (arith, d .once e h)) n (omega (arith, count-marks)) in
         let q : 0 + suc n ≡ suc n = omega arith in
@@ -104,12 +105,14 @@ module _ {m : ℕ} {t u : Tables} {z walks : ℕ} (g : Graph m (t .verts) (t .ro
     places-size = length-all m 0 halves ps ∙ l
 
     places-permute : SignedPermutation m (placeAll m 0 halves ps)
-    places-permute = marked-permutation turned (0, 0) m (placeAll m 0 halves ps) (strings m t) (marks m halves) places-size count-strings count-marks each-placed
+    places-permute =
+        marked-permutation turned (0, 0) m (placeAll m 0 halves ps) (strings m t) (marks m halves) places-size count-strings count-marks each-placed
 
     places-least : pathCount (arranged turned (placeAll m 0 halves ps) (strings m t)) ≡ least (strings m t)
     places-least =
         ap pathCount
-        (marked-arranged turned (0, 0) m (placeAll m 0 halves ps) (strings m t) (marks m halves) places-size count-strings count-marks each-placed ∙ sym in-order)
+        (marked-arranged turned (0, 0) m (placeAll m 0 halves ps) (strings m t) (marks m halves) places-size count-strings count-marks each-placed
+        ∙ sym in-order)
         ∙ toured-least (hub-fresh m t g) (d .toured)
 
     -- ─── the same for the strings by their weights ───────────────────────────

@@ -106,13 +106,15 @@ once-later m c cs once e h = omega (arith, once e h)
 
 -- One half, where the later ones name each string at most once and place those that they name.
 module _ (m n c : ℕ) (cs : List ℕ) (ps : List ℤ) (l : length ps ≡ m) (once : (e : ℕ) → e < m → occurs e (numbers (c ∷ cs)) ≤ 1)
-    (more : (i : ℕ) (qs : List ℤ) → length qs ≡ m → (j : ℕ) → j < length (marks m cs) → MarkedAt m (placeAll m i cs qs) (i + suc j) (getD (marks m cs) j (0, false))) where
+    (more : (i : ℕ) (qs : List ℤ) → length qs ≡ m → (j : ℕ) → j < length (marks m cs)
+    → MarkedAt m (placeAll m i cs qs) (i + suc j) (getD (marks m cs) j (0, false))) where
   first-at : c < 2 * m → MarkedAt m (placeAll m n (c ∷ cs) ps) (n + 1) (c / 2, eqb (c % 2) 1)
   unfolding placeAll occurs
   first-at h = (
     omega arith,
     others-kept m (counted m n c) cs (placedBy m n c ps) (c / 2) (omega (arith, once (c / 2) (omega arith), agree-same (c / 2) (c / 2) refl))
-        ∙ (ap (λ (x : List ℤ). getD x (c / 2) (pos 0)) (string-placed m n c ps h) ∙ getD-set-same ps (c / 2) (signed (n + 1) (eqb (c % 2) 1)) (pos 0) (omega arith)),
+        ∙ (ap (λ (x : List ℤ). getD x (c / 2) (pos 0)) (string-placed m n c ps h)
+        ∙ getD-set-same ps (c / 2) (signed (n + 1) (eqb (c % 2) 1)) (pos 0) (omega arith)),
   )
 
   all-string : (h : c < 2 * m) → placeAll m n (c ∷ cs) ps ≡ placeAll m (n + 1) cs (placedBy m n c ps)
@@ -123,8 +125,10 @@ module _ (m n c : ℕ) (cs : List ℕ) (ps : List ℤ) (l : length ps ≡ m) (on
   unfolding placeAll
   all-spoke h = ap₂ (λ (i : ℕ) (qs : List ℤ). placeAll m i cs qs) (spoke-counted m n c h) (spoke-placed m n c ps h)
 
-  string-at : c < 2 * m → (j : ℕ) → j < suc (length (marks m cs)) → MarkedAt m (placeAll m n (c ∷ cs) ps) (n + suc j) (getD ((c / 2, eqb (c % 2) 1) ∷ marks m cs) j (0, false))
-  string-at h zero b = let e : n + 1 ≡ n + suc 0 = omega arith in subst (λ (i : ℕ). MarkedAt m (placeAll m n (c ∷ cs) ps) i (c / 2, eqb (c % 2) 1)) e (first-at h)
+  string-at : c < 2 * m → (j : ℕ) → j < suc (length (marks m cs))
+      → MarkedAt m (placeAll m n (c ∷ cs) ps) (n + suc j) (getD ((c / 2, eqb (c % 2) 1) ∷ marks m cs) j (0, false))
+  string-at h zero b = let e : n + 1 ≡ n + suc 0 = omega arith in
+      subst (λ (i : ℕ). MarkedAt m (placeAll m n (c ∷ cs) ps) i (c / 2, eqb (c % 2) 1)) e (first-at h)
   string-at h (suc j) b =
       let e : n + 1 + suc j ≡ n + suc (suc j) = omega arith in
       subst (λ (i : ℕ). MarkedAt m (placeAll m n (c ∷ cs) ps) i (getD (marks m cs) j (0, false))) e
@@ -138,7 +142,8 @@ module _ (m n c : ℕ) (cs : List ℕ) (ps : List ℤ) (l : length ps ≡ m) (on
   next-at (no h) j b =
       let k : 2 * m ≤ c = omega arith in
       subst (λ (ks : List (ℕ × Bool)). MarkedAt m (placeAll m n (c ∷ cs) ps) (n + suc j) (getD ks j (0, false))) (sym (spoke-marked m c cs k))
-      (subst (λ (qs : List ℤ). MarkedAt m qs (n + suc j) (getD (marks m cs) j (0, false))) (sym (all-spoke k)) (more n ps l j (rw (spoke-marked m c cs k) at b)))
+      (subst (λ (qs : List ℤ). MarkedAt m qs (n + suc j) (getD (marks m cs) j (0, false))) (sym (all-spoke k))
+      (more n ps l j (rw (spoke-marked m c cs k) at b)))
 
 -- each marked string has the place of its mark
 pub marks-placed : (m n : ℕ) (cs : List ℕ) (ps : List ℤ) → length ps ≡ m → ((e : ℕ) → e < m → occurs e (numbers cs) ≤ 1)
@@ -206,8 +211,10 @@ module _ (m : ℕ) (verts : List ℕ) (low : (c : ℕ) → c < 2 * m → getD ve
   unspoked-marks [] = unfold unspoked marks in refl
   unspoked-marks (c ∷ cs) = go (decLt c (2 * m)) (ℕ-discrete (c % 2) 0) (unspoked-marks cs)
     where
-      go : Dec (c < 2 * m) → Dec (c % 2 ≡ 0) → unspoked (2 * m) (map (gone (near m verts)) cs) ≡ map (marked turned (0, 0) (numbered (near m verts) 0 m)) (marks m cs)
-          → unspoked (2 * m) (gone (near m verts) c ∷ map (gone (near m verts)) cs) ≡ map (marked turned (0, 0) (numbered (near m verts) 0 m)) (marks m (c ∷ cs))
+      go : Dec (c < 2 * m) → Dec (c % 2 ≡ 0)
+          → unspoked (2 * m) (map (gone (near m verts)) cs) ≡ map (marked turned (0, 0) (numbered (near m verts) 0 m)) (marks m cs)
+          → unspoked (2 * m) (gone (near m verts) c ∷ map (gone (near m verts)) cs)
+          ≡ map (marked turned (0, 0) (numbered (near m verts) 0 m)) (marks m (c ∷ cs))
       go (yes l) d ih =
           unspoked-off (2 * m) (gone (near m verts) c) (map (gone (near m verts)) cs) (string-off c l) (string-off (other c) (omega arith))
           ∙ (ap₂ (λ (s : Ends) (L : List Ends). s ∷ L) (sym (mark-gone (near m verts) m c l)) ih
@@ -232,7 +239,8 @@ pub record Giving (m start : ℕ) (stack : List ℕ) (ps₀ ps : List ℤ) (n p 
 
 module _ {m start : ℕ} {stack : List ℕ} {ps₀ ps : List ℤ} {n p : ℕ} (g : Giving m start stack ps₀ ps n p) (k : length stack ≡ 3 * m) where
   -- the next half gives its place
-  pub giving-on : p < 3 * m → (c : ℕ) → c ≡ getD stack p 0 → {qs : List ℤ} {i : ℕ} → qs ≡ placedBy m n c ps → i ≡ counted m n c → Giving m start stack ps₀ qs i (p + 1)
+  pub giving-on : p < 3 * m → (c : ℕ) → c ≡ getD stack p 0 → {qs : List ℤ} {i : ℕ} → qs ≡ placedBy m n c ps → i ≡ counted m n c
+      → Giving m start stack ps₀ qs i (p + 1)
   unfolding placeAll
   giving-on l c is {qs} {i} a b = record {
     inside = omega arith;

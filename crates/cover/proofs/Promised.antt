@@ -11,19 +11,18 @@ use Rattle.collection.specs.Collection.{Collection, collection, spellingOf}
 use Rattle.collection.specs.declared.Verdict.{Verdict}
 use Rattle.collection.specs.declared.Verdict.the-variants.{Good, Bad}
 use Rattle.collection.specs.Judge.{collectionVerdict}
-use Rattle.collection.specs.Kmers.{kmers}
 use Rattle.collection.specs.Strings.{stringsFrom}
 use Rattle.collection.specs.Verdict.{roomVerdict}
-use Rattle.collection.proofs.Judged.{Judged, collection-good, shape-long}
-use Rattle.collection.proofs.Kmers.{kmers-counted}
+use Rattle.collection.specs.EndWeights.{endWeights}
+use Rattle.collection.proofs.Judged.{Judged, collection-good}
 use Rattle.collection.proofs.Verdicts.{both-good, room-good, refused, settled}
+use Rattle.collection.proofs.Strung.{each-weighed}
 use Rattle.cover_trails.specs.Strings.{Ends}
 use Rattle.cover_trails.specs.Places.{SignedPermutation, arrangedTo}
 use Rattle.cover_trails.proofs.Bounds.{no-strings}
 use Rattle.cover_trails.proofs.Paths.{paths-none}
 use Rattle.cover_tours.specs.Layout.{Fits}
-use Rattle.cover_vertices.specs.EndWeights.{endWeights}
-use Rattle.cover_vertices.specs.Promises.{endsFrom, Strung}
+use Rattle.cover_vertices.specs.Promises.{endsFrom}
 use Rattle.cover_vertices.proofs.EndWeights.{end-weights}
 use Rattle.cover.specs.declared.CoverAnswer.the-variants.{Covered, Refused}
 use Rattle.cover.specs.Cover.{coverVerdict, Fewest, PlacesAfter, CoverOf, Promise}
@@ -50,21 +49,9 @@ cover-good c places work h =
     }
 
 module _ {c : Collection} {places : List ℤ} {work : List ℕ} (r : Roomy c places work) where
-  counted : length c.weights ≡ length (kmers c.k c.ends)
-  counted = r .judged .counted ∙ sym (kmers-counted (r .judged .shape))
-
-  -- what `lay_out` asks
-  pub strung : Strung c.k c.ends c.weights
-  strung = record {
-    ends-long = shape-long (r .judged .shape);
-    few-letters = omega (arith, r .judged .shape .last, r .judged .shape .N-high);
-    counted = counted;
-    in-range = r .judged .all-weights;
-  }
-
   -- the end weights that are covered are those of the strings
   pub same-ends : endsFrom c.k 0 c.ends c.weights ≡ endWeights c
-  same-ends = sym (end-weights (spellingOf c) c.weights (r .judged .shape .long) counted)
+  same-ends = sym (end-weights (spellingOf c) c.weights (r .judged .shape .long) (each-weighed (r .judged)))
 
   -- the lent part of the work
   pub work-fits : (length c.ends ≡ 0 → ⊥) → Fits (length c.ends) (take (16 * length c.ends) work)
@@ -86,12 +73,14 @@ module _ {verdict : Verdict} {strings : List Ends} {m : ℕ} {places : List ℤ}
   }
 
   -- where all strings are covered
-  pub cover-done : verdict ≡ Good → {qs places' : List ℤ} {v work' : List ℕ} {n : ℕ} → Covering strings m qs v n → places' ≡ qs ++ drop m places → work' ≡ v ++ drop (16 * m) work
+  pub cover-done : verdict ≡ Good → {qs places' : List ℤ} {v work' : List ℕ} {n : ℕ} → Covering strings m qs v n → places' ≡ qs ++ drop m places
+      → work' ≡ v ++ drop (16 * m) work
       → CoverOf verdict strings m places work (Covered m n) places' work'
   cover-done e {qs} {places'} {v} {work'} {n} c p w = record {
     answered = settled Refused (ap (Covered m) (c .paths)) e;
     cleared = settled (λ number place. work) (w ∙ zeros) e;
-    placed = subst (λ (x : Verdict). PlacesAfter x strings places places') (sym e) (qs, p ∙ ap (λ (i : ℕ). qs ++ drop i places) (sym (c .places-size)), c .places-fewest);
+    placed = subst (λ (x : Verdict). PlacesAfter x strings places places') (sym e)
+        (qs, p ∙ ap (λ (i : ℕ). qs ++ drop i places) (sym (c .places-size)), c .places-fewest);
   }
     where
       zeros : v ++ drop (16 * m) work ≡ fill (replicate (16 * m) 0) work
@@ -124,5 +113,5 @@ cover-none {verdict} k letters ends weights {places} {work} e z =
 pub cover-all : (c : Collection) (places : List ℤ) (work : List ℕ) → coverVerdict c places work ≡ Good
     → {qs : List ℤ} {v : List ℕ} {n : ℕ} → Covering (endsFrom c.k 0 c.ends c.weights) (length c.ends) qs v n
     → Promise c places work (Covered (length c.ends) n) (qs ++ drop (length c.ends) places) (v ++ drop (16 * length c.ends) work)
-cover-all c places work e {qs} {v} {n} c₁ =
-    cover-done e (subst (λ (L : List Ends). Covering L (length c.ends) qs v n) (same-ends (cover-good c places work e)) c₁) refl refl
+cover-all c places work e {qs} {v} {n} covering =
+    cover-done e (subst (λ (L : List Ends). Covering L (length c.ends) qs v n) (same-ends (cover-good c places work e)) covering) refl refl

@@ -34,7 +34,3 @@ module _ (n : ℕ) (h : n ≤ 1048576) where
   -- and is the negative number
   pub as-negative : toZ w32 (ofZ w32 (pos 0 -ℤ toZ w32 n)) ≡ signed n true
   as-negative = toZ-ofZ w32 _ negative-fits ∙ less
-
--- a number that went through a call is the number
-pub kept : (z : ℤ) → mag z < 2147483648 → toZ w32 (ofZ w32 z) ≡ z
-kept z h = toZ-ofZ w32 z (record { sfits = h })

@@ -1,4 +1,5 @@
 -- COVER: signed places with the least number of paths.
+-- Specification: 9.4.
 use mathlib.Core.Path.{_≡_}
 use mathlib.Core.List.{List}
 use Prim.Native.Nat.{ℕ, _*_}
@@ -10,11 +11,11 @@ use Rattle.collection.specs.declared.Verdict.{Verdict}
 use Rattle.collection.specs.declared.Verdict.the-variants.{Good, Bad}
 use Rattle.collection.specs.Judge.{collectionVerdict}
 use Rattle.collection.specs.Verdict.{andThen, settle, roomVerdict}
+use Rattle.collection.specs.EndWeights.{endWeights}
 use Rattle.cover_trails.specs.Groups.{least}
 use Rattle.cover_trails.specs.Paths.{pathCount}
 use Rattle.cover_trails.specs.Places.{SignedPermutation, arranged}
 use Rattle.cover_trails.specs.Strings.{Ends, turned}
-use Rattle.cover_vertices.specs.EndWeights.{endWeights}
 use Rattle.cover.specs.declared.CoverAnswer.{CoverAnswer}
 use Rattle.cover.specs.declared.CoverAnswer.the-variants.{Covered, Refused}
 
@@ -34,7 +35,8 @@ PlacesAfter Good strings old new = (ps : List ℤ) × (new ≡ fill ps old) × F
 PlacesAfter (Bad number place) strings old new = new ≡ old
 
 -- What COVER answers and leaves, where `verdict` judges its input and `strings` are the end weights of the m strings.
-pub record CoverOf (verdict : Verdict) (strings : List Ends) (m : ℕ) (places : List ℤ) (work : List ℕ) (answer : CoverAnswer) (places' : List ℤ) (work' : List ℕ) : Type 0 where
+pub record CoverOf (verdict : Verdict) (strings : List Ends) (m : ℕ) (places : List ℤ) (work : List ℕ) (answer : CoverAnswer) (places' : List ℤ)
+    (work' : List ℕ) : Type 0 where
   -- m places are filled, and the number of their paths is the least
   pub answered : answer ≡ settle verdict Refused (Covered m (least strings))
   -- the first 16m entries are zero

@@ -2,9 +2,10 @@
 ghost use mathlib.Core.Path.{_≡_};
 ghost use Prim.Native.Nat.{_+_, _*_, _≤_, _<_};
 ghost use lib.ListN.{length, drop};
+ghost use Rattle.collection.specs.Ready.{Strung};
 ghost use Rattle.cover_trails.specs.Places.{signed};
 ghost use Rattle.cover_tours.specs.Layout.{Fits, tables};
-ghost use Rattle.cover_vertices.specs.Promises.{endsFrom, Strung};
+ghost use Rattle.cover_vertices.specs.Promises.{endsFrom};
 ghost use Rattle.cover.specs.Covering.{counted, placedBy, placeAll, Covering};
 
 // A number as an index.
@@ -61,7 +62,8 @@ pub(crate) fn cover_strings(
     work: &mut [u32],
 ) -> usize
     requires { ⌜ Strung k (now ends) (now weights) × Fits (length (now ends)) (now work) × (length (now places) ≡ length (now ends)) ⌝ }
-    ensures { λ r. ⌜ Covering (endsFrom k 0 (now (ends .entry)) (now (weights .entry))) (length (now (ends .entry))) (now (places .exit)) (now (work .exit)) r ⌝ }
+    ensures { λ r.
+        ⌜ Covering (endsFrom k 0 (now (ends .entry)) (now (weights .entry))) (length (now (ends .entry))) (now (places .exit)) (now (work .exit)) r ⌝ }
 {
     let m = ends.len();
     cover_vertices::inner::lay_out(k, ends, weights, work);

@@ -21,7 +21,8 @@ fn judge_cover(
     places: &[i32],
     work: &[u32],
 ) -> Verdict
-    ensures { λ r. ⌜ r ≡ coverVerdict (collection k (now (letters .entry)) (now (ends .entry)) (now (weights .entry))) (now (places .entry)) (now (work .entry)) ⌝ }
+    ensures { λ r.
+        ⌜ r ≡ coverVerdict (collection k (now (letters .entry)) (now (ends .entry)) (now (weights .entry))) (now (places .entry)) (now (work .entry)) ⌝ }
 {
     let a = collection::judge_collection(k, letters, ends, weights);
     let Verdict::Good = a else {
@@ -44,7 +45,9 @@ pub fn cover(
     places: &mut [i32],
     work: &mut [u32],
 ) -> CoverAnswer
-    ensures { λ r. ⌜ Promise (collection k (now (letters .entry)) (now (ends .entry)) (now (weights .entry))) (now (places .entry)) (now (work .entry)) r (now (places .exit)) (now (work .exit)) ⌝ }
+    ensures { λ r.
+        ⌜ Promise (collection k (now (letters .entry)) (now (ends .entry)) (now (weights .entry))) (now (places .entry)) (now (work .entry)) r
+        (now (places .exit)) (now (work .exit)) ⌝ }
 {
     let v = judge_cover(k, letters, ends, weights, places, work);
     if let Verdict::Bad { number, place } = v {

@@ -13,6 +13,7 @@ use Rattle.lists.proofs.Every.{all-map}
 use Rattle.collection.specs.Collection.{Collection, collection}
 use Rattle.collection.specs.Judge.{Passes}
 use Rattle.collection.specs.Strings.{Str, strings, stringsFrom, weightsIn}
+use Rattle.collection.specs.EndWeights.{endsOf, endWeights}
 use Rattle.collection.proofs.Judged.{Judged, collection-good}
 use Rattle.collection.proofs.Strings.{Whole, strings-whole, strings-count}
 use Rattle.runs.specs.Runs.{runCount, innerRuns}
@@ -23,7 +24,6 @@ use Rattle.cover_trails.specs.Strings.{Ends, turned}
 use Rattle.cover_trails.proofs.Arranged.{length-arranged, map-arranged}
 use Rattle.cover_trails.proofs.Bounds.{none-fewer, one-reaches, no-strings}
 use Rattle.cover_trails.proofs.Kept.{all-arranged, total-arranged}
-use Rattle.cover_vertices.specs.EndWeights.{endsOf, endWeights}
 use Rattle.cover.specs.Cover.{Fewest}
 use Rattle.cover.proofs.Laws.{ends-count}
 use Rattle.apply_strings.specs.Turned.{turnStr}
@@ -66,11 +66,11 @@ module _ (c : Collection) (passes : Passes c) where
   whole = strings-whole c (j .shape) (j .counted)
 
   some-weights : All HasWeight ss
-  some-weights = all-map (λ s w. let l = w .long in let c₁ = w .counted in let z : 1 ≤ length (s .weights) = omega arith in z) ss whole
+  some-weights = all-map (λ s w. let long = w .long in let counted = w .counted in let z : 1 ≤ length (s .weights) = omega arith in z) ss whole
 
   string-count : length ss ≡ length c.ends
   unfolding ss
-  string-count = strings-count c.k 0 c.letters c.ends c.weights
+  string-count = strings-count c
 
   end-count : length (endWeights c) ≡ length c.ends
   end-count = ends-count c
@@ -86,9 +86,11 @@ module _ (c : Collection) (passes : Passes c) where
   unfolding innerRuns endWeights ss sum
   runs-at places perm =
       let all : List Str = strings c in
-      let a = runs-paths (arranged turnStr places all) (all-arranged turnStr HasWeight (λ s h. subst (λ (n : ℕ). 1 ≤ n) (sym (length-reverse (s .weights))) h) places all some-weights) in
+      let a = runs-paths (arranged turnStr places all)
+      (all-arranged turnStr HasWeight (λ s h. subst (λ (n : ℕ). 1 ≤ n) (sym (length-reverse (s .weights))) h) places all some-weights) in
       let n = length-arranged turnStr (record { letters = []; weights = [] }) (length c.ends) places all perm string-count in
-      let t = total-arranged turnStr (λ s. runCount (s .weights)) inside refl (λ s r. refl) (λ s. count-reverse (s .weights)) (length c.ends) places all perm string-count in
+      let t = total-arranged turnStr (λ s. runCount (s .weights)) inside refl (λ s r. refl) (λ s. count-reverse (s .weights))
+      (length c.ends) places all perm string-count in
       let e = map-arranged turnStr turned endsOf ends-turned places all in
       omega (arith, a, n, t, ap pathCount e)
 
@@ -98,8 +100,13 @@ module _ (c : Collection) (passes : Passes c) where
       let es : List Ends = endWeights c in
       let r = one-reaches es in
       record {
-        none-fewer = λ places perm. omega (arith, runs-at places perm, enough, none-fewer es places (subst (λ (n : ℕ). SignedPermutation n places) (sym end-count) perm));
-        reached = (r .0, subst (λ (n : ℕ). SignedPermutation n (r .0)) end-count (r .1), omega (arith, runs-at (r .0) (subst (λ (n : ℕ). SignedPermutation n (r .0)) end-count (r .1)), enough, r .2));
+        none-fewer = λ places perm. omega
+            (arith, runs-at places perm, enough, none-fewer es places (subst (λ (n : ℕ). SignedPermutation n places) (sym end-count) perm));
+        reached = (
+          r .0,
+          subst (λ (n : ℕ). SignedPermutation n (r .0)) end-count (r .1),
+          omega (arith, runs-at (r .0) (subst (λ (n : ℕ). SignedPermutation n (r .0)) end-count (r .1)), enough, r .2),
+        );
       }
 
   -- places with the least number of paths, as COVER gives them, have the fewest runs

@@ -8,6 +8,7 @@ use lib.ListN.{length, getD}
 use Rattle.lists.specs.Count.{sum, agree}
 use Rattle.lists.specs.Every.{All}
 use Rattle.collection.specs.Strings.{Str, weightsIn}
+use Rattle.collection.specs.EndWeights.{endsOf}
 use Rattle.runs.specs.Joins.{lastWeight}
 use Rattle.runs.specs.Runs.{runCount}
 use Rattle.runs.proofs.Joined.{count-none, count-append}
@@ -15,7 +16,6 @@ use Rattle.cover_trails.specs.Paths.{pathCount}
 use Rattle.cover_trails.specs.Strings.{front, back}
 use Rattle.lists.proofs.Agree.{agree-le}
 use Rattle.cover_trails.proofs.Paths.{paths-next, paths-none, paths-one}
-use Rattle.cover_vertices.specs.EndWeights.{endsOf}
 
 -- the last weight, by its place
 last-at : (w : ℕ) (ws : List ℕ) → lastWeight w ws ≡ getD (w ∷ ws) (length (w ∷ ws) - 1) 0
@@ -42,7 +42,8 @@ runs-paths (s ∷ (t ∷ ss)) h = go (s .weights) refl (t .weights) refl (h .0) 
   where
     go : (ws : List ℕ) → s .weights ≡ ws → (vs : List ℕ) → t .weights ≡ vs → 1 ≤ length (s .weights) → 1 ≤ length (t .weights)
         → runCount (weightsIn (t ∷ ss)) + suc (length ss) ≡ inside (t ∷ ss) + pathCount (map endsOf (t ∷ ss))
-        → runCount (s .weights ++ weightsIn (t ∷ ss)) + suc (suc (length ss)) ≡ runCount (s .weights) + inside (t ∷ ss) + pathCount (endsOf s ∷ map endsOf (t ∷ ss))
+        → runCount (s .weights ++ weightsIn (t ∷ ss)) + suc (suc (length ss))
+        ≡ runCount (s .weights) + inside (t ∷ ss) + pathCount (endsOf s ∷ map endsOf (t ∷ ss))
     go [] e vs f a b ih = absurd (omega (arith, ap length e))
     go (w ∷ ws) e [] f a b ih = absurd (omega (arith, ap length f))
     go (w ∷ ws) e (v ∷ vs) f a b ih =

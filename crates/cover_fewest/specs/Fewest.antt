@@ -1,4 +1,5 @@
 -- The three numbers of demand 3: the runs of the reordered weights, the fewest that any order and turning gives, and R - m + E + O/2.
+-- Specification: 5.4, 12.3.
 use mathlib.Core.Path.{_≡_}
 use mathlib.Core.List.{List}
 use Prim.Native.Nat.{ℕ, _+_, _-_, _≤_}
@@ -6,9 +7,9 @@ use lib.IntN.{ℤ}
 use lib.ListN.{length}
 use Rattle.collection.specs.Collection.{Collection}
 use Rattle.collection.specs.Strings.{weightsIn}
+use Rattle.collection.specs.EndWeights.{endWeights}
 use Rattle.cover_trails.specs.Groups.{least}
 use Rattle.cover_trails.specs.Places.{SignedPermutation}
-use Rattle.cover_vertices.specs.EndWeights.{endWeights}
 use Rattle.apply_strings.specs.Reordered.{reordered}
 use Rattle.runs.specs.Runs.{runCount, innerRuns}
 

@@ -43,7 +43,8 @@ module _ {m : ℕ} {t₀ : Tables} {s z₀ : ℕ} {t : Tables} {n z here : ℕ} 
       given-more = drop-stored (t .stack) z back (λ e. omega (arith, g .room)) (omega (arith, g .between .high, g .between .stack-size))
 
       listed-back : (e : ℕ) → e < m
-          → occurs e (numbers (held (set (t .stack) (z - 1) back) (n - 1))) + occurs e (numbers (drop (z - 1) (set (t .stack) (z - 1) back))) ≡ getD (t .used) e 0
+          → occurs e (numbers (held (set (t .stack) (z - 1) back) (n - 1))) + occurs e (numbers (drop (z - 1) (set (t .stack) (z - 1) back)))
+          ≡ getD (t .used) e 0
       unfolding occurs
       listed-back e b = rw (held-left, given-more) (omega (arith, rw held-was at (g .between .listed e b)))
 
@@ -70,16 +71,20 @@ module _ {m : ℕ} {t₀ : Tables} {s z₀ : ℕ} {t : Tables} {n z here : ℕ} 
         gave = given-more ∙ ap (λ (L : List ℕ). back ∷ L) (g .gave);
         z-at = near m (t .verts) back;
         state =
-            subst (λ (T : List ℕ). Walk s (unused (near m (t .verts)) 0 (t₀ .used)) (left m t) (along m t T) (near m (t .verts) back) (along m t (back ∷ g .Z)) (near m (t .verts) back)) (sym held-left)
+            subst (λ (T : List ℕ). Walk s (unused (near m (t .verts)) 0 (t₀ .used)) (left m t) (along m t T) (near m (t .verts) back) (along m t (back ∷ g .Z))
+            (near m (t .verts) back)) (sym held-left)
             (popped {e = gone (near m (t .verts)) back}
-            (subst (λ (T : List ℕ). Walk s (unused (near m (t .verts)) 0 (t₀ .used)) (left m t) (along m t T) here (along m t (g .Z)) (g .z-at)) held-was (g .state)) none-here);
+            (subst (λ (T : List ℕ). Walk s (unused (near m (t .verts)) 0 (t₀ .used)) (left m t) (along m t T) here (along m t (g .Z)) (g .z-at)) held-was
+            (g .state)) none-here);
       }
 
     -- or the walk is closed
     pub going-closed : n ≡ 0 → Walked m t₀ t s z₀ z
     unfolding held
     going-closed e =
-        let k = walk-closed (subst (λ (j : ℕ). Walk s (unused (near m (t .verts)) 0 (t₀ .used)) (left m t) (along m t (held (t .stack) j)) here (along m t (g .Z)) (g .z-at)) e (g .state)) none-here in
+        let k = walk-closed
+        (subst (λ (j : ℕ). Walk s (unused (near m (t .verts)) 0 (t₀ .used)) (left m t) (along m t (held (t .stack) j)) here (along m t (g .Z)) (g .z-at)) e
+        (g .state)) none-here in
         record {
           same = g .same;
           ready = record {
@@ -90,13 +95,16 @@ module _ {m : ℕ} {t₀ : Tables} {s z₀ : ℕ} {t : Tables} {n z here : ℕ} 
           grown = g .grown;
           Z = g .Z;
           gave = g .gave;
-          closed = subst (λ (vs : List ℕ). Closed s (unused (near m vs) 0 (t₀ .used)) (left m t) (along m (record { verts = vs; used = t .used; rows = t .rows; cursors = t .cursors; stack = t .stack }) (g .Z))) (g .same .verts) k;
+          closed = subst
+              (λ (vs : List ℕ). Closed s (unused (near m vs) 0 (t₀ .used)) (left m t)
+              (along m (record { verts = vs; used = t .used; rows = t .rows; cursors = t .cursors; stack = t .stack }) (g .Z))) (g .same .verts) k;
         }
 
 -- The same for the table u that the code leaves.
 module _ {m : ℕ} {t₀ : Tables} {s z₀ : ℕ} {t : Tables} {n z here c : ℕ} (g : Going m t₀ s z₀ t n z here) (a : Answer m t here c) where
   -- a half was given back
-  pub going-gave : {u : Tables} {h : ℕ} → 6 * m ≤ c → (n ≡ 0 → ⊥) → u ≡ returned t (n - 1) (z - 1) → h ≡ near m (t .verts) (getD (t .stack) (n - 1) 0) → Going m t₀ s z₀ u (n - 1) (z - 1) h
+  pub going-gave : {u : Tables} {h : ℕ} → 6 * m ≤ c → (n ≡ 0 → ⊥) → u ≡ returned t (n - 1) (z - 1) → h ≡ near m (t .verts) (getD (t .stack) (n - 1) 0)
+      → Going m t₀ s z₀ u (n - 1) (z - 1) h
   going-gave {u} {h} l some e q =
       subst (λ (x : Tables). Going m t₀ s z₀ x (n - 1) (z - 1) h) (sym e)
       (subst (λ (y : ℕ). Going m t₀ s z₀ (returned t (n - 1) (z - 1)) (n - 1) (z - 1) y) (sym q) (going-back g c a l some))

@@ -12,7 +12,8 @@ use Rattle.cover_tours.specs.Rows.{Cursors, Answer}
 use Rattle.cover_tours.specs.States.{moved, Same, Found, left, along, Between, Ready}
 use Rattle.cover_tours.proofs.Entries.{held}
 
--- A walk began at s over t₀, where halves stood from entry z₀ on. Now it holds the first n halves of the stack, gave back Z from entry z on, and stands at `here`.
+-- A walk began at s over t₀, where halves stood from entry z₀ on. Now it holds the first n halves of the stack, gave back Z from entry z on, and stands at
+-- `here`.
 pub record Going (m : ℕ) (t₀ : Tables) (s z₀ : ℕ) (t : Tables) (n z here : ℕ) : Type 0 where
   pub same : Same t₀ t
   pub between : Between m t (held (t .stack) n) z

@@ -46,11 +46,13 @@ module _ (f : ℕ → ℕ) where
   use-one e (suc n ∷ flags) (suc i) l z = let q : e + suc i ≡ suc e + i = omega arith in rw q (use-one (suc e) flags i (omega arith) z)
 
   -- number i is used, as it is gone along from its half c
-  use-at : (flags : List ℕ) (i a b : ℕ) → i < length flags → getD flags i 0 ≡ 0 → 2 * (0 + i) ≡ a → 2 * (0 + i) + 1 ≡ b → Reordered (unused f 0 flags) ((f a, f b) ∷ unused f 0 (set flags i 1))
+  use-at : (flags : List ℕ) (i a b : ℕ) → i < length flags → getD flags i 0 ≡ 0 → 2 * (0 + i) ≡ a → 2 * (0 + i) + 1 ≡ b
+      → Reordered (unused f 0 flags) ((f a, f b) ∷ unused f 0 (set flags i 1))
   use-at flags i a b l z p q = rw (q, p) at (use-one 0 flags i l z)
 
   -- the half c is used, and the others stay
-  pub use-half : (flags : List ℕ) (c : ℕ) → c / 2 < length flags → getD flags (c / 2) 0 ≡ 0 → Reordered (unused f 0 flags) (gone f c ∷ unused f 0 (set flags (c / 2) 1))
+  pub use-half : (flags : List ℕ) (c : ℕ) → c / 2 < length flags → getD flags (c / 2) 0 ≡ 0
+      → Reordered (unused f 0 flags) (gone f c ∷ unused f 0 (set flags (c / 2) 1))
   use-half flags c l z = go (ℕ-discrete (c % 2) 0)
     where
       go : Dec (c % 2 ≡ 0) → Reordered (unused f 0 flags) (gone f c ∷ unused f 0 (set flags (c / 2) 1))
@@ -81,7 +83,8 @@ module _ (f : ℕ → ℕ) where
   none-from e (suc n ∷ flags) w h = none-from (suc e) flags w (λ i l z. let q : e + suc i ≡ suc e + i = omega arith in rw q at (h (suc i) (omega arith) z))
 
   -- no unused half starts at w
-  pub none-unused : (flags : List ℕ) (w : ℕ) → ((c : ℕ) → c / 2 < length flags → getD flags (c / 2) 0 ≡ 0 → f c ≡ w → ⊥) → occurs w (weights (unused f 0 flags)) ≡ 0
+  pub none-unused : (flags : List ℕ) (w : ℕ) → ((c : ℕ) → c / 2 < length flags → getD flags (c / 2) 0 ≡ 0 → f c ≡ w → ⊥)
+      → occurs w (weights (unused f 0 flags)) ≡ 0
   none-unused flags w h =
       none-from 0 flags w
       (λ i l z.

@@ -58,7 +58,14 @@ module _ (m : ℕ) (w : List ℕ) where
   }
 
   tables-used : (e x : ℕ) → e < 3 * m → tables m (set w (2 * m + e) x)
-      ≡ record { verts = tables m w .verts; used = set (tables m w .used) e x; rows = tables m w .rows; cursors = tables m w .cursors; stack = tables m w .stack }
+      ≡ record {
+        verts =
+            tables m w .verts;
+        used = set (tables m w .used) e x;
+        rows = tables m w .rows;
+        cursors = tables m w .cursors;
+        stack = tables m w .stack;
+      }
   tables-used e x h = λ j. record {
     verts = part-set-other 0 (2 * m) (2 * m) (3 * m) w e x (inl (omega arith)) h j;
     used = part-set (2 * m) (3 * m) w e x h j;
@@ -68,7 +75,14 @@ module _ (m : ℕ) (w : List ℕ) where
   }
 
   tables-stack : (n x : ℕ) → n < 3 * m → tables m (set w (12 * m + n) x)
-      ≡ record { verts = tables m w .verts; used = tables m w .used; rows = tables m w .rows; cursors = tables m w .cursors; stack = set (tables m w .stack) n x }
+      ≡ record {
+        verts =
+            tables m w .verts;
+        used = tables m w .used;
+        rows = tables m w .rows;
+        cursors = tables m w .cursors;
+        stack = set (tables m w .stack) n x;
+      }
   tables-stack n x h = λ j. record {
     verts = part-set-other 0 (2 * m) (12 * m) (3 * m) w n x (inl (omega arith)) h j;
     used = part-set-other (2 * m) (3 * m) (12 * m) (3 * m) w n x (inl (omega arith)) h j;
@@ -85,4 +99,5 @@ module _ (m : ℕ) (w : List ℕ) where
 pub tables-taken : (m : ℕ) (w : List ℕ) (n c : ℕ) → n < 3 * m → c / 2 < 3 * m → tables m (set (set w (2 * m + c / 2) 1) (12 * m + n) c) ≡ taken (tables m w) n c
 tables-taken m w n c h g =
     tables-stack m (set w (2 * m + c / 2) 1) n c h
-    ∙ ap (λ (t : Tables). record { verts = t .verts; used = t .used; rows = t .rows; cursors = t .cursors; stack = set (t .stack) n c }) (tables-used m w (c / 2) 1 g)
+    ∙ ap (λ (t : Tables). record { verts = t .verts; used = t .used; rows = t .rows; cursors = t .cursors; stack = set (t .stack) n c })
+    (tables-used m w (c / 2) 1 g)

@@ -84,4 +84,9 @@ own-spoke m t v l z =
 -- cursors stay right when a half is taken
 pub cursors-used : (m : ℕ) (t : Tables) (n c : ℕ) → c / 2 < length (t .used) → Cursors m t → Cursors m (taken t n c)
 cursors-used m t n c l k v b =
-    record { low = k v b .low; high = k v b .high; passed = record { all-used = λ q h e z. k v b .passed .all-used q h e (still-used (t .used) (c / 2) (getD (t .rows) q 0 / 2) l z) } }
+    record {
+      low =
+          k v b .low;
+      high = k v b .high;
+      passed = record { all-used = λ q h e z. k v b .passed .all-used q h e (still-used (t .used) (c / 2) (getD (t .rows) q 0 / 2) l z) };
+    }

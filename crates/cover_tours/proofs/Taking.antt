@@ -56,7 +56,8 @@ module _ {m : ℕ} {t₀ : Tables} {s z₀ : ℕ} {t : Tables} {n z here : ℕ} 
     given-now : drop z (set (t .stack) n c) ≡ drop z (t .stack)
     given-now = drop-set-lt z (t .stack) n c (omega (arith, g .room, take-fewer))
 
-    listed-now : (e : ℕ) → e < m → occurs e (numbers (held (set (t .stack) n c) (n + 1))) + occurs e (numbers (drop z (set (t .stack) n c))) ≡ getD (set (t .used) (c / 2) 1) e 0
+    listed-now : (e : ℕ) → e < m
+        → occurs e (numbers (held (set (t .stack) n c) (n + 1))) + occurs e (numbers (drop z (set (t .stack) n c))) ≡ getD (set (t .used) (c / 2) 1) e 0
     listed-now e b = rw (held-now, given-now) (go (ℕ-discrete e (c / 2)))
       where
         go : Dec (e ≡ c / 2) → occurs e (c / 2 ∷ numbers (held (t .stack) n)) + occurs e (numbers (drop z (t .stack))) ≡ getD (set (t .used) (c / 2) 1) e 0
@@ -107,7 +108,8 @@ module _ {m : ℕ} {t₀ : Tables} {s z₀ : ℕ} {t : Tables} {n z here : ℕ} 
       gave = given-now ∙ g .gave;
       z-at = g .z-at;
       state =
-          subst (λ (T : List Ends). Walk s (unused (near m (t .verts)) 0 (t₀ .used)) (left m (taken t n c)) T (near m (t .verts) (other c)) (along m t (g .Z)) (g .z-at)) (sym trail-now)
+          subst (λ (T : List Ends). Walk s (unused (near m (t .verts)) 0 (t₀ .used)) (left m (taken t n c)) T (near m (t .verts) (other c)) (along m t (g .Z))
+          (g .z-at)) (sym trail-now)
           (walk-taken (g .state) (near m (t .verts) (other c)) (left m (taken t n c)) take-left);
     }
 

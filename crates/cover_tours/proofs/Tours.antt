@@ -116,7 +116,8 @@ module _ {m : ℕ} {t : Tables} {z walks : ℕ} (k : Touring m t z walks) (i : �
     visited-from {u} {s} {r} q w = visited-walk (subst (λ (x : ℕ). Walked m t u x z r) q w)
 
 -- one more string is used
-pub visits-more : {m : ℕ} {t u : Tables} {i z walks : ℕ} → Visited m t u i z walks → ((e : ℕ) → e < i → getD (t .used) e 0 ≡ 0 → ⊥) → (e : ℕ) → e < i + 1 → getD (u .used) e 0 ≡ 0 → ⊥
+pub visits-more : {m : ℕ} {t u : Tables} {i z walks : ℕ} → Visited m t u i z walks → ((e : ℕ) → e < i → getD (t .used) e 0 ≡ 0 → ⊥) → (e : ℕ) → e < i + 1
+    → getD (u .used) e 0 ≡ 0 → ⊥
 visits-more {u = u} {i = i} v h e l q = go (ℕ-discrete e i)
   where
     go : Dec (e ≡ i) → ⊥

@@ -1,5 +1,5 @@
--- Strings and spokes by their halves. Number e of m strings and 2m spokes has the halves 2e and 2e + 1: a half is the string or spoke as it is gone along from there.
--- Vertices are numbers below 2m, and the hub, which is 2m. Spoke m + v leads from the hub to vertex v.
+-- Inner: strings and spokes by their halves. Number e of m strings and 2m spokes has the halves 2e and 2e + 1: a half is the string or spoke as it is gone
+-- along from there. Vertices are numbers below 2m, and the hub, which is 2m. Spoke m + v leads from the hub to vertex v.
 use mathlib.Core.List.{List, [], _∷_}
 use Prim.Native.Nat.{ℕ, zero, suc, _+_, _-_, _*_, _/_, _%_}
 use lib.Dec.{eqb, ltb}

@@ -1,4 +1,4 @@
--- The rows of halves by their vertices, and the search for an unused half.
+-- Inner: the rows of halves by their vertices, and the search for an unused half.
 use mathlib.Core.Path.{_≡_}
 use mathlib.Core.Logic.{_⊎_}
 use mathlib.Core.List.{List}

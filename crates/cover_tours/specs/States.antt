@@ -1,4 +1,4 @@
--- The table before and after each step of a walk, and between walks.
+-- Inner: the table before and after each step of a walk, and between walks.
 use mathlib.Core.Path.{_≡_}
 use mathlib.Core.List.{List, [], _++_, map}
 use Prim.Native.Nat.{ℕ, _+_, _*_, _/_, _≤_, _<_}

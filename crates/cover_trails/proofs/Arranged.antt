@@ -106,12 +106,14 @@ module _ {A : Type 0} (turn : A → A) (k : ℕ) where
       ∙ ap (λ (L : List A). turnedBy turn p x ∷ L) (standing-none places xs (omega (arith, agree-same k (natAbs p) (sym e))))
   standing-at d (p ∷ places) (x ∷ xs) l o (suc i) b e =
       let later = occurs-at k (map natAbs places) i (rw (length-map places natAbs) (omega arith)) (map-at natAbs (pos 0) places i ∙ e) in
-      standing-other turn k p places x xs (λ q. omega (arith, agree-same k (natAbs p) q)) ∙ standing-at d places xs (omega arith) (omega (arith, agree-le k (natAbs p))) i (omega arith) e
+      standing-other turn k p places x xs (λ q. omega (arith, agree-same k (natAbs p) q))
+      ∙ standing-at d places xs (omega arith) (omega (arith, agree-le k (natAbs p))) i (omega arith) e
 
 -- ─── where each string stands in its new order ───────────────────────────────
 
 module _ {A : Type 0} (turn : A → A) (d : A) (m : ℕ) (places : List ℤ) (xs : List A) (s : SignedPermutation m places) (l : length xs ≡ m) where
-  one-standing : (i n : ℕ) → i < m → natAbs (getD places i (pos 0)) ≡ suc n → n < m → standing turn (suc n) places xs ≡ turnedBy turn (getD places i (pos 0)) (getD xs i d) ∷ []
+  one-standing : (i n : ℕ) → i < m → natAbs (getD places i (pos 0)) ≡ suc n → n < m
+      → standing turn (suc n) places xs ≡ turnedBy turn (getD places i (pos 0)) (getD xs i d) ∷ []
   one-standing i n b e k =
       standing-at turn (suc n) d places xs (omega (arith, s .number)) (s .once (suc n) (omega arith) (omega arith)) i (omega (arith, s .number)) e
 
@@ -148,14 +150,16 @@ module _ {A : Type 0} (turn : A → A) (d : A) (m : ℕ) (places : List ℤ) (xs
           rw (here, getD-append-add, one-standing i k b (omega arith) (omega arith))
 
   -- string i stands at its place, turned where the place says so
-  pub arranged-at : (i : ℕ) → i < m → getD (arranged turn places xs) (natAbs (getD places i (pos 0)) - 1) d ≡ turnedBy turn (getD places i (pos 0)) (getD xs i d)
+  pub arranged-at : (i : ℕ) → i < m
+      → getD (arranged turn places xs) (natAbs (getD places i (pos 0)) - 1) d ≡ turnedBy turn (getD places i (pos 0)) (getD xs i d)
   arranged-at i b =
       let r = all-at (λ p. (1 ≤ natAbs p) × (natAbs p ≤ m)) places (s .range) i (pos 0) (omega (arith, s .number)) in
       arranged-to-at i (natAbs (getD places i (pos 0)) - 1) b (omega (arith, r)) (length places) (omega (arith, r, s .number)) (omega (arith, s .number))
 
   -- An order that has at each place the string of that place is the new order.
   module _ (order : List A) (o : length order ≡ m)
-      (has : (n : ℕ) → n < m → (i : ℕ) × (i < m) × (natAbs (getD places i (pos 0)) ≡ suc n) × (getD order n d ≡ turnedBy turn (getD places i (pos 0)) (getD xs i d))) where
+      (has : (n : ℕ) → n < m
+      → (i : ℕ) × (i < m) × (natAbs (getD places i (pos 0)) ≡ suc n) × (getD order n d ≡ turnedBy turn (getD places i (pos 0)) (getD xs i d))) where
     arranged-to-is : (n : ℕ) → n ≤ m → arrangedTo turn n places xs ≡ take n order
     unfolding arrangedTo
     arranged-to-is zero k = refl
@@ -174,7 +178,8 @@ module _ {A : Type 0} (turn : A → A) (d : A) (m : ℕ) (places : List ℤ) (xs
       → arranged turn places xs ≡ order
   arranged-by-string order o stands = arranged-by-place order o has
     where
-      has : (n : ℕ) → n < m → (i : ℕ) × (i < m) × (natAbs (getD places i (pos 0)) ≡ suc n) × (getD order n d ≡ turnedBy turn (getD places i (pos 0)) (getD xs i d))
+      has : (n : ℕ) → n < m
+          → (i : ℕ) × (i < m) × (natAbs (getD places i (pos 0)) ≡ suc n) × (getD order n d ≡ turnedBy turn (getD places i (pos 0)) (getD xs i d))
       has n k =
           let u = occurs-where (suc n) (map natAbs places) (omega (arith, s .once (suc n) (omega arith) k)) in
           let b : u .0 < m = omega (arith, u .1, length-map places natAbs, s .number) in
@@ -191,7 +196,8 @@ marked turn d xs k = choose (k .1) (turn (getD xs (k .0) d)) (getD xs (k .0) d)
 -- The list `marks` names the string at each place and says whether it is turned there; each named string has got its place.
 module _ {A : Type 0} (turn : A → A) (d : A) (m : ℕ) (places : List ℤ) (xs : List A) (marks : List (ℕ × Bool))
     (number : length places ≡ m) (l : length xs ≡ m) (o : length marks ≡ m)
-    (placed : (n : ℕ) → n < m → (getD marks n (0, false) .0 < m) × (getD places (getD marks n (0, false) .0) (pos 0) ≡ signed (suc n) (getD marks n (0, false) .1))) where
+    (placed : (n : ℕ) → n < m
+    → (getD marks n (0, false) .0 < m) × (getD places (getD marks n (0, false) .0) (pos 0) ≡ signed (suc n) (getD marks n (0, false) .1))) where
   -- the places are a signed permutation
   pub marked-permutation : SignedPermutation m places
   marked-permutation = permutation-if-used m places number used
@@ -208,7 +214,8 @@ module _ {A : Type 0} (turn : A → A) (d : A) (m : ℕ) (places : List ℤ) (xs
   marked-arranged = arranged-by-place turn d m places xs marked-permutation l (map (marked turn d xs) marks) (length-map marks (marked turn d xs) ∙ o) has
     where
       has : (n : ℕ) → n < m
-          → (i : ℕ) × (i < m) × (natAbs (getD places i (pos 0)) ≡ suc n) × (getD (map (marked turn d xs) marks) n d ≡ turnedBy turn (getD places i (pos 0)) (getD xs i d))
+          → (i : ℕ) × (i < m) × (natAbs (getD places i (pos 0)) ≡ suc n)
+          × (getD (map (marked turn d xs) marks) n d ≡ turnedBy turn (getD places i (pos 0)) (getD xs i d))
       has n k =
           let u = placed n k in
           let t = ap isTurned (u .1) ∙ turned-signed (suc n) (getD marks n (0, false) .1) (omega arith) in (

@@ -18,11 +18,13 @@ use Rattle.cover_trails.proofs.Upper.{upper}
 -- ─── the two bounds ──────────────────────────────────────────────────────────
 
 -- every order and turning has at least E + O / 2 paths
-pub none-fewer : (strings : List Ends) (places : List ℤ) → SignedPermutation (length strings) places → least strings ≤ pathCount (arranged turned places strings)
+pub none-fewer : (strings : List Ends) (places : List ℤ) → SignedPermutation (length strings) places
+    → least strings ≤ pathCount (arranged turned places strings)
 none-fewer strings places s = lower strings (arranged turned places strings) (places-reordered places strings s)
 
 -- one has exactly as many
-pub one-reaches : (strings : List Ends) → (places : List ℤ) × SignedPermutation (length strings) places × (pathCount (arranged turned places strings) ≡ least strings)
+pub one-reaches : (strings : List Ends)
+    → (places : List ℤ) × SignedPermutation (length strings) places × (pathCount (arranged turned places strings) ≡ least strings)
 one-reaches strings =
     let b = upper strings in
     let p = reordered-places strings (b .0) (b .1) in

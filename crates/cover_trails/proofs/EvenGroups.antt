@@ -80,7 +80,8 @@ module _ (strings : List Ends) where
       beyond : (v : ℕ) → occurs v (weights strings) ≡ 0 → oddly (weights strings) v ≡ 0
       beyond v z = unfold oddly in (omega (arith, z))
 
-      go : (v : ℕ) → oddMembers (above (weights strings)) (nameOf strings) (weights strings) l ≡ 0 → l ≡ nameOf strings v → Dec (v < above (weights strings)) → oddly (weights strings) v ≡ 0
+      go : (v : ℕ) → oddMembers (above (weights strings)) (nameOf strings) (weights strings) l ≡ 0 → l ≡ nameOf strings v → Dec (v < above (weights strings))
+          → oddly (weights strings) v ≡ 0
       go v z q (yes b) = no-odd-member (above (weights strings)) (nameOf strings) (weights strings) l z v b q
       go v z q (no b) = beyond v (occurs-beyond (above (weights strings)) v (weights strings) (above-all (weights strings)) (omega arith))
 
@@ -89,6 +90,7 @@ module _ (strings : List Ends) where
       → evenGroup (above (weights strings)) (nameOf strings) (weights strings) (nameOf strings w) ≡ 1
   unfolding evenGroup
   group-counted w m h =
-      even-is (occurs (nameOf strings w) (map (nameOf strings) (weights strings))) (oddMembers (above (weights strings)) (nameOf strings) (weights strings) (nameOf strings w))
+      even-is (occurs (nameOf strings w) (map (nameOf strings) (weights strings)))
+      (oddMembers (above (weights strings)) (nameOf strings) (weights strings) (nameOf strings w))
       (occurs-map (nameOf strings) w (weights strings) m)
       (no-odd-members (above (weights strings)) (nameOf strings) (weights strings) (nameOf strings w) (λ v b q. h v (same-name-joined strings w v q)))

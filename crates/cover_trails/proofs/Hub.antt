@@ -1,4 +1,5 @@
--- The hub: one weight that no string has, with a string from it to each weight that occurs oddly often. With these spokes each weight has an even number of ends.
+-- The hub: one weight that no string has, with a string from it to each weight that occurs oddly often. With these spokes each weight has an even number of
+-- ends.
 use mathlib.Core.Path.{_≡_, refl, ap, sym, _∙_, subst}
 use mathlib.Core.List.{List, [], _∷_, _++_, map, map-append}
 use Prim.Native.Nat.{ℕ, zero, suc, _+_, _%_, _≤_, _<_}
@@ -41,7 +42,8 @@ module _ (h : ℕ) (ws : List ℕ) where
   spokes-at v zero q l = absurd (omega arith)
   spokes-at v (suc n) q l = go (ℕ-discrete v n) (spokes-at v n q)
     where
-      go : Dec (v ≡ n) → (v < n → occurs v (weights (spokes h ws n)) ≡ oddly ws v) → occurs v (weights (spokeIf (oddly ws n) (h, n) (spokes h ws n))) ≡ oddly ws v
+      go : Dec (v ≡ n) → (v < n → occurs v (weights (spokes h ws n)) ≡ oddly ws v)
+          → occurs v (weights (spokeIf (oddly ws n) (h, n) (spokes h ws n))) ≡ oddly ws v
       go (yes e) ih =
           omega (
             arith,
@@ -127,7 +129,8 @@ unfolding spokes
 carried-spokes P h ws zero k p w l o = absurd (omega arith)
 carried-spokes P h ws (suc n) k p w l o = go (oddly ws n) refl k (ℕ-discrete w n) (λ k. carried-spokes P h ws n k p w)
   where
-    go : (j : ℕ) → oddly ws n ≡ j → Carried P (spokeIf j (h, n) (spokes h ws n)) → Dec (w ≡ n) → (Carried P (spokes h ws n) → w < n → oddly ws w ≡ 1 → P w) → P w
+    go : (j : ℕ) → oddly ws n ≡ j → Carried P (spokeIf j (h, n) (spokes h ws n)) → Dec (w ≡ n) → (Carried P (spokes h ws n) → w < n → oddly ws w ≡ 1 → P w)
+        → P w
     go zero e k (yes q) ih = absurd (omega (arith, ap (oddly ws) q))
     go zero e k (no q) ih = ih k (omega arith) o
     go (suc j) e k (yes q) ih = subst P (sym q) (k .0 .0 p)

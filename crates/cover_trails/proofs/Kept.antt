@@ -34,7 +34,8 @@ module _ {A : Type 0} (turn : A → A) (P : A → Type 0) (h : (x : A) → P x �
   all-arranged-to : (n : ℕ) (places : List ℤ) (xs : List A) → All P xs → All P (arrangedTo turn n places xs)
   unfolding arrangedTo
   all-arranged-to zero places xs a = tt
-  all-arranged-to (suc n) places xs a = all-append P (arrangedTo turn n places xs) (standing turn (suc n) places xs) (all-arranged-to n places xs a) (all-standing (suc n) places xs a)
+  all-arranged-to (suc n) places xs a =
+      all-append P (arrangedTo turn n places xs) (standing turn (suc n) places xs) (all-arranged-to n places xs a) (all-standing (suc n) places xs a)
 
   -- what holds of each string, turned or not, holds in the new order
   pub all-arranged : (places : List ℤ) (xs : List A) → All P xs → All P (arranged turn places xs)
@@ -43,7 +44,8 @@ module _ {A : Type 0} (turn : A → A) (P : A → Type 0) (h : (x : A) → P x �
 -- ─── what they add up to ─────────────────────────────────────────────────────
 
 -- `total` adds up f over a list, and a turned string counts as much
-module _ {A : Type 0} (turn : A → A) (f : A → ℕ) (total : List A → ℕ) (none : total [] ≡ 0) (more : (x : A) (xs : List A) → total (x ∷ xs) ≡ f x + total xs) (same : (x : A) → f (turn x) ≡ f x) where
+module _ {A : Type 0} (turn : A → A) (f : A → ℕ) (total : List A → ℕ) (none : total [] ≡ 0) (more : (x : A) (xs : List A) → total (x ∷ xs) ≡ f x + total xs)
+    (same : (x : A) → f (turn x) ≡ f x) where
   total-append : (xs ys : List A) → total (xs ++ ys) ≡ total xs + total ys
   total-append [] ys = omega (arith, none)
   total-append (x ∷ xs) ys = omega (arith, more x (xs ++ ys), more x xs, total-append xs ys)
@@ -80,11 +82,13 @@ module _ {A : Type 0} (turn : A → A) (f : A → ℕ) (total : List A → ℕ) 
             ≡ total (arrangedTo turn n (p ∷ places) (x ∷ xs)) + total (standing turn (suc n) (p ∷ places) (x ∷ xs))
         both = total-append (arrangedTo turn n (p ∷ places) (x ∷ xs)) (standing turn (suc n) (p ∷ places) (x ∷ xs))
 
-        rest : total (arrangedTo turn n places xs ++ standing turn (suc n) places xs) ≡ total (arrangedTo turn n places xs) + total (standing turn (suc n) places xs)
+        rest : total (arrangedTo turn n places xs ++ standing turn (suc n) places xs)
+            ≡ total (arrangedTo turn n places xs) + total (standing turn (suc n) places xs)
         rest = total-append (arrangedTo turn n places xs) (standing turn (suc n) places xs)
 
         go : Dec (suc n ≡ natAbs p) → (natAbs p ≤ n → total (arrangedTo turn n (p ∷ places) (x ∷ xs)) ≡ f x + total (arrangedTo turn n places xs))
-            → total (arrangedTo turn n (p ∷ places) (x ∷ xs) ++ standing turn (suc n) (p ∷ places) (x ∷ xs)) ≡ f x + total (arrangedTo turn n places xs ++ standing turn (suc n) places xs)
+            → total (arrangedTo turn n (p ∷ places) (x ∷ xs) ++ standing turn (suc n) (p ∷ places) (x ∷ xs))
+            ≡ f x + total (arrangedTo turn n places xs ++ standing turn (suc n) places xs)
         go (yes e) ih = omega (arith, both, rest, standing-counts (suc n) e, waits n (omega arith))
         go (no e) ih = omega (arith, both, rest, standing-waits (suc n) e, ih (omega arith))
 
@@ -93,7 +97,8 @@ module _ {A : Type 0} (turn : A → A) (f : A → ℕ) (total : List A → ℕ) 
   none-arranged zero xs = none
   none-arranged (suc n) xs = omega (arith, total-append (arrangedTo turn n [] xs) [], none-arranged n xs, none)
 
-  total-arranged-to : (n : ℕ) (places : List ℤ) (xs : List A) → length xs ≡ length places → All (λ p. (1 ≤ natAbs p) × (natAbs p ≤ n)) places → total (arrangedTo turn n places xs) ≡ total xs
+  total-arranged-to : (n : ℕ) (places : List ℤ) (xs : List A) → length xs ≡ length places → All (λ p. (1 ≤ natAbs p) × (natAbs p ≤ n)) places
+      → total (arrangedTo turn n places xs) ≡ total xs
   total-arranged-to n [] [] l r = none-arranged n [] ∙ omega (arith, none)
   total-arranged-to n [] (x ∷ xs) l r = absurd (omega arith)
   total-arranged-to n (p ∷ places) [] l r = absurd (omega arith)

@@ -16,3 +16,4 @@ pub mod Bounds
 pub mod Renamed
 pub mod Amounts
 pub mod Kept
+pub mod Signed

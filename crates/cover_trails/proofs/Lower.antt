@@ -1,6 +1,7 @@
 -- No order has fewer than E + O / 2 paths.
--- Take the list of all ends of its paths, two a path. A weight occurs in it oddly often exactly if it does among all end weights, for two ends that join go together;
--- and every group has a weight in it. Each end pays one half: for a weight that is odd there, or for a group that is even. By induction on that list, 2 E + O is at most its length.
+-- Take the list of all ends of its paths, two a path. A weight occurs in it oddly often exactly if it does among all end weights, for two ends that join go
+-- together; and every group has a weight in it. Each end pays one half: for a weight that is odd there, or for a group that is even. By induction on that list,
+-- 2 E + O is at most its length.
 use mathlib.Core.Path.{_≡_, refl, ap, ap₂, sym, _∙_, fun-ext}
 use mathlib.Core.Logic.{inl, inr}
 use mathlib.Core.List.{List, [], _∷_, map}
@@ -155,7 +156,8 @@ below-path-ends n (s ∷ order) h = (h .0, below-from n s order h)
 
 -- Every group has one of them, where all strings are level.
 module _ (name : ℕ → ℕ) (l : ℕ) where
-  present-from : (s : Ends) (order : List Ends) → Level name (s ∷ order) → 1 ≤ occurs l (map name (weights (s ∷ order))) → 1 ≤ occurs l (map name (pathEndsFrom s order))
+  present-from : (s : Ends) (order : List Ends) → Level name (s ∷ order) → 1 ≤ occurs l (map name (weights (s ∷ order)))
+      → 1 ≤ occurs l (map name (pathEndsFrom s order))
   unfolding weights occurs pathEndsFrom cutEnds
   present-from s [] h p = omega (arith, ap (agree l) (h .0))
   present-from s (t ∷ order) h p = go (present-from t order (h .1)) (agree-cases (back s) (front t))
@@ -165,7 +167,8 @@ module _ (name : ℕ → ℕ) (l : ℕ) where
       go ih (inl q) = rw (q .1) (ih (omega (arith, ap (agree l) (h .0), ap (λ (v : ℕ). agree l (name v)) (q .0))))
       go ih (inr q) = rw (q .1) (more (decLt 0 (occurs l (map name (weights (t ∷ order))))))
         where
-          more : Dec (0 < occurs l (map name (weights (t ∷ order)))) → 1 ≤ agree l (name (back s)) + (agree l (name (front t)) + occurs l (map name (pathEndsFrom t order)))
+          more : Dec (0 < occurs l (map name (weights (t ∷ order))))
+              → 1 ≤ agree l (name (back s)) + (agree l (name (front t)) + occurs l (map name (pathEndsFrom t order)))
           more (yes a) = omega (arith, ih a)
           more (no a) = omega (arith, ap (agree l) (h .0))
 

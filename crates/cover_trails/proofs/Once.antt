@@ -1,5 +1,5 @@
--- m numbers for 1 to m: where each of these is used, or where all are of these and none is used twice, each is used once. By counting all uses together. Assumes
--- nothing.
+-- m numbers for 1 to m: where each of these is used, or where all are of these and none is used twice, each is used once. By counting all uses together.
+-- Assumes nothing.
 use mathlib.Core.Path.{_≡_, refl, ap, _∙_}
 use mathlib.Core.List.{List, [], _∷_, _++_}
 use Prim.Native.Nat.{ℕ, zero, suc, _+_, _-_, _≤_, _<_}

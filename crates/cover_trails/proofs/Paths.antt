@@ -31,7 +31,8 @@ paths-breaks s (t ∷ order) = go (paths-breaks t order)
     step true (p ∷ ps) n h = omega arith
     step false ps n h = omega arith
 
-    go : length (pathsFrom t order) ≡ suc (breaks t order) → length (before (joins s t) s (pathsFrom t order)) ≡ suc ((1 - agree (back s) (front t)) + breaks t order)
+    go : length (pathsFrom t order) ≡ suc (breaks t order)
+        → length (before (joins s t) s (pathsFrom t order)) ≡ suc ((1 - agree (back s) (front t)) + breaks t order)
     go ih = unfold agree in step (joins s t) (pathsFrom t order) (breaks t order) ih
 
 -- one string more: one path more, unless it joins
@@ -121,7 +122,8 @@ StartWith s [] = ⊥
 StartWith s ([] ∷ others) = ⊥
 StartWith s ((t ∷ path) ∷ others) = t ≡ s
 
-maximal-before : (j : Bool) (s t : Ends) (ps : List (List Ends)) → joins s t ≡ j → StartWith t ps → Maximal ps → StartWith s (before j s ps) × Maximal (before j s ps)
+maximal-before : (j : Bool) (s t : Ends) (ps : List (List Ends)) → joins s t ≡ j → StartWith t ps → Maximal ps
+    → StartWith s (before j s ps) × Maximal (before j s ps)
 maximal-before true s t [] e w m = absurd w
 maximal-before true s t ([] ∷ ps) e w m = absurd w
 maximal-before true s t ((u ∷ p) ∷ ps) e w m =

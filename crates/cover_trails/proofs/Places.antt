@@ -1,5 +1,5 @@
--- Signed permutations and orders are the same: places put the strings into an order (`places-reordered`), and each order is made by places (`reordered-places`).
--- A string after the other goes into its place; and an order is taken apart into where each string stands in it.
+-- Signed permutations and orders are the same: places put the strings into an order (`places-reordered`), and each order is made by places
+-- (`reordered-places`). A string after the other goes into its place; and an order is taken apart into where each string stands in it.
 use mathlib.Core.Path.{_≡_, refl, ap, ap₂, _∙_}
 use mathlib.Core.Bool.{Bool, true, false, not}
 use mathlib.Core.List.{List, [], _∷_, _++_, map, append-nil}
@@ -30,7 +30,8 @@ module _ (p : ℤ) (places : List ℤ) (x : Ends) (xs : List Ends) where
   before-place (suc n) l =
       ap₂ (λ (L M : List Ends). L ++ M) (before-place n (omega arith)) (standing-other turned (suc n) p places x xs (λ q. omega arith))
 
-  into-place : (n : ℕ) → 1 ≤ natAbs p → natAbs p ≤ n → Reordered (turnedBy turned p x ∷ arrangedTo turned n places xs) (arrangedTo turned n (p ∷ places) (x ∷ xs))
+  into-place : (n : ℕ) → 1 ≤ natAbs p → natAbs p ≤ n
+      → Reordered (turnedBy turned p x ∷ arrangedTo turned n places xs) (arrangedTo turned n (p ∷ places) (x ∷ xs))
   unfolding arrangedTo
   into-place zero l k = absurd (omega arith)
   into-place (suc n) l k = go (ℕ-discrete (suc n) (natAbs p)) (into-place n l)
@@ -53,7 +54,8 @@ unfolding arrangedTo standing
 nothing-placed zero = refl
 nothing-placed (suc n) = append-nil (arrangedTo turned n [] []) ∙ nothing-placed n
 
-placed-to : (n : ℕ) (places : List ℤ) (xs : List Ends) → length places ≡ length xs → All (λ p. (1 ≤ natAbs p) × (natAbs p ≤ n)) places → Reordered xs (arrangedTo turned n places xs)
+placed-to : (n : ℕ) (places : List ℤ) (xs : List Ends) → length places ≡ length xs → All (λ p. (1 ≤ natAbs p) × (natAbs p ≤ n)) places
+    → Reordered xs (arrangedTo turned n places xs)
 placed-to n [] [] l h = rw (nothing-placed n) empty
 placed-to n [] (x ∷ xs) l h = absurd (omega arith)
 placed-to n (p ∷ places) [] l h = absurd (omega arith)
@@ -214,7 +216,8 @@ module _ (xs order : List Ends) (k : Located xs order) where
       stands : (i : ℕ) → i < length xs → getD order (natAbs (getD placesOf i (pos 0)) - 1) (0, 0) ≡ turnedBy turned (getD placesOf i (pos 0)) (getD xs i (0, 0))
       stands i l =
           let at-i : natAbs (getD placesOf i (pos 0)) - 1 ≡ k .place i = omega (arith, size-at i l) in
-          let t : isTurned (getD placesOf i (pos 0)) ≡ k .turns i = unfold placeOf in (ap isTurned (place-at i l) ∙ turned-signed (suc (k .place i)) (k .turns i) (omega arith)) in
+          let t : isTurned (getD placesOf i (pos 0)) ≡ k .turns i = unfold placeOf in
+          (ap isTurned (place-at i l) ∙ turned-signed (suc (k .place i)) (k .turns i) (omega arith)) in
           rw (at-i, t) (k .string i l)
 
 -- and each order and turning is made by signed places

@@ -48,12 +48,14 @@ module _ {strings named : List Ends} (r : Renamed strings named) where
   renamed-length = ap length (r .is) ∙ length-map named (renamed (r .weight))
 
   -- places make as many paths of the one as of the other
-  pub renamed-paths : (places : List ℤ) → SignedPermutation (length named) places → pathCount (arranged turned places strings) ≡ pathCount (arranged turned places named)
+  pub renamed-paths : (places : List ℤ) → SignedPermutation (length named) places
+      → pathCount (arranged turned places strings) ≡ pathCount (arranged turned places named)
   renamed-paths places s =
       ap (λ (L : List Ends). pathCount (arranged turned places L)) (r .is)
       ∙ (ap pathCount (sym (map-arranged turned turned (renamed (r .weight)) (λ x. refl) places named))
       ∙ paths-named (r .weight) (λ v. 1 ≤ occurs v (weights named)) (r .apart) (arranged turned places named)
-      (all-reordered (λ t. (1 ≤ occurs (front t) (weights named)) × (1 ≤ occurs (back t) (weights named))) (λ t p. (p .1, p .0)) (places-reordered places named s)
+      (all-reordered (λ t. (1 ≤ occurs (front t) (weights named)) × (1 ≤ occurs (back t) (weights named))) (λ t p. (p .1, p .0))
+      (places-reordered places named s)
       (all-weights (λ v. 1 ≤ occurs v (weights named)) named (λ w h. h))))
 
   -- so the least number of paths is the same

@@ -117,7 +117,8 @@ cut-chain h x (t ∷ Z) c = go (agree-cases h (front t)) (agree-cases h (back t)
   where
     go : Agreeing h (front t) → Agreeing h (back t) → 2 * pathCount (unspoked h Z) + agree h (back t) ≤ occurs h (weights Z) + 1
         → ((back t ≡ h → ⊥) → 2 * breaks t (unspoked h Z) + 2 * agree (back t) (back t) + agree h (back t) ≤ occurs h (weights Z) + 1)
-        → 2 * pathCount (keepIf (agree h (front t)) (agree h (back t)) t (unspoked h Z)) + agree h x ≤ agree h (front t) + (agree h (back t) + occurs h (weights Z)) + 1
+        → 2 * pathCount (keepIf (agree h (front t)) (agree h (back t)) t (unspoked h Z)) + agree h x
+        ≤ agree h (front t) + (agree h (back t) + occurs h (weights Z)) + 1
     go (inl a) b ih k = rw (a .1) (omega (arith, ap (agree h) (c .0), a .1))
     go (inr a) (inl b) ih k = rw (a .1, b .1) (omega (arith, ap (agree h) (c .0), a .1))
     go (inr a) (inr b) ih k =

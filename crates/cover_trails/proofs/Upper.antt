@@ -1,7 +1,7 @@
 -- Some order and turning has E + O / 2 paths.
 -- With the spokes all weights are even. One walk from the hub, then a walk from each weight of a string that is still unused, use all strings.
--- Without the spokes the first walk is O / 2 paths. Each later walk is one path, and starts in an all-even group of its own: when a walk starts, each weight has all of its strings used or none,
--- so each group has; and a group with an odd weight hangs on the hub, whose strings are used.
+-- Without the spokes the first walk is O / 2 paths. Each later walk is one path, and starts in an all-even group of its own: when a walk starts, each weight
+-- has all of its strings used or none, so each group has; and a group with an odd weight hangs on the hub, whose strings are used.
 use mathlib.Core.Path.{_≡_, refl, ap, sym, subst}
 use mathlib.Core.List.{List, [], _∷_, _++_, map, append-assoc}
 use Prim.Native.Nat.{ℕ, zero, suc, _+_, _/_, _%_, _≤_, _<_}
@@ -70,7 +70,8 @@ first-walk {h} {strings} {U} {Z} fresh k = record {
 }
 
 -- A later walk, from a weight s of a string that is left.
-module _ {h : ℕ} {strings : List Ends} {j : ℕ} {U Y : List Ends} (fresh : occurs h (weights strings) ≡ 0) (k : Toured h strings j U Y) (s : ℕ) (left : 1 ≤ occurs s (weights U)) where
+module _ {h : ℕ} {strings : List Ends} {j : ℕ} {U Y : List Ends} (fresh : occurs h (weights strings) ≡ 0) (k : Toured h strings j U Y) (s : ℕ)
+    (left : 1 ≤ occurs s (weights U)) where
   Spent : ℕ → Type 0
   Spent v = occurs v (weights U) ≡ 0
 
@@ -122,7 +123,8 @@ module _ {h : ℕ} {strings : List Ends} {j : ℕ} {U Y : List Ends} (fresh : oc
   pub starts-even : evenGroup (limit strings) (nameOf strings) (weights strings) (nameOf strings s) ≡ 1
   unfolding evenGroup
   starts-even =
-      even-is (occurs (nameOf strings s) (map (nameOf strings) (weights strings))) (oddMembers (limit strings) (nameOf strings) (weights strings) (nameOf strings s))
+      even-is (occurs (nameOf strings s) (map (nameOf strings) (weights strings)))
+      (oddMembers (limit strings) (nameOf strings) (weights strings) (nameOf strings s))
       (occurs-map (nameOf strings) s (weights strings) own-weight) no-odd-member
 
   -- and no earlier walk was in it
@@ -147,7 +149,8 @@ module _ {h : ℕ} {strings : List Ends} {j : ℕ} {U Y : List Ends} (fresh : oc
 
     now-reached : reachedBy strings (Z ++ Y) (nameOf strings s) ≡ 1
     now-reached =
-        reached-is (evenGroup (limit strings) (nameOf strings) (weights strings) (nameOf strings s)) (occurs (nameOf strings s) (map (nameOf strings) (weights (Z ++ Y))))
+        reached-is (evenGroup (limit strings) (nameOf strings) (weights strings) (nameOf strings s))
+        (occurs (nameOf strings s) (map (nameOf strings) (weights (Z ++ Y))))
         (omega (arith, starts-even))
         (omega (arith, names-both (nameOf strings) (nameOf strings s) Z Y, occurs-map (nameOf strings) s (weights Z) walk-at-start))
 
@@ -224,7 +227,8 @@ walks h strings fresh (suc n) j [] Y l k = (unspoked h Y, toured-reordered fresh
 walks h strings fresh (suc n) j (e ∷ U) Y l k =
     let here : 1 ≤ occurs (front e) (weights (e ∷ U)) = unfold occurs weights in (omega (arith, agree-same (front e) (front e) refl)) in
     let t = walked (front e) (e ∷ U) (k .even) in
-    walks h strings fresh n (suc j) (t .0) (t .1 ++ Y) (shorter (t .0) (t .1) (t .2) (walk-at-start fresh k (front e) here (t .2))) (later-walk fresh k (front e) here (t .2))
+    walks h strings fresh n (suc j) (t .0) (t .1 ++ Y) (shorter (t .0) (t .1) (t .2) (walk-at-start fresh k (front e) here (t .2)))
+    (later-walk fresh k (front e) here (t .2))
   where
     nonempty : (w : ℕ) (Z : List Ends) → 1 ≤ occurs w (weights Z) → 1 ≤ length Z
     nonempty w [] p = absurd (unfold occurs weights in (omega arith))

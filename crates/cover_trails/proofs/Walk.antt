@@ -1,7 +1,7 @@
 -- A closed walk over strings of which each weight has an even number of ends.
--- From the start s the walk takes unused strings while there is one where it stands (`taken`); the strings taken are T, which leads from s to where it stands, at w.
--- Where there is none (`stuck`), the last string of T is given back to Z, which leads from z to s (`popped`). The unused degree of a weight is odd exactly if one of w and z is that weight;
--- so where the walk is stuck, w is z, and Z stays a chain. When T is empty, Z is a closed chain from s (`closed`).
+-- From the start s the walk takes unused strings while there is one where it stands (`taken`); the strings taken are T, which leads from s to where it stands,
+-- at w. Where there is none (`stuck`), the last string of T is given back to Z, which leads from z to s (`popped`). The unused degree of a weight is odd
+-- exactly if one of w and z is that weight; so where the walk is stuck, w is z, and Z stays a chain. When T is empty, Z is a closed chain from s (`closed`).
 -- A loop over tables is proved by one of these lemmas for each of its branches.
 use mathlib.Core.Path.{_≡_, refl, ap, sym, _∙_, subst}
 use mathlib.Core.Logic.{⊎-elim}
@@ -130,7 +130,8 @@ walk-on zero s U₀ U T w Z z l k = absurd (omega arith)
 walk-on (suc n) s U₀ U T w Z z l k = go T (find w U) l k (λ U′ T′ w′ Z′ z′ l′ k′. walk-on n s U₀ U′ T′ w′ Z′ z′ l′ k′)
   where
     go : (T : List Ends) → Found w U → 2 * length U + length T < suc n → Walk s U₀ U T w Z z
-        → ((U T : List Ends) (w : ℕ) (Z : List Ends) (z : ℕ) → 2 * length U + length T < n → Walk s U₀ U T w Z z → (U : List Ends) × (Z : List Ends) × Closed s U₀ U Z)
+        → ((U T : List Ends) (w : ℕ) (Z : List Ends) (z : ℕ) → 2 * length U + length T < n → Walk s U₀ U T w Z z
+        → (U : List Ends) × (Z : List Ends) × Closed s U₀ U Z)
         → (U : List Ends) × (Z : List Ends) × Closed s U₀ U Z
     go T (found b R r) l k more = more R ((w, b) ∷ T) b Z z (omega (arith, length-reordered r)) (taken k b R r)
     go [] (absent h) l k more = (U, Z, closed k h)

@@ -1,4 +1,5 @@
 -- What "the least number of paths" means.
+-- Specification: 5.4.
 use mathlib.Core.Path.{_≡_}
 use mathlib.Core.List.{List}
 use Prim.Native.Nat.{ℕ, _≤_}

@@ -1,4 +1,5 @@
 -- How often a number occurs, and sums over the numbers below a bound.
+-- Specification: 5.2.
 use mathlib.Core.List.{List, [], _∷_}
 use Prim.Native.Nat.{ℕ, zero, suc, _+_, _%_, max}
 use Rattle.lists.specs.Count.{agree}

@@ -1,4 +1,5 @@
 -- Groups of end weights, and the numbers E, O and E + O / 2 of them.
+-- Specification: 5.2, 5.4.
 use mathlib.Core.List.{List, [], _∷_, map, List·Memᴰ}
 use Prim.Native.Nat.{ℕ, zero, suc, _+_, _*_, _/_}
 use lib.Dec.{eqb}
@@ -54,7 +55,7 @@ unfoldable pub evenGroups : List Ends → ℕ
 unfolding countEvenGroups above nameOf weights
 evenGroups strings = countEvenGroups (above (weights strings)) (nameOf strings) (weights strings)
 
--- O: the number of weights that occur oddly often
+-- O: the number of weights that occur oddly often; it is even (`odd-weights-halves` in proofs/Bounds)
 unfoldable pub oddWeights : List Ends → ℕ
 unfolding countOdd above weights
 oddWeights strings = countOdd (above (weights strings)) (weights strings)

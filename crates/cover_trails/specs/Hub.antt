@@ -1,5 +1,5 @@
--- Inner: the hub, its spokes, and the state between two walks. COVER's promise cites none of this; the contracts of its walks (`cover_tours`) do, and the proof that
--- some order has E + O / 2 paths.
+-- Inner: the hub, its spokes, and the state between two walks. COVER's promise cites none of this; the contracts of its walks (`cover_tours`) do, and the proof
+-- that some order has E + O / 2 paths.
 use mathlib.Core.Path.{_≡_}
 use mathlib.Core.List.{List, [], _∷_, _++_, map}
 use Prim.Native.Nat.{ℕ, zero, suc, _+_, _*_, _≤_}

@@ -1,4 +1,5 @@
 -- The paths of an order: the maximal chains of neighbouring strings that join at equal weights (`together-paths`, `paths-maximal` in proofs/Paths).
+-- Specification: 5.3.
 use mathlib.Core.Bool.{Bool, true, false}
 use mathlib.Core.List.{List, [], _∷_}
 use Prim.Native.Nat.{ℕ}

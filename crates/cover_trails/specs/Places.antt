@@ -1,4 +1,5 @@
 -- Signed places: an order of strings in which some are turned.
+-- Specification: 5.1.
 use mathlib.Core.Path.{_≡_}
 use mathlib.Core.Bool.{Bool, true, false}
 use mathlib.Core.List.{List, [], _∷_, _++_, map}

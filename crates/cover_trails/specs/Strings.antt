@@ -1,4 +1,5 @@
 -- A string by its end weights: those of its first and last k-mer.
+-- Specification: 5.2.
 use mathlib.Core.List.{List, [], _∷_}
 use Prim.Native.Nat.{ℕ}
 

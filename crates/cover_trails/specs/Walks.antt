@@ -1,5 +1,5 @@
--- Inner: orders and turnings as a relation, in which strings move one at a time, and closed walks. COVER's promise cites none of this; the contracts of its walks
--- (`cover_tours`) do, and the proofs of the bounds. Signed places and this relation say the same (proofs/Places).
+-- Inner: orders and turnings as a relation, in which strings move one at a time, and closed walks. COVER's promise cites none of this; the contracts of its
+-- walks (`cover_tours`) do, and the proofs of the bounds. Signed places and this relation say the same (proofs/Places).
 use mathlib.Core.Path.{_≡_}
 use mathlib.Core.List.{List, [], _∷_, _++_}
 use Prim.Native.Nat.{ℕ, _%_, _≤_}

@@ -14,7 +14,8 @@ use Rattle.cover_vertices.proofs.Ladder.{ladder-part, ladder-other}
 
 -- The ladders are written one after the other: a has the hub's row, b the cursors as well, c the flags of the strings, d those of the spokes.
 module _ {m : ℕ} {w a b c d : List ℕ} (f : Fits m w)
-    (ea : a ≡ put (7 * m) (ladder (2 * m) 2 (2 * m)) w) (eb : b ≡ put (9 * m) (ladder 0 1 (3 * m)) a) (ec : c ≡ put (2 * m) (ladder 0 0 m) b) (ed : d ≡ put (3 * m) (ladder 1 0 (2 * m)) c)
+    (ea : a ≡ put (7 * m) (ladder (2 * m) 2 (2 * m)) w) (eb : b ≡ put (9 * m) (ladder 0 1 (3 * m)) a) (ec : c ≡ put (2 * m) (ladder 0 0 m) b)
+    (ed : d ≡ put (3 * m) (ladder 1 0 (2 * m)) c)
     (la : length a ≡ length w) (lb : length b ≡ length w) (lc : length c ≡ length w) where
   -- each leaves what lies elsewhere
   past-hub : (i n : ℕ) → Apart i n (7 * m) (2 * m) → i + n ≤ 16 * m → part i n a ≡ part i n w

@@ -9,16 +9,17 @@ use Rattle.lists.specs.Count.{countFrom}
 use Rattle.lists.proofs.Count.{length-count}
 use Rattle.lists.specs.Fill.{put}
 use Rattle.lists.proofs.Storing.{drop-next, Storing, begin-at, inside, store, restated, stored}
-use Rattle.collection_faults.specs.Faults.{firstShort, lastEnd}
+use Rattle.collection_faults.specs.Faults.{firstShort}
 use Rattle.collection.specs.Collection.{Spelling, collection}
 use Rattle.collection.specs.Kmers.{within, kmersFrom, kmers}
 use Rattle.collection.specs.Strings.{stringsFrom}
 use Rattle.collection.proofs.Judged.{long-cons}
-use Rattle.collection.proofs.Kmers.{kmers-next, Strings-left, strings-begin, Next, next-string, strings-on}
 use Rattle.cover_trails.proofs.Orders.{length-weights}
-use Rattle.cover_vertices.specs.Promises.{endsFrom, Strung}
+use Rattle.cover_vertices.specs.Promises.{endsFrom}
 use Rattle.cover_trails.specs.Strings.{Ends, weights}
-use Rattle.cover_vertices.specs.EndWeights.{endsOf, endWeights}
+use Rattle.collection.specs.Ready.{Strung}
+use Rattle.collection.specs.EndWeights.{endsOf, endWeights}
+use Rattle.collection.proofs.Strung.{Weights-left, weights-begin, string-here, weights-on}
 
 -- ─── from ends and weights alone ─────────────────────────────────────────────
 
@@ -46,7 +47,8 @@ ends-from k i before letters (e ∷ ends) ws h l =
     (ends-from k (suc i) e (drop (e - before) letters) ends (drop n ws) (a .1) (simp length-drop (omega (arith, c, l))))
 
 -- they are the end weights of the strings
-pub end-weights : (t : Spelling) (ws : List ℕ) → firstShort t.k 0 0 t.ends ≡ 0 → length ws ≡ length (kmers t.k t.ends) → endWeights (collection t.k t.letters t.ends ws) ≡ endsFrom t.k 0 t.ends ws
+pub end-weights : (t : Spelling) (ws : List ℕ) → firstShort t.k 0 0 t.ends ≡ 0 → length ws ≡ length (kmers t.k t.ends)
+    → endWeights (collection t.k t.letters t.ends ws) ≡ endsFrom t.k 0 t.ends ws
 unfolding endWeights
 end-weights t ws h l = ends-from t.k 0 0 t.letters t.ends ws h l
 
@@ -73,19 +75,9 @@ module _ (k before : ℕ) (ends ws : List ℕ) (i passed : ℕ) (l : i < length 
       ap (λ (L : List ℕ). weights (endsFrom k before L (drop passed ws))) (drop-next ends i 0 l)
       ∙ (ap₂ (λ (x y : ℕ). x ∷ (y ∷ weights (endsFrom k (getD ends i 0) (drop (i + 1) ends) (drop (within k before (getD ends i 0)) (drop passed ws)))))
       (getD-drop passed ws 0 0 ∙ ap (λ (j : ℕ). getD ws j 0) z) (getD-drop passed ws (within k before (getD ends i 0) - 1) 0)
-      ∙ ap (λ (L : List ℕ). getD ws passed 0 ∷ (getD ws (passed + (within k before (getD ends i 0) - 1)) 0 ∷ weights (endsFrom k (getD ends i 0) (drop (i + 1) ends) L)))
+      ∙ ap (λ (L : List ℕ). getD ws passed 0
+      ∷ (getD ws (passed + (within k before (getD ends i 0) - 1)) 0 ∷ weights (endsFrom k (getD ends i 0) (drop (i + 1) ends) L)))
       (drop-drop (within k before (getD ends i 0)) passed ws))
-
-  -- the weights that are left are those of the strings that are left
-  pub left-next : passed + length (kmersFrom k before (drop i ends)) ≡ length ws
-      → passed + within k before (getD ends i 0) + length (kmersFrom k (getD ends i 0) (drop (i + 1) ends)) ≡ length ws
-  left-next h =
-      omega (
-        arith,
-        ap length (kmers-next k before ends i l),
-        length-append (countFrom before (within k before (getD ends i 0))) (kmersFrom k (getD ends i 0) (drop (i + 1) ends)),
-        length-count before (within k before (getD ends i 0)),
-      )
 
 -- behind the last string there are none
 pub ends-end : (k before : ℕ) (ends ws : List ℕ) (i : ℕ) → length ends ≤ i → weights (endsFrom k before (drop i ends) ws) ≡ []
@@ -96,8 +88,7 @@ ends-end k before ends ws i l = ap (λ (L : List ℕ). weights (endsFrom k befor
 
 -- the end weights of i strings are stored from entry `at` on; the last of these strings ends at `before`, and they have `passed` weights
 pub record Writing (k at : ℕ) (ends ws w₀ w : List ℕ) (before passed i : ℕ) : Type 0 where
-  pub walk : Strings-left k (lastEnd 0 ends) ends i before passed
-  pub left : passed + length (kmersFrom k before (drop i ends)) ≡ length ws
+  pub walk : Weights-left k ends ws i before passed
   pub storing : Storing (length w₀) w (put at (weights (endsFrom k 0 ends ws)) w₀) (weights (endsFrom k before (drop i ends) (drop passed ws))) (at + 2 * i)
 
 -- nothing is stored yet
@@ -105,28 +96,17 @@ pub writing-start : (k at : ℕ) (ends ws w : List ℕ) → Strung k ends ws →
 writing-start k at ends ws w s h =
     let e : at + 2 * 0 ≡ at = omega arith in
     record {
-      walk = strings-begin (s .ends-long) refl;
-      left = omega (arith, s .counted);
+      walk = weights-begin s;
       storing = rw e (begin-at at w (weights (endsFrom k 0 ends ws)) (omega (arith, length-weights (endsFrom k 0 ends ws), length-ends k 0 ends ws)));
     }
 
 module _ {k at : ℕ} {ends ws w₀ w : List ℕ} {before passed i : ℕ} (g : Writing k at ends ws w₀ w before passed i) where
-  module _ (l : i < length ends) (e : ℕ) (is : e ≡ getD ends i 0) where
-    -- the next string
-    pub string-here : Next k (lastEnd 0 ends) before e
-    string-here = rw is (next-string (g .walk) l)
-
-    left-on : passed + within k before e + length (kmersFrom k e (drop (i + 1) ends)) ≡ length ws
-    left-on = rw is (left-next k before ends ws i passed l (g .left))
-
-    -- its weights are there
-    pub weights-inside : passed + within k before e ≤ length ws
-    weights-inside = omega (arith, left-on)
-
+  module _ (l : i < length ends) {e : ℕ} (is : e ≡ getD ends i 0) where
     next-two : Storing (length w₀) w (put at (weights (endsFrom k 0 ends ws)) w₀)
-        (getD ws passed 0 ∷ (getD ws (passed + within k before e - 1) 0 ∷ weights (endsFrom k e (drop (i + 1) ends) (drop (passed + within k before e) ws)))) (at + 2 * i)
+        (getD ws passed 0 ∷ (getD ws (passed + within k before e - 1) 0 ∷ weights (endsFrom k e (drop (i + 1) ends) (drop (passed + within k before e) ws))))
+        (at + 2 * i)
     next-two =
-        let q : passed + within k before e - 1 ≡ passed + (within k before e - 1) = omega (arith, string-here .long) in
+        let q : passed + within k before e - 1 ≡ passed + (within k before e - 1) = omega (arith, string-here (g .walk) l is .long) in
         rw (q, is) (restated (ends-next k before ends ws i passed l) (g .storing))
 
     -- both entries are in the table
@@ -137,12 +117,13 @@ module _ {k at : ℕ} {ends ws w₀ w : List ℕ} {before passed i : ℕ} (g : W
     second-inside = simp length-set at (inside (store next-two))
 
     -- its end weights are stored
-    pub writing-on : 1 ≤ k → Writing k at ends ws w₀ (set (set w (at + 2 * i) (getD ws passed 0)) (at + 2 * i + 1) (getD ws (passed + within k before e - 1) 0)) e (passed + within k before e) (i + 1)
+    pub writing-on : 1 ≤ k
+        → Writing k at ends ws w₀ (set (set w (at + 2 * i) (getD ws passed 0)) (at + 2 * i + 1) (getD ws (passed + within k before e - 1) 0)) e
+        (passed + within k before e) (i + 1)
     writing-on k1 =
         let q : at + 2 * (i + 1) ≡ at + 2 * i + 1 + 1 = omega arith in
         record {
-          walk = rw is (strings-on (g .walk) l k1 (passed + within k before (getD ends i 0)) refl);
-          left = left-on;
+          walk = weights-on (g .walk) l is k1;
           storing = rw q (store (store next-two));
         }
 

@@ -36,7 +36,8 @@ module _ (ks : ℕ → ℕ) where
   first-between zero p a b = let e : p ≡ 0 = omega arith in ap (firstOf ks) e
   first-between (suc q) p a b = go (eqb (ks (suc q)) (ks q)) refl a (ℕ-discrete p (suc q)) (first-between q p)
     where
-      go : (t : Bool) → eqb (ks (suc q)) (ks q) ≡ t → choose t (firstOf ks q) (suc q) ≤ p → Dec (p ≡ suc q) → (firstOf ks q ≤ p → p ≤ q → firstOf ks p ≡ firstOf ks q)
+      go : (t : Bool) → eqb (ks (suc q)) (ks q) ≡ t → choose t (firstOf ks q) (suc q) ≤ p → Dec (p ≡ suc q)
+          → (firstOf ks q ≤ p → p ≤ q → firstOf ks p ≡ firstOf ks q)
           → firstOf ks p ≡ choose t (firstOf ks q) (suc q)
       go t e a (yes i) ih = ap (firstOf ks) i ∙ ap (λ (u : Bool). choose u (firstOf ks q) (suc q)) e
       go true e a (no i) ih = ih a (omega arith)
@@ -52,7 +53,8 @@ module _ (ks : ℕ → ℕ) where
         let h : ks p ≡ ks (suc (p + d)) = e ∙ ap ks z in
         let k : ks (p + d) ≡ ks p = omega (arith, rises p (p + d) (omega arith) (omega arith), rises (p + d) (suc (p + d)) (omega arith) (omega arith)) in
         first-up p d (omega arith) (sym k)
-        ∙ (sym (ap (λ (u : Bool). choose u (firstOf ks (p + d)) (suc (p + d))) (eq-eqb (ks (suc (p + d))) (ks (p + d)) (sym h ∙ sym k))) ∙ ap (firstOf ks) (sym z))
+        ∙ (sym (ap (λ (u : Bool). choose u (firstOf ks (p + d)) (suc (p + d))) (eq-eqb (ks (suc (p + d))) (ks (p + d)) (sym h ∙ sym k)))
+        ∙ ap (firstOf ks) (sym z))
 
     -- equal keys have one first place
     pub first-same : (p q : ℕ) → p < n → q < n → ks p ≡ ks q → firstOf ks p ≡ firstOf ks q

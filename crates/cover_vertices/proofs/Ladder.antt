@@ -87,7 +87,8 @@ module _ (at n x step : ℕ) (w : List ℕ) {v : List ℕ} (e : v ≡ put at (la
   pub ladder-part : part at n v ≡ ladder x step n
   ladder-part =
       subst (λ (k : ℕ). part at k v ≡ ladder x step n) (length-ladder x step n)
-      (subst (λ (u : List ℕ). part at (length (ladder x step n)) u ≡ ladder x step n) (sym e) (put-part at (ladder x step n) w (omega (arith, length-ladder x step n))))
+      (subst (λ (u : List ℕ). part at (length (ladder x step n)) u ≡ ladder x step n) (sym e)
+      (put-part at (ladder x step n) w (omega (arith, length-ladder x step n))))
 
   -- other regions are as they were
   pub ladder-other : (b k : ℕ) → Apart b k at n → b + k ≤ length w → part b k v ≡ part b k w

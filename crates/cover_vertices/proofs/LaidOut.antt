@@ -76,7 +76,8 @@ module _ (m : ℕ) (keys verts flags stack : List ℕ) (some : 1 ≤ m)
       go (no p) (yes d) =
           let q : e ≡ length (ladder 0 0 m) + (e - m) = omega (arith, length-ladder 0 0 m) in
           rw (q, getD-append-add (ladder 0 0 m) flags (e - m) 0) (low (e - m) (omega arith))
-      go (no p) (no d) = let l : length (ladder 0 0 m ++ flags) ≤ e = omega (arith, used-size) in rw (List·getD-eq-default (ladder 0 0 m ++ flags) 0 l) (omega arith)
+      go (no p) (no d) = let l : length (ladder 0 0 m ++ flags) ≤ e = omega (arith, used-size) in
+          rw (List·getD-eq-default (ladder 0 0 m ++ flags) 0 l) (omega arith)
 
   -- what is unused: the strings, and the spokes to odd vertices
   left-is : left m laid ≡ strings m laid ++ spokesTo (2 * m) (zeros 0 flags)
@@ -148,7 +149,8 @@ pub blank-low : {m : ℕ} {keys w₁ w₂ w₃ : List ℕ} → length w₂ ≡ 1
     → All (λ x. x < 2 * m) (vertsIn m w₃)
 blank-low {m} {keys} {w₁} {w₂} s o n b =
     subst (All (λ x. x < 2 * m)) (sym (b .verts))
-    (at-all (λ v. v < 2 * m) 0 (vertsIn m w₂) (λ c l. vert-low m keys (vertsIn m w₂) (named-verts o n) c (omega (arith, part-length 0 (2 * m) w₂ (omega arith)))))
+    (at-all (λ v. v < 2 * m) 0 (vertsIn m w₂)
+    (λ c l. vert-low m keys (vertsIn m w₂) (named-verts o n) c (omega (arith, part-length 0 (2 * m) w₂ (omega arith)))))
 
 module _ {m : ℕ} {keys w₁ w₂ w₃ w₄ : List ℕ} (f : Fits m w₁) (lk : length keys ≡ 2 * m) (o : Ordered m keys w₁) (n : Named m (keysIn m w₁) (orderIn m w₁) w₁ w₂)
     (s₃ : length w₃ ≡ length w₁) (b : Blank m w₂ w₃) (d : Marked m w₃ w₄) where
@@ -173,7 +175,8 @@ module _ {m : ℕ} {keys w₁ w₂ w₃ w₄ : List ℕ} (f : Fits m w₁) (lk :
       ap (λ (k : ℕ). part (5 * m) k w₄) q
       ∙ (part-add (5 * m) (2 * m) (2 * m) w₄
       ∙ ap₂ (λ (A B : List ℕ). A ++ B)
-      (kept (5 * m) (2 * m) (inr (omega arith)) (omega arith) ∙ (b .order ∙ (only-part 0 (2 * m) w₁ w₂ (n .rest) (5 * m) (2 * m) (inr (omega arith)) (omega (arith, f .size)) ∙ o .order-is)))
+      (kept (5 * m) (2 * m) (inr (omega arith)) (omega arith)
+      ∙ (b .order ∙ (only-part 0 (2 * m) w₁ w₂ (n .rest) (5 * m) (2 * m) (inr (omega arith)) (omega (arith, f .size)) ∙ o .order-is)))
       (ap (λ (k : ℕ). part k (2 * m) w₄) r ∙ (kept (7 * m) (2 * m) (inr (omega arith)) (omega arith) ∙ b .hub)))
 
   cursors-are : part (9 * m) (3 * m) w₄ ≡ ladder 0 1 (3 * m)

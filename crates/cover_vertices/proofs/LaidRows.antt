@@ -73,7 +73,8 @@ module _ (m : ℕ) (keys verts : List ℕ) (named : (q : ℕ) → q < 2 * m → 
       }
     where
       in-hub : (j : ℕ) → j < 2 * m → (i : ℕ) → i ≡ 2 * m + j → near m verts (getD in-rows i 0) ≡ 2 * m
-      in-hub j l i e = ap (λ (x : ℕ). near m verts (getD in-rows x 0)) e ∙ (ap (near m verts) (row-hub j l) ∙ near-hub m verts (2 * m + j * 2) (omega arith) (omega arith))
+      in-hub j l i e =
+          ap (λ (x : ℕ). near m verts (getD in-rows x 0)) e ∙ (ap (near m verts) (row-hub j l) ∙ near-hub m verts (2 * m + j * 2) (omega arith) (omega arith))
 
   -- so the table has the strings as walks want them
   pub laid-graph : Graph m verts (inOrder m keys ++ ladder (2 * m) 2 (2 * m))

@@ -95,7 +95,8 @@ module _ (m : ℕ) (keys verts : List ℕ) (named : (q : ℕ) → q < 2 * m → 
   pub laid-renamed : (L : List Ends) → weights L ≡ keys → Renamed L (numbered (near m verts) 0 m)
   laid-renamed L e = record {
     weight = at-place;
-    is = weights-same L (map (renamed at-place) (numbered (near m verts) 0 m)) (e ∙ (keys-by-vertex ∙ sym (weights-renamed at-place (numbered (near m verts) 0 m) ∙ ap (map at-place) ws)));
+    is = weights-same L (map (renamed at-place) (numbered (near m verts) 0 m))
+        (e ∙ (keys-by-vertex ∙ sym (weights-renamed at-place (numbered (near m verts) 0 m) ∙ ap (map at-place) ws)));
     apart = λ v w a b q. vertices-apart v w (rw ws at a) (rw ws at b) q;
   }
     where

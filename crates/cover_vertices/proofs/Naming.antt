@@ -49,7 +49,8 @@ first-is ks zero v before a b = go (eqb (ks 0) before)
     go false = refl
 first-is ks (suc q) v before a b = rw (a, b q refl)
 
-module _ {m : ℕ} {w₀ w : List ℕ} {v before q : ℕ} (f : Fits m w₀) (r : Rising m (keysIn m w₀) (orderIn m w₀)) (g : Naming m w₀ w v before q) (l : q < 2 * m) where
+module _ {m : ℕ} {w₀ w : List ℕ} {v before q : ℕ} (f : Fits m w₀) (r : Rising m (keysIn m w₀) (orderIn m w₀)) (g : Naming m w₀ w v before q)
+    (l : q < 2 * m) where
   -- the end at place q
   pub order-read : getD w (5 * m + q) 0 ≡ getD (orderIn m w₀) q 0
   order-read = only-at 0 (2 * m) w₀ w (g .rest) (5 * m) (2 * m) (inr (omega arith)) q 0 l

@@ -3,10 +3,8 @@ use mathlib.Core.Path.{_≡_, refl, ap, ap₂, sym, subst, _∙_}
 use mathlib.Core.Logic.{inl, inr}
 use mathlib.Core.Bool.{true}
 use mathlib.Core.List.{List, [], _∷_}
-use Prim.Native.Nat.{ℕ, zero, suc, _+_, _-_, _*_, _<_, _≤_}
+use Prim.Native.Nat.{ℕ, zero, suc, _+_, _-_, _*_, _<_, _≤_, _^_}
 use native.Mathlib.Omega.{arith}
-use borrow.Author.Tests.{leb-true}
-use lib.Dec.{leb}
 use lib.ListN.{length, getD, drop}
 use lib.Seq.{getD-drop}
 use Rattle.lists.specs.Count.{countFrom}
@@ -14,12 +12,15 @@ use Rattle.lists.specs.Every.{All}
 use Rattle.lists.specs.Fill.{put}
 use Rattle.lists.specs.Pick.{sortBy}
 use Rattle.lists.specs.Regions.{part}
+use Rattle.lists.specs.Limits.{mostStrings}
 use Rattle.lists.proofs.Count.{length-count, count-at, all-count}
-use Rattle.lists.proofs.Every.{and-right, all-at, all-map}
+use Rattle.lists.proofs.Every.{all-at}
 use Rattle.lists.proofs.Puts.{put-part}
 use Rattle.lists.proofs.Sorts.{sortBy-at, sortBy-place, all-sortBy, length-sortBy}
 use Rattle.collection_faults.specs.Faults.{isWeight}
+use Rattle.collection_faults.proofs.Finding.{weights-low}
 use Rattle.collection.specs.Kmers.{within}
+use Rattle.collection.specs.Ready.{Strung}
 use Rattle.sorting.specs.Keys.{keyAt}
 use Rattle.sorting.specs.Layout.{Laid}
 use Rattle.sorting.specs.Promises.{Sorted}
@@ -28,22 +29,22 @@ use Rattle.sorting.proofs.Laws.{sorted-part}
 use Rattle.cover_tours.specs.Layout.{Fits}
 use Rattle.cover_trails.specs.Strings.{weights}
 use Rattle.cover_vertices.specs.Ladder.{ladder}
-use Rattle.cover_vertices.specs.Promises.{endsFrom, keysIn, orderIn, Strung, Ordered, Rising}
+use Rattle.cover_vertices.specs.Promises.{endsFrom, keysIn, orderIn, Ordered, Rising}
 use Rattle.cover_vertices.proofs.Ladder.{ladder-part, ladder-other}
 
 -- ─── the end weights fit 24 bits ─────────────────────────────────────────────
 
-weight-low : (ws : List ℕ) → All (λ w. isWeight w ≡ true) ws → (i : ℕ) → getD ws i 0 < 16777216
-weight-low ws h =
-    all-low 16777216 ws (omega arith) (all-map (λ w g. omega (arith, leb-true w 16777215 (and-right (leb 1 w) (leb w 16777215) g))) ws h)
+weight-low : (ws : List ℕ) → All (λ w. isWeight w ≡ true) ws → (i : ℕ) → getD ws i 0 < 2 ^ 24
+weight-low ws h = all-low (2 ^ 24) ws (omega arith) (weights-low ws h)
 
-ends-low : (k before : ℕ) (ends ws : List ℕ) → ((i : ℕ) → getD ws i 0 < 16777216) → All (λ w. w < 16777216) (weights (endsFrom k before ends ws))
+ends-low : (k before : ℕ) (ends ws : List ℕ) → ((i : ℕ) → getD ws i 0 < 2 ^ 24) → All (λ w. w < 2 ^ 24) (weights (endsFrom k before ends ws))
 unfolding endsFrom weights
 ends-low k before [] ws h = tt
-ends-low k before (e ∷ ends) ws h = (h 0, (h (within k before e - 1), ends-low k e ends (drop (within k before e) ws) (λ i. rw getD-drop (h (within k before e + i)))))
+ends-low k before (e ∷ ends) ws h =
+    (h 0, (h (within k before e - 1), ends-low k e ends (drop (within k before e) ws) (λ i. rw getD-drop (h (within k before e + i)))))
 
 -- so do the end weights of all strings
-pub keys-low : (k : ℕ) (ends ws : List ℕ) → Strung k ends ws → All (λ w. w < 16777216) (weights (endsFrom k 0 ends ws))
+pub keys-low : (k : ℕ) (ends ws : List ℕ) → Strung k ends ws → All (λ w. w < 2 ^ 24) (weights (endsFrom k 0 ends ws))
 keys-low k ends ws s = ends-low k 0 ends ws (weight-low ws (s .in-range))
 
 -- ─── the writes ──────────────────────────────────────────────────────────────
@@ -53,7 +54,8 @@ unfolding ladder countFrom
 ladder-count i zero = refl
 ladder-count i (suc n) = let e : i + 1 ≡ suc i = omega arith in ap (λ (l : List ℕ). i ∷ l) (ap (λ (j : ℕ). ladder j 1 n) e ∙ ladder-count (suc i) n)
 
-module _ {m : ℕ} (keys : List ℕ) {w₀ w₁ w₂ : List ℕ} (f : Fits m w₀) (l : length keys ≡ 2 * m) (a : w₁ ≡ put (12 * m) keys w₀) (b : w₂ ≡ put (5 * m) (ladder 0 1 (2 * m)) w₁)
+module _ {m : ℕ} (keys : List ℕ) {w₀ w₁ w₂ : List ℕ} (f : Fits m w₀) (l : length keys ≡ 2 * m) (a : w₁ ≡ put (12 * m) keys w₀)
+    (b : w₂ ≡ put (5 * m) (ladder 0 1 (2 * m)) w₁)
     (s₁ : length w₁ ≡ length w₀) where
   keys-first : keysIn m w₁ ≡ keys
   keys-first =
@@ -82,7 +84,7 @@ module _ {m : ℕ} (keys : List ℕ) {w₀ w₁ w₂ : List ℕ} (f : Fits m w�
   }
 
 -- where the regions lie
-pub laid : (m size : ℕ) → m ≤ 65536 → size ≡ 16 * m → Laid size (12 * m) (2 * m) (5 * m) (9 * m) (2 * m)
+pub laid : (m size : ℕ) → m ≤ mostStrings → size ≡ 16 * m → Laid size (12 * m) (2 * m) (5 * m) (9 * m) (2 * m)
 laid m size few is = record {
   few = omega arith;
   keys-inside = omega arith;
@@ -107,7 +109,9 @@ module _ (m : ℕ) (keys : List ℕ) where
   -- the weights rise in it
   pub order-rising : Rising m keys inOrder
   order-rising = record {
-    low = λ q l. all-at (λ x. x < 2 * m) inOrder (all-sortBy (keyAt keys) (λ x. x < 2 * m) (countFrom 0 (2 * m)) (all-count (λ x. x < 2 * m) 0 (2 * m) (λ j u v. omega arith))) q 0 (omega (arith, order-length));
+    low = λ q l. all-at (λ x. x < 2 * m) inOrder
+        (all-sortBy (keyAt keys) (λ x. x < 2 * m) (countFrom 0 (2 * m)) (all-count (λ x. x < 2 * m) 0 (2 * m) (λ j u v. omega arith))) q 0
+        (omega (arith, order-length));
     rises = λ p q h l. sortBy-at (keyAt keys) (countFrom 0 (2 * m)) p q 0 h (omega (arith, length-count 0 (2 * m)));
   }
 

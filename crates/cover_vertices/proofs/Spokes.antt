@@ -87,7 +87,8 @@ zeros-beyond x v (zero ∷ flags) l = omega (arith, agree-other x v (λ e. omega
 zeros-beyond x v (suc n ∷ flags) l = zeros-beyond x (suc v) flags (omega arith)
 
 -- Where flag and number of ends are odd together, the spokes that are unused lead to the odd vertices.
-pub zeros-odd : (n : ℕ) (vs flags : List ℕ) → length flags ≡ n → ((x : ℕ) → x < n → (getD flags x 0 + occurs x vs) % 2 ≡ 1) → ((x : ℕ) → x < n → getD flags x 0 ≤ 1)
+pub zeros-odd : (n : ℕ) (vs flags : List ℕ) → length flags ≡ n → ((x : ℕ) → x < n → (getD flags x 0 + occurs x vs) % 2 ≡ 1)
+    → ((x : ℕ) → x < n → getD flags x 0 ≤ 1)
     → ((x : ℕ) → n ≤ x → occurs x vs ≡ 0) → (x : ℕ) → occurs x (zeros 0 flags) ≡ oddly vs x
 unfolding oddly
 zeros-odd n vs flags l odd low beyond x = go (decLt x n)

@@ -1,5 +1,4 @@
--- What the contracts of `cover_vertices` cite. `EndWeights` is what COVER's promise speaks of; the others are inner.
-pub mod EndWeights
+-- Inner: what the contracts of the stages cite. No public promise does.
 pub mod Ladder
 pub mod Firsts
 pub mod Promises

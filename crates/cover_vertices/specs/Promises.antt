@@ -1,16 +1,12 @@
 -- Inner: what the stages ask and leave: the end weights in order, the vertices, the spokes to odd vertices. COVER's promise cites none of this.
-use mathlib.Core.Bool.{true}
 use mathlib.Core.Path.{_≡_}
 use mathlib.Core.List.{List, [], _∷_}
 use Prim.Native.Nat.{ℕ, _+_, _-_, _*_, _%_, _≤_, _<_}
-use lib.ListN.{length, getD, drop}
+use lib.ListN.{getD, drop}
 use Rattle.lists.specs.Count.{countFrom}
-use Rattle.lists.specs.Every.{All}
 use Rattle.lists.specs.Pick.{sortBy}
 use Rattle.lists.specs.Regions.{part, Only}
-use Rattle.collection_faults.specs.Faults.{lastEnd, isWeight}
-use Rattle.collection.specs.Kmers.{within, kmers}
-use Rattle.collection.specs.Ready.{Long}
+use Rattle.collection.specs.Kmers.{within}
 use Rattle.sorting.specs.Keys.{keyAt}
 use Rattle.cover_trails.specs.Counting.{occurs}
 use Rattle.cover_trails.specs.Renamed.{Renamed}
@@ -22,7 +18,8 @@ use Rattle.cover_vertices.specs.Ladder.{ladder}
 
 -- ─── the end weights ─────────────────────────────────────────────────────────
 
--- The end weights of strings from the ends and weights alone (they are `endWeights`: `end-weights` in proofs/EndWeights): the next string starts at `before`, and its weights are the first of those that are left.
+-- The end weights of strings from the ends and weights alone (they are `endWeights`: `end-weights` in proofs/EndWeights): the next string starts at `before`,
+-- and its weights are the first of those that are left.
 unfoldable pub endsFrom : ℕ → ℕ → List ℕ → List ℕ → List Ends
 endsFrom k before [] weights = []
 endsFrom k before (e ∷ ends) weights = (getD weights 0 0, getD weights (within k before e - 1) 0) ∷ endsFrom k e ends (drop (within k before e) weights)
@@ -46,13 +43,6 @@ abbrev pub flagsIn : ℕ → List ℕ → List ℕ
 flagsIn m w = part (3 * m) (2 * m) w
 
 -- ─── the stages ──────────────────────────────────────────────────────────────
-
--- judged ends and weights
-pub record Strung (k : ℕ) (ends ws : List ℕ) : Type 0 where
-  pub ends-long : Long k ends
-  pub few-letters : lastEnd 0 ends ≤ 1048576
-  pub counted : length ws ≡ length (kmers k ends)
-  pub in-range : All (λ w. isWeight w ≡ true) ws
 
 -- the end weights by their numbers, and these numbers in the order of the weights
 pub record Ordered (m : ℕ) (keys w : List ℕ) : Type 0 where

@@ -6,10 +6,11 @@ ghost use lib.ListN.{length};
 ghost use Rattle.lists.specs.Choose.{choose};
 ghost use Rattle.lists.specs.Every.{All};
 ghost use Rattle.lists.specs.Fill.{put};
+ghost use Rattle.collection.specs.Ready.{Strung};
 ghost use Rattle.cover_trails.specs.Strings.{weights as allEndWeights};
 ghost use Rattle.cover_tours.specs.Layout.{Fits};
 ghost use Rattle.cover_vertices.specs.Ladder.{ladder};
-ghost use Rattle.cover_vertices.specs.Promises.{endsFrom, keysIn, orderIn, vertsIn, flagsIn, Strung, Ordered, Rising, Named, Blank, Marked, LaidOut};
+ghost use Rattle.cover_vertices.specs.Promises.{endsFrom, keysIn, orderIn, vertsIn, flagsIn, Ordered, Rising, Named, Blank, Marked, LaidOut};
 
 // A number as an index.
 fn wide(x: u32) -> usize

@@ -1,5 +1,5 @@
--- QUICK over the index of a collection that passes 2 to 6, with the minimizers of document 01: it is not refused, it agrees with PLAIN, and what its answers say.
--- Assumes nothing.
+-- QUICK over the index of a collection that passes 2 to 6, by its minimizers: it is not refused, it agrees with PLAIN, and what its answers
+-- say. Assumes nothing.
 use mathlib.Core.Path.{_≡_, refl, sym, ap, _∙_, subst}
 use mathlib.Core.Bool.{Bool, true, _&&_}
 use mathlib.Core.Logic.{_⊎_, ⊎-elim}
@@ -11,7 +11,9 @@ use lib.Dec.{eqb}
 use lib.ListN.{length, take, drop}
 use Rattle.lists.specs.Choose.{choose}
 use Rattle.lists.specs.Every.{every}
+use Rattle.lists.specs.Limits.{mostLetters, mostStrings}
 use Rattle.lists.proofs.Every.{and-both, all-every, all-take, all-drop}
+use Rattle.lists.proofs.Refuted.{refuted}
 use Rattle.alphabet.specs.Letter.{isLetter}
 use Rattle.words.specs.Word.{spell, turn}
 use Rattle.words.proofs.Rolling.{length-at}
@@ -51,7 +53,9 @@ module _ (c : Collection) (p : ℕ) (passes : Passes c) (sizes : sizesVerdict c.
   module _ (word : List ℕ) (good : wordVerdict c.k word ≡ Good) where
     few-letters : sizeVerdict (length c.letters) 0 ≡ Good
     unfolding sizeVerdict
-    few-letters = ap (λ (t : Bool). choose t Good (Bad 3 0)) (and-both (le-leb (length c.letters) 1048576 (judged .shape .N-high)) (le-leb 0 65536 (omega arith)))
+    few-letters =
+        ap (λ (t : Bool). choose t Good (Bad 3 0))
+        (and-both (le-leb (length c.letters) mostLetters (judged .shape .N-high)) (le-leb 0 mostStrings (omega arith)))
 
     -- no verdict refuses it
     asking : askVerdict c.k p word (length c.letters) ≡ Good
@@ -77,33 +81,43 @@ module _ (c : Collection) (p : ℕ) (passes : Passes c) (sizes : sizesVerdict c.
     unfolding plainOf
     quick-agrees =
         ap unnumbered quick-answers
-        ∙ settled plain.Refused (quick-plain (minimizer p) (4 ^ p) c.k c.letters c.ends (spell word) asked-below turned-below) (then-good (wordVerdict c.k word) passes good)
+        ∙ settled plain.Refused (quick-plain (minimizer p) (4 ^ p) c.k c.letters c.ends (spell word) asked-below turned-below)
+        (then-good (wordVerdict c.k word) passes good)
 
     -- it finds exactly the words that stand in the collection, as asked or turned, with their lowest handles
     pub quick-finds : Says (spellingOf c) (spell word) (unnumbered (quickOf c.k p word c.letters index))
-    quick-finds = subst (λ (answer : QuickAnswer). Says (spellingOf c) (spell word) (unnumbered answer)) (sym quick-answers) (quick-says (minimizer p) (4 ^ p) c.k c.letters c.ends (spell word) asked-below turned-below)
+    quick-finds =
+        subst (λ (answer : QuickAnswer). Says (spellingOf c) (spell word) (unnumbered answer)) (sym quick-answers)
+        (quick-says (minimizer p) (4 ^ p) c.k c.letters c.ends (spell word) asked-below turned-below)
 
     -- found, the asked word stands at the handle, on the side that is told
-    pub found-stands : (handle : ℕ) (side : Side) (compared : ℕ) → quickOf c.k p word c.letters index ≡ Found handle side compared → Stands (spellingOf c) (sided side (spell word)) handle
+    pub found-stands : (handle : ℕ) (side : Side) (compared : ℕ) → quickOf c.k p word c.letters index ≡ Found handle side compared
+        → Stands (spellingOf c) (sided side (spell word)) handle
     unfolding unnumbered
     found-stands handle side compared e = go quick-finds (ap unnumbered e)
       where
-        at : (h : ℕ) (s : Side) → Stands (spellingOf c) (sided s (spell word)) h → handle ≡ h → s ≡ side → Stands (spellingOf c) (sided side (spell word)) handle
-        at h s x n m = subst (λ (i : ℕ). Stands (spellingOf c) (sided side (spell word)) i) (sym n) (subst (λ (t : Side). Stands (spellingOf c) (sided t (spell word)) h) m x)
+        at : (h : ℕ) (s : Side) → Stands (spellingOf c) (sided s (spell word)) h → handle ≡ h → s ≡ side
+            → Stands (spellingOf c) (sided side (spell word)) handle
+        at h s x n m =
+            subst (λ (i : ℕ). Stands (spellingOf c) (sided side (spell word)) i) (sym n)
+            (subst (λ (t : Side). Stands (spellingOf c) (sided t (spell word)) h) m x)
 
-        go : {answer : PlainAnswer} → Says (spellingOf c) (spell word) answer → answer ≡ plain.Found handle side → Stands (spellingOf c) (sided side (spell word)) handle
+        go : {answer : PlainAnswer} → Says (spellingOf c) (spell word) answer → answer ≡ plain.Found handle side
+            → Stands (spellingOf c) (sided side (spell word)) handle
         go (as-asked h s) q = let n : handle ≡ h = cc in let m : Asked ≡ side = cc in at h Asked (s .here) n m
         go (as-turned h none s) q = let n : handle ≡ h = cc in let m : Turned ≡ side = cc in at h Turned (s .here) n m
-        go (absent none none') q = let z : _≡_ {A = ℕ} 0 1 = cc in absurd (omega arith)
+        go (absent none none') q = refuted (cc)
 
     -- absent, neither stands anywhere
-    pub absent-nowhere : (compared : ℕ) → quickOf c.k p word c.letters index ≡ Absent compared → Nowhere (spellingOf c) (spell word) × Nowhere (spellingOf c) (turn (spell word))
+    pub absent-nowhere : (compared : ℕ) → quickOf c.k p word c.letters index ≡ Absent compared
+        → Nowhere (spellingOf c) (spell word) × Nowhere (spellingOf c) (turn (spell word))
     unfolding unnumbered
     absent-nowhere compared e = go quick-finds (ap unnumbered e)
       where
-        go : {answer : PlainAnswer} → Says (spellingOf c) (spell word) answer → answer ≡ plain.Absent → Nowhere (spellingOf c) (spell word) × Nowhere (spellingOf c) (turn (spell word))
-        go (as-asked h s) q = let z : _≡_ {A = ℕ} 0 1 = cc in absurd (omega arith)
-        go (as-turned h none s) q = let z : _≡_ {A = ℕ} 0 1 = cc in absurd (omega arith)
+        go : {answer : PlainAnswer} → Says (spellingOf c) (spell word) answer → answer ≡ plain.Absent
+            → Nowhere (spellingOf c) (spell word) × Nowhere (spellingOf c) (turn (spell word))
+        go (as-asked h s) q = refuted (cc)
+        go (as-turned h none s) q = refuted (cc)
         go (absent none none') q = (none, none')
 
     -- no word of k letters is refused
@@ -112,16 +126,17 @@ module _ (c : Collection) (p : ℕ) (passes : Passes c) (sizes : sizesVerdict c.
     never-refused number place e = go quick-finds (ap unnumbered e)
       where
         go : {answer : PlainAnswer} → Says (spellingOf c) (spell word) answer → answer ≡ plain.Refused number place → ⊥
-        go (as-asked h l) q = let z : _≡_ {A = ℕ} 0 1 = cc in omega arith
-        go (as-turned h none l) q = let z : _≡_ {A = ℕ} 0 1 = cc in omega arith
-        go (absent none none') q = let z : _≡_ {A = ℕ} 0 1 = cc in omega arith
+        go (as-asked h l) q = refuted (cc)
+        go (as-turned h none l) q = refuted (cc)
+        go (absent none none') q = refuted (cc)
 
     -- what stands there on either side is found
     pub stands-found : (handle : ℕ) → Stands (spellingOf c) (spell word) handle ⊎ Stands (spellingOf c) (turn (spell word)) handle
         → (found : ℕ) × (side : Side) × (compared : ℕ) × (quickOf c.k p word c.letters index ≡ Found found side compared)
     stands-found handle s = go (quickOf c.k p word c.letters index) refl
       where
-        go : (answer : QuickAnswer) → quickOf c.k p word c.letters index ≡ answer → (found : ℕ) × (side : Side) × (compared : ℕ) × (quickOf c.k p word c.letters index ≡ Found found side compared)
+        go : (answer : QuickAnswer) → quickOf c.k p word c.letters index ≡ answer
+            → (found : ℕ) × (side : Side) × (compared : ℕ) × (quickOf c.k p word c.letters index ≡ Found found side compared)
         go (Found found side compared) e = (found, side, compared, e)
         go (Absent compared) e = let a = absent-nowhere compared e in absurd (⊎-elim (a .0 handle) (a .1 handle) s)
         go (Refused number place) e = absurd (never-refused number place e)
@@ -139,7 +154,8 @@ module _ (c : Collection) (p : ℕ) (passes : Passes c) (sizes : sizesVerdict c.
     access-passes =
         let a = access-good (spellingOf c) handle inside in
         let long = length-at c.letters c.k (positionOf c.k c.ends handle) (position-fits (judged .shape) handle (a .low) (a .high)) in
-        let all = all-take (λ b. isLetter b ≡ true) c.k (drop (positionOf c.k c.ends handle) c.letters) (all-drop (λ b. isLetter b ≡ true) (positionOf c.k c.ends handle) c.letters (judged .all-letters)) in
+        let all = all-take (λ b. isLetter b ≡ true) c.k (drop (positionOf c.k c.ends handle) c.letters)
+        (all-drop (λ b. isLetter b ≡ true) (positionOf c.k c.ends handle) c.letters (judged .all-letters)) in
         subst (λ (word : List ℕ). choose (eqb (length word) c.k && every isLetter word) Good (Bad 9 0) ≡ Good) part-is
         (ap (λ (t : Bool). choose t Good (Bad 9 0)) (and-both (eq-eqb _ c.k long) (all-every isLetter _ all)))
 

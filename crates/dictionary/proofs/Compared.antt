@@ -62,7 +62,8 @@ module _ (test : ℕ → Bool) where
           })
       later e (past compared n none) = past compared (omega arith) (e, none)
 
-      go : (t : Bool) → test (x .at) ≡ t → Walked (suc c) xs (seek test (suc c) xs) → Walked c (x ∷ xs) (choose t (Hit (x .handle) (suc c)) (seek test (suc c) xs))
+      go : (t : Bool) → test (x .at) ≡ t → Walked (suc c) xs (seek test (suc c) xs)
+          → Walked c (x ∷ xs) (choose t (Hit (x .handle) (suc c)) (seek test (suc c) xs))
       go true e w =
           meeting (x .handle) (suc c)
           (record { passed = []; here = x; left = xs; split = refl; none-passed = tt; meets = e; is-handle = refl; counted = omega arith })
@@ -81,15 +82,18 @@ module _ (z : List ℕ → ℕ) (k : ℕ) (letters : List ℕ) (index : Index) (
   -- what each answer says of the walks
   pub data Compares : QuickAnswer → Type 0 where
     as-asked : (handle compared : ℕ) → Meets (isWord k letters w) 0 askedRow handle compared → Compares (Found handle Asked compared)
-    as-turned : (handle compared : ℕ) → None (isWord k letters w) askedRow → Meets (isWord k letters (turn w)) (length askedRow) turnedRow handle compared → Compares (Found handle Turned compared)
-    absent : (compared : ℕ) → compared ≡ length askedRow + length turnedRow → None (isWord k letters w) askedRow → None (isWord k letters (turn w)) turnedRow → Compares (Absent compared)
+    as-turned : (handle compared : ℕ) → None (isWord k letters w) askedRow → Meets (isWord k letters (turn w)) (length askedRow) turnedRow handle compared
+        → Compares (Found handle Turned compared)
+    absent : (compared : ℕ) → compared ≡ length askedRow + length turnedRow → None (isWord k letters w) askedRow → None (isWord k letters (turn w)) turnedRow
+        → Compares (Absent compared)
 
   -- the number compared is exact
   pub quick-compares : Compares (quickFound z k letters index w)
   unfolding quickFound metOr
   quick-compares = first (seek-walks (isWord k letters w) 0 askedRow)
     where
-      second : (c : ℕ) → c ≡ length askedRow → None (isWord k letters w) askedRow → {m : Met} → Walked (isWord k letters (turn w)) c turnedRow m → Compares (metOr Turned m Absent)
+      second : (c : ℕ) → c ≡ length askedRow → None (isWord k letters w) askedRow → {m : Met} → Walked (isWord k letters (turn w)) c turnedRow m
+          → Compares (metOr Turned m Absent)
       second c e none (meeting handle compared v) =
           as-turned handle compared none
           (record {
@@ -104,7 +108,8 @@ module _ (z : List ℕ → ℕ) (k : ℕ) (letters : List ℕ) (index : Index) (
           })
       second c e none (past compared n none') = absent compared (omega arith) none none'
 
-      first : {m : Met} → Walked (isWord k letters w) 0 askedRow m → Compares (metOr Asked m (λ c. metOr Turned (seek (isWord k letters (turn w)) c turnedRow) Absent))
+      first : {m : Met} → Walked (isWord k letters w) 0 askedRow m
+          → Compares (metOr Asked m (λ c. metOr Turned (seek (isWord k letters (turn w)) c turnedRow) Absent))
       first (meeting handle compared v) = as-asked handle compared v
       first (past c n none) = second c (omega arith) none (seek-walks (isWord k letters (turn w)) c turnedRow)
 

@@ -2,18 +2,18 @@
 use mathlib.Core.Path.{_≡_, sym, ap, _∙_, subst}
 use mathlib.Core.List.{List}
 use Prim.Native.Nat.{ℕ, _+_, _-_, _/_}
-use native.Mathlib.Omega.{arith}
 use lib.IntN.{ℤ, pos, natAbs}
 use lib.ListN.{length, getD, take}
 use Rattle.lists.proofs.Storing.{take-fill}
+use Rattle.lists.proofs.Refuted.{refuted}
 use Rattle.collection.specs.Collection.{Collection}
 use Rattle.collection.specs.Judge.{Passes, collectionVerdict}
 use Rattle.collection.specs.Strings.{Str}
+use Rattle.collection.specs.EndWeights.{endWeights}
 use Rattle.collection.proofs.Verdicts.{both-good, done-by}
 use Rattle.sheet.proofs.Calls.{write-of-read}
 use Rattle.cover_trails.specs.Groups.{least, evenGroups, oddWeights}
 use Rattle.cover_trails.specs.Places.{SignedPermutation}
-use Rattle.cover_vertices.specs.EndWeights.{endWeights}
 use Rattle.cover.specs.declared.CoverAnswer.{CoverAnswer}
 use Rattle.cover.specs.declared.CoverAnswer.the-variants as cover
 use Rattle.cover.specs.Cover.{Promise, coverVerdict}
@@ -36,7 +36,8 @@ reordered : (c : Collection) (places : List ℤ) → Passes c → SignedPermutat
 reordered c places passes perm =
     record {
       stands = λ i l.
-          ap (λ (ss : List Str). getD ss (natAbs (getD places i (pos 0)) - 1) none) (reordered-strings c places passes perm) ∙ string-stands c places passes perm i l;
+          ap (λ (ss : List Str). getD ss (natAbs (getD places i (pos 0)) - 1) none) (reordered-strings c places passes perm)
+          ∙ string-stands c places passes perm i l;
       one-place = one-string perm;
       each-place = string-from c places passes perm;
       weights-kept = weight-kept c places passes perm;
@@ -49,7 +50,7 @@ reordered c places passes perm =
     }
 
 pub demand-two : DemandTwo
-demand-two = record { found = answers; reordering = reordered; same-bytes = λ sheet letters ends weights k N m n e out l. write-of-read sheet letters ends weights k N m n e out l }
+demand-two = record { found = answers; reordering = reordered; same-bytes = write-of-read }
 
 covered : (c : Collection) (places : List ℤ) (work : List ℕ) (m paths : ℕ) (places' : List ℤ) (work' : List ℕ)
     → Promise c places work (cover.Covered m paths) places' work'
@@ -57,16 +58,17 @@ covered : (c : Collection) (places : List ℤ) (work : List ℕ) (m paths : ℕ)
     × (paths ≡ evenGroups (endWeights c) + oddWeights (endWeights c) / 2)
 unfolding coverVerdict least
 covered c places work m paths places' work' p =
-    let good = done-by (λ (x : CoverAnswer). x) (coverVerdict c places work) cover.Refused (cover.Covered (length c.ends) (least (endWeights c))) (cover.Covered m paths)
-    (λ number place q. let z : _≡_ {A = ℕ} 0 1 = cc in let y : ⊥ = omega arith in y) (sym (p .answered)) in
+    let good = done-by (λ (x : CoverAnswer). x) (coverVerdict c places work) cover.Refused (cover.Covered (length c.ends) (least (endWeights c)))
+    (cover.Covered m paths)
+    (λ number place q. refuted (cc)) (sym (p .answered)) in
     let passes : Passes c = both-good (collectionVerdict c) _ (good .0) .0 in
-    let c₁ = cover-fills c places work p (good .0) in
+    let filled = cover-fills c places work p (good .0) in
     let q : cover.Covered (length c.ends) (least (endWeights c)) ≡ cover.Covered m paths = good .2 in
     let a : length c.ends ≡ m = cc in
     let b : least (endWeights c) ≡ paths = cc in
-    let e : c₁ .0 ≡ take m places' = sym (ap (take m) (c₁ .1) ∙ take-fill (c₁ .0) places m (c₁ .2 .number ∙ a)) in (
-      subst (SignedPermutation (length c.ends)) e (c₁ .2),
-      ap (runsAt c) (sym e) ∙ cover-fewest c passes (c₁ .0) (c₁ .3),
+    let e : filled .0 ≡ take m places' = sym (ap (take m) (filled .1) ∙ take-fill (filled .0) places m (filled .2 .number ∙ a)) in (
+      subst (SignedPermutation (length c.ends)) e (filled .2),
+      ap (runsAt c) (sym e) ∙ cover-fewest c passes (filled .0) (filled .3),
       sym b,
     )
 

@@ -3,15 +3,17 @@ use mathlib.Core.Path.{_≡_, refl, sym, ap, _∙_}
 use mathlib.Core.Logic.{_⊎_, inl, inr}
 use mathlib.Core.List.{List}
 use Prim.Native.Nat.{ℕ, zero, suc, _*_}
-use native.Mathlib.Omega.{arith}
 use lib.IntN.{ℤ}
 use lib.ListN.{length, replicate}
 use Rattle.lists.specs.Fill.{fill}
+use Rattle.lists.proofs.Refuted.{refuted}
 use Rattle.collection.specs.Collection.{Collection, spellingOf}
 use Rattle.collection.specs.declared.Verdict.{Verdict}
 use Rattle.collection.specs.declared.Verdict.the-variants.{Good, Bad}
 use Rattle.collection.specs.Judge.{kmersIn}
+use Rattle.collection.specs.Tables.{Tables}
 use Rattle.collection.specs.Verdict.{atPlace, settle}
+use Rattle.collection.specs.EndWeights.{endWeights}
 use Rattle.collection.proofs.Verdicts.{refused-by}
 use Rattle.sheet.specs.declared.ReadAnswer.{ReadAnswer}
 use Rattle.sheet.specs.declared.ReadAnswer.the-variants as read
@@ -23,7 +25,6 @@ use Rattle.repeats.specs.declared.CheckAnswer.the-variants as check
 use Rattle.repeats.specs.Check as checking
 use Rattle.repeats.specs.Check.{firstRepeat, checkVerdict, checkOf}
 use Rattle.cover_trails.specs.Strings.{Ends}
-use Rattle.cover_vertices.specs.EndWeights.{endWeights}
 use Rattle.cover.specs.declared.CoverAnswer.the-variants as cover
 use Rattle.cover.specs.Cover.{CoverOf, Promise, coverVerdict}
 use Rattle.cover.proofs.Laws.{cover-only}
@@ -44,7 +45,7 @@ use Rattle.dictionary.specs.Determined.{OneOutcome, Kept}
 pub one-outcome : OneOutcome
 one-outcome =
     record {
-      read = λ sheet letters ends weights a b e f. e ∙ sym f;
+      read = λ sheet t a b e f. e ∙ sym f;
       write = λ c sheet a b e f. e ∙ sym f;
       check = λ c work a b e f. e ∙ sym f;
       apply = λ c places t a b e f. e ∙ sym f;
@@ -66,7 +67,8 @@ one-outcome =
 -- ─── refusals ────────────────────────────────────────────────────────────────
 
 -- 7 is given at a repeat alone
-refused-seven : {Out : Type 0} (repeat : ℕ) (refuse : ℕ → ℕ → Out) (done : Out) → ((place : ℕ) × (settle (atPlace 7 repeat) refuse done ≡ refuse 7 place)) ⊎ (settle (atPlace 7 repeat) refuse done ≡ done)
+refused-seven : {Out : Type 0} (repeat : ℕ) (refuse : ℕ → ℕ → Out) (done : Out)
+    → ((place : ℕ) × (settle (atPlace 7 repeat) refuse done ≡ refuse 7 place)) ⊎ (settle (atPlace 7 repeat) refuse done ≡ done)
 unfolding settle atPlace
 refused-seven zero refuse done = inr refl
 refused-seven (suc place) refuse done = inl (suc place, refl)
@@ -75,7 +77,8 @@ refused-seven (suc place) refuse done = inl (suc place, refl)
 refused-twice : {Out Answer : Type 0} (answer : Out → Answer) (v u : Verdict) (refuse refuse' : ℕ → ℕ → Out) (done : Out) (r : Answer) → (answer done ≡ r → ⊥)
     → answer (settle v refuse (settle u refuse' done)) ≡ r
     → ((number : ℕ) × (place : ℕ) × (settle v refuse (settle u refuse' done) ≡ refuse number place) × (answer (refuse number place) ≡ r))
-    ⊎ ((number : ℕ) × (place : ℕ) × (settle v refuse (settle u refuse' done) ≡ refuse' number place) × (answer (refuse' number place) ≡ r) × (u ≡ Bad number place))
+    ⊎ ((number : ℕ) × (place : ℕ) × (settle v refuse (settle u refuse' done) ≡ refuse' number place) × (answer (refuse' number place) ≡ r)
+    × (u ≡ Bad number place))
 unfolding settle
 refused-twice answer (Bad number place) u refuse refuse' done r not e = inl (number, place, refl, e)
 refused-twice answer Good (Bad number place) refuse refuse' done r not e = inr (number, place, refl, e, refl)
@@ -83,28 +86,28 @@ refused-twice answer Good Good refuse refuse' done r not e = absurd (not e)
 
 at-seven : (repeat number place : ℕ) → atPlace 7 repeat ≡ Bad number place → number ≡ 7
 unfolding atPlace
-at-seven zero number place e = let z : _≡_ {A = ℕ} 0 1 = cc in absurd (let y : ⊥ = omega arith in y)
+at-seven zero number place e = refuted (cc)
 at-seven (suc repeat) number place e = cc
 
-read-kept : (sheet letters ends weights : List ℕ) (number place : ℕ) → readOf sheet letters ends weights .answer ≡ read.Refused number place
-    → readOf sheet letters ends weights ≡ readOutcome (read.Refused number place) letters ends weights
+read-kept : (sheet : List ℕ) (t : Tables) (number place : ℕ) → readOf sheet t .answer ≡ read.Refused number place
+    → readOf sheet t ≡ readOutcome (read.Refused number place) t
 unfolding readOf
-read-kept sheet letters ends weights number place e =
-    let t = refused-by (λ (o : ReadOutcome). o .answer) _ _ _ (read.Refused number place) (λ q. let z : _≡_ {A = ℕ} 0 1 = cc in let y : ⊥ = omega arith in y) e in
-    t .2 ∙ ap (λ (r : ReadAnswer). readOutcome r letters ends weights) (t .3)
+read-kept sheet t number place e =
+    let by = refused-by (λ (o : ReadOutcome). o .answer) _ _ _ (read.Refused number place) (λ q. refuted (cc)) e in
+    by .2 ∙ ap (λ (r : ReadAnswer). readOutcome r t) (by .3)
 
 write-kept : (c : Collection) (sheet : List ℕ) (number place : ℕ) → writeOf c sheet .answer ≡ write.Refused number place
     → writeOf c sheet ≡ writeOutcome (write.Refused number place) sheet
 unfolding writeOf
 write-kept c sheet number place e =
-    let t = refused-by (λ (o : WriteOutcome). o .answer) _ _ _ (write.Refused number place) (λ q. let z : _≡_ {A = ℕ} 0 1 = cc in let y : ⊥ = omega arith in y) e in
+    let t = refused-by (λ (o : WriteOutcome). o .answer) _ _ _ (write.Refused number place) (λ q. refuted (cc)) e in
     t .2 ∙ ap (λ (r : WriteAnswer). writeOutcome r sheet) (t .3)
 
 runs-kept : (c : Collection) (runWeights runFirsts : List ℕ) (number place : ℕ) → runsOf c runWeights runFirsts .answer ≡ runs.Refused number place
     → runsOf c runWeights runFirsts ≡ listing.outcome (runs.Refused number place) runWeights runFirsts
 unfolding runsOf
 runs-kept c runWeights runFirsts number place e =
-    let t = refused-by (λ (o : listing.Outcome). o .answer) _ _ _ (runs.Refused number place) (λ q. let z : _≡_ {A = ℕ} 0 1 = cc in let y : ⊥ = omega arith in y) e in
+    let t = refused-by (λ (o : listing.Outcome). o .answer) _ _ _ (runs.Refused number place) (λ q. refuted (cc)) e in
     t .2 ∙ ap (λ (r : RunsAnswer). listing.outcome r runWeights runFirsts) (t .3)
 
 check-kept : (c : Collection) (work : List ℕ) (number place : ℕ) → checkOf c work .answer ≡ check.Refused number place
@@ -125,42 +128,48 @@ check-kept c work number place e = go (checkVerdict c (length work)) e
     go (Bad a b) q = inl refl
     go Good q = inr (seven (refused-seven (firstRepeat (spellingOf c)) check.Refused (check.Checked n)), refl)
       where
-        seven : ((at : ℕ) × (settle (atPlace 7 (firstRepeat (spellingOf c))) check.Refused (check.Checked n) ≡ check.Refused 7 at)) ⊎ (settle (atPlace 7 (firstRepeat (spellingOf c))) check.Refused (check.Checked n) ≡ check.Checked n)
+        seven : ((at : ℕ) × (settle (atPlace 7 (firstRepeat (spellingOf c))) check.Refused (check.Checked n) ≡ check.Refused 7 at))
+            ⊎ (settle (atPlace 7 (firstRepeat (spellingOf c))) check.Refused (check.Checked n) ≡ check.Checked n)
             → number ≡ 7
-        seven (inl t) = let c₁ : check.Refused number place ≡ check.Refused 7 (t .0) = sym q ∙ t .1 in cc
-        seven (inr t) = let c₁ : check.Refused number place ≡ check.Checked n = sym q ∙ t in let z : _≡_ {A = ℕ} 0 1 = cc in absurd (let y : ⊥ = omega arith in y)
+        seven (inl t) = let same : check.Refused number place ≡ check.Refused 7 (t .0) = sym q ∙ t .1 in cc
+        seven (inr t) = let clash : check.Refused number place ≡ check.Checked n = sym q ∙ t in refuted (cc)
 
 apply-kept : (c : Collection) (places : List ℤ) (t : applying.Lent) (number place : ℕ)
     → applyOf c places t .answer ≡ apply.Refused number place
     → (applyOf c places t ≡ applying.outcome (apply.Refused number place) t)
-    ⊎ (applyOf c places t ≡ applying.outcome (apply.Refused number place) (applying.lent t.letters t.ends t.weights (applying.zeroed (length c.ends) t.work)))
+    ⊎ (applyOf c places t ≡ applying.outcome (apply.Refused number place) (applying.lent t.new (applying.zeroed (length c.ends) t.work)))
 unfolding applyOf placedOf
 apply-kept c places t number place e =
-    go (refused-twice (λ (o : applying.Outcome). o .answer) _ _ _ _ _ (apply.Refused number place) (λ q. let z : _≡_ {A = ℕ} 0 1 = cc in let y : ⊥ = omega arith in y) e)
+    go (refused-twice (λ (o : applying.Outcome). o .answer) _ _ _ _ _ (apply.Refused number place) (λ q. refuted (cc)) e)
   where
     go : ((a : ℕ) × (b : ℕ) × (applyOf c places t ≡ applying.outcome (apply.Refused a b) t) × (apply.Refused a b ≡ apply.Refused number place))
-        ⊎ ((a : ℕ) × (b : ℕ) × (applyOf c places t ≡ applying.outcome (apply.Refused a b) (applying.lent t.letters t.ends t.weights (applying.zeroed (length c.ends) t.work))) × (apply.Refused a b ≡ apply.Refused number place) × (placesVerdict (length c.ends) places ≡ Bad a b))
+        ⊎ ((a : ℕ) × (b : ℕ)
+        × (applyOf c places t ≡ applying.outcome (apply.Refused a b) (applying.lent t.new (applying.zeroed (length c.ends) t.work)))
+        × (apply.Refused a b ≡ apply.Refused number place) × (placesVerdict (length c.ends) places ≡ Bad a b))
         → (applyOf c places t ≡ applying.outcome (apply.Refused number place) t)
-        ⊎ (applyOf c places t ≡ applying.outcome (apply.Refused number place) (applying.lent t.letters t.ends t.weights (applying.zeroed (length c.ends) t.work)))
+        ⊎ (applyOf c places t
+        ≡ applying.outcome (apply.Refused number place) (applying.lent t.new (applying.zeroed (length c.ends) t.work)))
     go (inl u) = inl (u .2 ∙ ap (λ (r : ApplyAnswer). applying.outcome r t) (u .3))
-    go (inr u) = inr (u .2 ∙ ap (λ (r : ApplyAnswer). applying.outcome r (applying.lent t.letters t.ends t.weights (applying.zeroed (length c.ends) t.work))) (u .3))
+    go (inr u) = inr
+        (u .2 ∙ ap (λ (r : ApplyAnswer). applying.outcome r (applying.lent t.new (applying.zeroed (length c.ends) t.work))) (u .3))
 
 index-kept : (c : Collection) (p : ℕ) (t : Lent) (number place : ℕ) → indexOf c p t .answer ≡ index.Refused number place
     → (indexOf c p t .after ≡ t)
     ⊎ ((number ≡ 7) × (indexOf c p t .after ≡ indexing.untouched (kmersIn (spellingOf c)) t))
 unfolding indexOf
 index-kept c p t number place e =
-    go (refused-twice (λ (o : indexing.Outcome). o .answer) _ _ _ _ _ (index.Refused number place) (λ q. let z : _≡_ {A = ℕ} 0 1 = cc in let y : ⊥ = omega arith in y) e)
+    go (refused-twice (λ (o : indexing.Outcome). o .answer) _ _ _ _ _ (index.Refused number place) (λ q. refuted (cc)) e)
   where
     n : ℕ
     n = kmersIn (spellingOf c)
 
     go : ((a : ℕ) × (b : ℕ) × (indexOf c p t ≡ indexing.outcome (index.Refused a b) t) × (index.Refused a b ≡ index.Refused number place))
-        ⊎ ((a : ℕ) × (b : ℕ) × (indexOf c p t ≡ indexing.outcome (index.Refused a b) (indexing.untouched n t)) × (index.Refused a b ≡ index.Refused number place) × (atPlace 7 (firstRepeat (spellingOf c)) ≡ Bad a b))
+        ⊎ ((a : ℕ) × (b : ℕ) × (indexOf c p t ≡ indexing.outcome (index.Refused a b) (indexing.untouched n t))
+        × (index.Refused a b ≡ index.Refused number place) × (atPlace 7 (firstRepeat (spellingOf c)) ≡ Bad a b))
         → (indexOf c p t .after ≡ t) ⊎ ((number ≡ 7) × (indexOf c p t .after ≡ indexing.untouched n t))
     go (inl r) = inl (ap (λ (o : indexing.Outcome). o .after) (r .2))
     go (inr r) =
-        let c₁ : index.Refused (r .0) (r .1) ≡ index.Refused number place = r .3 in
+        let same : index.Refused (r .0) (r .1) ≡ index.Refused number place = r .3 in
         let d : r .0 ≡ number = cc in
         inr (sym d ∙ at-seven (firstRepeat (spellingOf c)) (r .0) (r .1) (r .4), ap (λ (o : indexing.Outcome). o .after) (r .2))
 
@@ -169,9 +178,10 @@ cover-kept : (c : Collection) (places : List ℤ) (work : List ℕ) (number plac
 unfolding settle
 cover-kept c places work number place places' work' = go (coverVerdict c places work) (endWeights c) (length c.ends)
   where
-    go : (v : Verdict) (strings : List Ends) (m : ℕ) → CoverOf v strings m places work (cover.Refused number place) places' work' → (places' ≡ places) × (work' ≡ work)
-    go Good strings m c₁ = let a = c₁ .answered in let z : _≡_ {A = ℕ} 0 1 = cc in absurd (let y : ⊥ = omega arith in y)
-    go (Bad a b) strings m c₁ = (c₁ .placed, c₁ .cleared)
+    go : (v : Verdict) (strings : List Ends) (m : ℕ) → CoverOf v strings m places work (cover.Refused number place) places' work'
+        → (places' ≡ places) × (work' ≡ work)
+    go Good strings m covered = let clash = covered .answered in refuted (cc)
+    go (Bad a b) strings m covered = (covered .placed, covered .cleared)
 
 pub kept : Kept
 kept = record { read = read-kept; write = write-kept; runs = runs-kept; cover = cover-kept; check = check-kept; apply = apply-kept; index = index-kept }

@@ -1,4 +1,5 @@
--- Demand 2 holds over every collection that passes the checks: QUICK finds exactly the words that stand there, each with its own handle and weight. Assumes nothing.
+-- Demand 2 holds over every collection that passes the checks: QUICK finds exactly the words that stand there, each with its own handle and weight. Assumes
+-- nothing.
 use mathlib.Core.Path.{_≡_, sym, ap, ap₂, _∙_}
 use mathlib.Core.Bool.{Bool}
 use mathlib.Core.Logic.{_⊎_, inl, inr}
@@ -9,6 +10,7 @@ use borrow.Author.Tests.{le-leb}
 use lib.ListN.{length}
 use Rattle.lists.specs.Choose.{choose}
 use Rattle.lists.proofs.Every.{and-both, every-all}
+use Rattle.lists.proofs.Refuted.{refuted}
 use Rattle.alphabet.specs.Letter.{isLetter}
 use Rattle.words.specs.Word.{Letters, spell, turn}
 use Rattle.words.proofs.Spelled.{spell-letters}
@@ -20,8 +22,8 @@ use Rattle.collection.specs.declared.Verdict.the-variants.{Good, Bad}
 use Rattle.collection.specs.Judge.{Passes, wordVerdict, shapeVerdict, handleVerdict, collectionVerdict}
 use Rattle.collection.specs.Kmers.{kmers, wordOf, weightOf, Distinct}
 use Rattle.collection.proofs.Judged.{Judged, collection-good, word-good}
-use Rattle.collection.proofs.Kmers.{kmers-counted}
 use Rattle.collection.proofs.Verdicts.{both-good, then-good}
+use Rattle.collection.proofs.Strung.{each-weighed}
 use Rattle.plain.specs.declared.PlainAnswer.the-variants as plain
 use Rattle.access.specs.Access.{accessVerdict}
 use Rattle.access.proofs.Accessed.{access-word}
@@ -43,7 +45,8 @@ word-spelt k word good = spell-letters word (every-all isLetter word (word-good 
 
 -- a word found weighs what its handle weighs
 pub found-weighs : (c : Collection) → Passes c → (answer : QuickAnswer) (handle : ℕ) (side : Side) (compared : ℕ) → 1 ≤ handle → handle ≤ length c.weights
-    → answer ≡ Found handle side compared → weighedOf answer (runWeights c.weights) (runFirsts c.weights) (length c.weights) ≡ Weighs (weightOf c.weights handle)
+    → answer ≡ Found handle side compared
+    → weighedOf answer (runWeights c.weights) (runFirsts c.weights) (length c.weights) ≡ Weighs (weightOf c.weights handle)
 unfolding weighedOf weighs
 found-weighs c passes answer handle side compared l m e =
     ap (λ (a : QuickAnswer). weighedOf a (runWeights c.weights) (runFirsts c.weights) (length c.weights)) e ∙ ap weighs (runs-then-weight c passes handle l m)
@@ -54,12 +57,14 @@ module _ (c : Collection) (p : ℕ) (passes : Passes c) (sizes : sizesVerdict c.
 
   -- as many weights as k-mers
   pub many : length c.weights ≡ length (kmers c.k c.ends)
-  many = judged .counted ∙ sym (kmers-counted (judged .shape))
+  many = each-weighed judged
 
   module _ (word : List ℕ) (good : wordVerdict c.k word ≡ Good) where
     -- two handles at which the word stands, on either side, are one
-    one-handle : Distinct (spellingOf c) → (s t : Side) (h j : ℕ) → Stands (spellingOf c) (sided s (spell word)) h → Stands (spellingOf c) (sided t (spell word)) j → h ≡ j
-    one-handle d s t h j a b = omega (arith, d (h - 1) (j - 1) (omega (arith, a .low, a .high)) (omega (arith, b .low, b .high)) (alike s t (a .word) (b .word)), a .low, b .low)
+    one-handle : Distinct (spellingOf c) → (s t : Side) (h j : ℕ) → Stands (spellingOf c) (sided s (spell word)) h
+        → Stands (spellingOf c) (sided t (spell word)) j → h ≡ j
+    one-handle d s t h j a b =
+        omega (arith, d (h - 1) (j - 1) (omega (arith, a .low, a .high)) (omega (arith, b .low, b .high)) (alike s t (a .word) (b .word)), a .low, b .low)
       where
         back : (i : ℕ) → 1 ≤ i → wordOf (spellingOf c) (i - 1 + 1) ≡ wordOf (spellingOf c) i
         back i l = let e : i - 1 + 1 ≡ i = omega arith in ap (wordOf (spellingOf c)) e
@@ -74,7 +79,8 @@ module _ (c : Collection) (p : ℕ) (passes : Passes c) (sizes : sizesVerdict c.
         alike Asked Asked x y = inl (back h (a .low) ∙ (x ∙ (sym y ∙ sym (back j (b .low)))))
         alike Turned Turned x y = inl (back h (a .low) ∙ (x ∙ (sym y ∙ sym (back j (b .low)))))
         alike Turned Asked x y = inr (back h (a .low) ∙ (x ∙ ap turn (sym y ∙ sym (back j (b .low)))))
-        alike Asked Turned x y = inr (back h (a .low) ∙ (x ∙ (sym (turn-turn (spell word) (word-spelt c.k word good)) ∙ ap turn (sym y ∙ sym (back j (b .low))))))
+        alike Asked Turned x y =
+            inr (back h (a .low) ∙ (x ∙ (sym (turn-turn (spell word) (word-spelt c.k word good)) ∙ ap turn (sym y ∙ sym (back j (b .low))))))
 
   handle-good : (handle : ℕ) → 1 ≤ handle → handle ≤ length c.weights → accessVerdict (spellingOf c) handle ≡ Good
   unfolding accessVerdict handleVerdict collectionVerdict
@@ -86,14 +92,15 @@ module _ (c : Collection) (p : ℕ) (passes : Passes c) (sizes : sizesVerdict c.
 found-as : (a : QuickAnswer) (handle : ℕ) (side : Side) → unnumbered a ≡ plain.Found handle side → (compared : ℕ) × (a ≡ Found handle side compared)
 unfolding unnumbered
 found-as (Found h s c) handle side e = (c, let n : h ≡ handle = cc in let m : s ≡ side = cc in ap₂ (λ (x : ℕ) (y : Side). Found x y c) n m)
-found-as (Absent c) handle side e = let z : _≡_ {A = ℕ} 0 1 = cc in absurd (let y : ⊥ = omega arith in y)
-found-as (Refused n q) handle side e = let z : _≡_ {A = ℕ} 0 1 = cc in absurd (let y : ⊥ = omega arith in y)
+found-as (Absent c) handle side e = refuted (cc)
+found-as (Refused n q) handle side e = refuted (cc)
 
 pub answers : (c : Collection) (p : ℕ) → Sound c → sizesVerdict c.k p ≡ Good → Answers c p
 answers c p sound sizes =
     record {
       stands = λ word good side handle s.
-          let either : (x : Side) → Stands (spellingOf c) (sided x (spell word)) handle → Stands (spellingOf c) (spell word) handle ⊎ Stands (spellingOf c) (turn (spell word)) handle = by-side word handle in
+          let either : (x : Side) → Stands (spellingOf c) (sided x (spell word)) handle
+          → Stands (spellingOf c) (spell word) handle ⊎ Stands (spellingOf c) (turn (spell word)) handle = by-side word handle in
           let f = stands-found c p passes sizes word good handle (either side s) in
           let t = found-stands c p passes sizes word good (f .0) (f .1) (f .2) (f .3) in
           let h = one-handle c p passes sizes word good (sound .distinct) (f .1) side (f .0) handle t s in
@@ -110,6 +117,7 @@ answers c p sound sizes =
     passes : Passes c
     passes = sound .passes
 
-    by-side : (word : List ℕ) (handle : ℕ) (x : Side) → Stands (spellingOf c) (sided x (spell word)) handle → Stands (spellingOf c) (spell word) handle ⊎ Stands (spellingOf c) (turn (spell word)) handle
+    by-side : (word : List ℕ) (handle : ℕ) (x : Side) → Stands (spellingOf c) (sided x (spell word)) handle
+        → Stands (spellingOf c) (spell word) handle ⊎ Stands (spellingOf c) (turn (spell word)) handle
     by-side word handle Asked s = inl s
     by-side word handle Turned s = inr s

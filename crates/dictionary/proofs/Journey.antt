@@ -3,17 +3,18 @@ use mathlib.Core.Path.{_≡_, sym, ap, ap₂, _∙_, subst}
 use mathlib.Core.Logic.{inl, inr}
 use mathlib.Core.List.{List}
 use Prim.Native.Nat.{ℕ, _+_, _^_}
-use native.Mathlib.Omega.{arith}
 use lib.IntN.{ℤ}
 use lib.ListN.{length, take, length-map}
 use Rattle.lists.proofs.Every.{all-map}
 use Rattle.lists.proofs.Storing.{take-fill}
+use Rattle.lists.proofs.Refuted.{refuted}
 use Rattle.words.specs.Word.{spell}
 use Rattle.collection.specs.Collection.{Collection, collection, spellingOf}
 use Rattle.collection.specs.declared.Verdict.the-variants.{Good}
 use Rattle.collection.specs.Judge.{Passes}
 use Rattle.collection.specs.Kmers.{Distinct}
 use Rattle.collection.specs.Strings.{Str, strings, lettersIn, endsIn, weightsIn, joined}
+use Rattle.collection.specs.EndWeights.{endWeights}
 use Rattle.collection.proofs.Strings.{strings-back}
 use Rattle.collection.proofs.Verdicts.{both-good, done-by}
 use Rattle.sheet.specs.Sheet.{sheetK, sheetStrings}
@@ -22,7 +23,6 @@ use Rattle.sheet.proofs.Calls.{ReadDone, read-done, read-passes}
 use Rattle.repeats.proofs.Checked.{check-distinct}
 use Rattle.cover_trails.specs.Groups.{least}
 use Rattle.cover_trails.specs.Places.{SignedPermutation}
-use Rattle.cover_vertices.specs.EndWeights.{endWeights}
 use Rattle.cover.specs.declared.CoverAnswer.{CoverAnswer}
 use Rattle.cover.specs.declared.CoverAnswer.the-variants as cover
 use Rattle.cover.specs.Cover.{Fewest, coverVerdict}
@@ -30,7 +30,8 @@ use Rattle.cover.proofs.Laws.{cover-fills}
 use Rattle.apply.specs.declared.ApplyAnswer.the-variants as apply
 use Rattle.apply.specs.Apply as applying
 use Rattle.apply_strings.specs.Reordered.{reordered}
-use Rattle.apply.specs.Apply.{collectionIn, roomsOf, applyOf, placedOf, tablesVerdict}
+use Rattle.collection.specs.Tables.{collectionIn, roomsOf}
+use Rattle.apply.specs.Apply.{applyOf, placedOf, tablesVerdict}
 use Rattle.apply_strings.specs.Weighs.{Weighs, WeighsAt}
 use Rattle.apply_places.specs.Places.{placesVerdict}
 use Rattle.apply.proofs.Applying.{applied}
@@ -52,7 +53,21 @@ use Rattle.quick.specs.declared.WordAnswer.the-variants as word
 use Rattle.quick.specs.Quick.{quickOf}
 use Rattle.quick.specs.Weighed.{weighedOf}
 use Rattle.dictionary.specs.Dictionary.{weighed as weighedOver}
-use Rattle.dictionary.specs.Journey.{Reading, collectionRead, Reordering, collectionApplied, Indexing, runWeightsListed, runFirstsListed, indexMade, weighed, Says, weighs, absent, EndToEnd}
+use Rattle.dictionary.specs.Journey.{
+  Reading,
+  collectionRead,
+  Reordering,
+  collectionApplied,
+  Indexing,
+  runWeightsListed,
+  runFirstsListed,
+  indexMade,
+  weighed,
+  Says,
+  weighs,
+  absent,
+  EndToEnd,
+}
 use Rattle.dictionary.proofs.Said.{Said, reordered-says}
 
 -- ─── the calls in a row ──────────────────────────────────────────────────────
@@ -61,12 +76,12 @@ module _ {sheet : List ℕ} (r : Reading sheet) where
   abbrev k : ℕ
   k = r .k
 
-  done : ReadDone sheet (r .letters₀) (r .ends₀) (r .weights₀) (r .k) (r .N) (r .m) (r .n)
-  done = read-done sheet (r .letters₀) (r .ends₀) (r .weights₀) (r .k) (r .N) (r .m) (r .n) (r .filled)
+  done : ReadDone sheet (r .lent) (r .k) (r .N) (r .m) (r .n)
+  done = read-done sheet (r .lent) (r .k) (r .N) (r .m) (r .n) (r .filled)
 
   -- what READ gave passes, and its strings are those of the sheet
   passes-read : Passes (collectionRead r)
-  passes-read = read-passes sheet (r .letters₀) (r .ends₀) (r .weights₀) (r .k) (r .N) (r .m) (r .n) (r .filled)
+  passes-read = read-passes sheet (r .lent) (r .k) (r .N) (r .m) (r .n) (r .filled)
 
   strings-read : strings (collectionRead r) ≡ sheetStrings sheet
   strings-read =
@@ -89,12 +104,12 @@ module _ {sheet : List ℕ} {r : Reading sheet} (o : Reordering r) where
   distinct-read = check-distinct (collectionRead r) (o .work₁) (r .n) (o .checked) .0 .distinct
 
   -- APPLY's two verdicts are good
-  apply-good : (tablesVerdict (collectionRead r) (roomsOf (o .tables₁)) ≡ Good)
+  apply-good : (tablesVerdict (collectionRead r) (roomsOf (o .tables₁ .new)) (length (o .tables₁ .work)) ≡ Good)
       × (placesVerdict (length (collectionRead r .ends)) (take (r .m) (o .places)) ≡ Good)
   unfolding applyOf placedOf
   apply-good =
-      let t = done-by (λ (x : applying.Outcome). x .answer) _ _ _ (apply.Filled (r .N) (r .m) (r .n)) (λ number place q. let z : _≡_ {A = ℕ} 0 1 = cc in let y : ⊥ = omega arith in y) (o .applied) in
-      let u = done-by (λ (x : applying.Outcome). x .answer) _ _ _ (apply.Filled (r .N) (r .m) (r .n)) (λ number place q. let z : _≡_ {A = ℕ} 0 1 = cc in let y : ⊥ = omega arith in y) (t .2) in
+      let t = done-by (λ (x : applying.Outcome). x .answer) _ _ _ (apply.Filled (r .N) (r .m) (r .n)) (λ number place q. refuted (cc)) (o .applied) in
+      let u = done-by (λ (x : applying.Outcome). x .answer) _ _ _ (apply.Filled (r .N) (r .m) (r .n)) (λ number place q. refuted (cc)) (t .2) in
       (t .0, u .0)
 
   abbrev placed : List ℤ
@@ -115,21 +130,23 @@ module _ {sheet : List ℕ} {r : Reading sheet} (o : Reordering r) where
   filled : Applied
   filled =
       let t = applied (collectionRead r) placed (o .tables₁) (apply-good .0) (apply-good .1) in
-      let q : apply.Filled (length (collectionRead r .letters)) (length (collectionRead r .ends)) (length (collectionRead r .weights)) ≡ apply.Filled (r .N) (r .m) (r .n) = sym (t .0) ∙ o .applied in
+      let q : apply.Filled (length (collectionRead r .letters)) (length (collectionRead r .ends)) (length (collectionRead r .weights))
+      ≡ apply.Filled (r .N) (r .m) (r .n) = sym (t .0) ∙ o .applied in
       let a : length (collectionRead r .letters) ≡ r .N = cc in
       let b : length (collectionRead r .ends) ≡ r .m = cc in
       let c : length (collectionRead r .weights) ≡ r .n = cc in
       record {
         strings-many = sym b;
-        collection-is = sym (λ i. collectionIn (r .k) (a i) (b i) (c i) (applyOf (collectionRead r) placed (o .tables₁) .after)) ∙ t .1;
+        collection-is = sym (λ i. collectionIn (r .k) (a i) (b i) (c i) (applyOf (collectionRead r) placed (o .tables₁) .after .new)) ∙ t .1;
         weights-many = sym c ∙ sym (reordered-sizes (collectionRead r) placed (passes-read r) permutation .weights-number);
       }
 
   -- the places are those that COVER found
   covered-good : coverVerdict (collectionRead r) (o .places₀) (o .work₂) ≡ Good
   covered-good =
-      done-by (λ (x : CoverAnswer). x) _ cover.Refused (cover.Covered (length (collectionRead r .ends)) (least (endWeights (collectionRead r)))) (cover.Covered (r .m) (o .paths))
-      (λ number place q. let z : _≡_ {A = ℕ} 0 1 = cc in let y : ⊥ = omega arith in y) (sym (o .covered .answered)) .0
+      done-by (λ (x : CoverAnswer). x) _ cover.Refused (cover.Covered (length (collectionRead r .ends)) (least (endWeights (collectionRead r))))
+      (cover.Covered (r .m) (o .paths))
+      (λ number place q. refuted (cc)) (sym (o .covered .answered)) .0
 
   fewest-placed : Fewest (endWeights (collectionRead r)) placed
   fewest-placed =
@@ -150,13 +167,16 @@ module _ {sheet : List ℕ} {r : Reading sheet} {o : Reordering r} {p : ℕ} (x 
   listed : Listed
   unfolding runsOf
   listed =
-      let t = done-by (λ (y : runsCalls.Outcome). y .answer) _ _ _ (listing.Filled (x .runs)) (λ number place q. let z : _≡_ {A = ℕ} 0 1 = cc in let y : ⊥ = omega arith in y) (x .listed) in
+      let t = done-by (λ (y : runsCalls.Outcome). y .answer) _ _ _ (listing.Filled (x .runs)) (λ number place q. refuted (cc)) (x .listed) in
       let q : listing.Filled (runCount new.weights) ≡ listing.Filled (x .runs) = t .2 in
       let n : runCount new.weights ≡ x .runs = cc in
       record {
         runs-many = sym n;
-        weights-are = ap (λ (y : runsCalls.Outcome). take (x .runs) (y .weights-after)) (t .1) ∙ take-fill (runWeights new.weights) (x .runWeights₀) (x .runs) (length-map (runs new.weights) (λ e. e .0) ∙ n);
-        firsts-are = ap (λ (y : runsCalls.Outcome). take (x .runs) (y .firsts-after)) (t .1) ∙ take-fill (runFirsts new.weights) (x .runFirsts₀) (x .runs) (length-map (runs new.weights) (λ e. e .1) ∙ n);
+        weights-are =
+            ap (λ (y : runsCalls.Outcome). take (x .runs) (y .weights-after)) (t .1)
+            ∙ take-fill (runWeights new.weights) (x .runWeights₀) (x .runs) (length-map (runs new.weights) (λ e. e .0) ∙ n);
+        firsts-are = ap (λ (y : runsCalls.Outcome). take (x .runs) (y .firsts-after)) (t .1)
+            ∙ take-fill (runFirsts new.weights) (x .runFirsts₀) (x .runs) (length-map (runs new.weights) (λ e. e .1) ∙ n);
       }
 
   -- INDEX made the index of the new collection
@@ -190,12 +210,16 @@ end-to-end =
       says = λ sheet p r o x asked good.
           tell sheet r o x asked (reordered-says (collectionRead r) p (placed o) (passes-read r) (permutation o) (distinct-read o) (sizes-good x) asked good);
       shortest = λ sheet p r o x.
-          let e = listed x .runs-many ∙ (ap (λ (x : Collection). runCount (x .weights)) (filled o .collection-is) ∙ cover-fewest (collectionRead r) (passes-read r) (placed o) (fewest-placed o)) in
+          let e = listed x .runs-many
+          ∙ (ap (λ (x : Collection). runCount (x .weights)) (filled o .collection-is)
+          ∙ cover-fewest (collectionRead r) (passes-read r) (placed o) (fewest-placed o)) in
           subst (FewestRuns (collectionRead r)) (sym e) (fewest-runs (collectionRead r) (passes-read r));
     }
   where
     tell : (sheet : List ℕ) (r : Reading sheet) (o : Reordering r) {p : ℕ} (x : Indexing o p) (asked : List ℕ)
         → Said (collectionRead r) (spell asked) (weighedOver (joined (r .k) (strung o)) p asked)
         → Says sheet (spell asked) (weighed x asked)
-    tell sheet r o x asked (inl t) = subst (Says sheet (spell asked)) (sym (on-the-way x asked ∙ t .1)) (weighs (t .0) (read-says r (spell asked) (t .0) (t .2)))
-    tell sheet r o x asked (inr t) = subst (Says sheet (spell asked)) (sym (on-the-way x asked ∙ t .0)) (absent (λ weight u. t .1 weight (says-read r (spell asked) weight u)))
+    tell sheet r o x asked (inl t) =
+        subst (Says sheet (spell asked)) (sym (on-the-way x asked ∙ t .1)) (weighs (t .0) (read-says r (spell asked) (t .0) (t .2)))
+    tell sheet r o x asked (inr t) =
+        subst (Says sheet (spell asked)) (sym (on-the-way x asked ∙ t .0)) (absent (λ weight u. t .1 weight (says-read r (spell asked) weight u)))

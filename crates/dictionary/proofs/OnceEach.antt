@@ -50,17 +50,20 @@ unfolding sum
 some-one [] a = inl refl
 some-one (x ∷ xs) a = go (lt-or-le 0 x) (some-one xs (λ i l. a (suc i) (omega arith)))
   where
-    go : (0 < x) ⊎ (x ≤ 0) → (sum xs ≡ 0) ⊎ ((j : ℕ) × (j < length xs) × (getD xs j 0 ≡ 1)) → (x + sum xs ≡ 0) ⊎ ((j : ℕ) × (j < suc (length xs)) × (getD (x ∷ xs) j 0 ≡ 1))
+    go : (0 < x) ⊎ (x ≤ 0) → (sum xs ≡ 0) ⊎ ((j : ℕ) × (j < length xs) × (getD xs j 0 ≡ 1))
+        → (x + sum xs ≡ 0) ⊎ ((j : ℕ) × (j < suc (length xs)) × (getD (x ∷ xs) j 0 ≡ 1))
     go (inl l) r = inr (0, omega arith, omega (arith, a 0 (omega arith)))
     go (inr l) (inl e) = inl (omega arith)
     go (inr l) (inr r) = inr (suc (r .0), omega (arith, r .1), r .2)
 
 -- it is at most 1 where no two of them are 1
-one-at-most : (xs : List ℕ) → ((i : ℕ) → i < length xs → getD xs i 0 ≤ 1) → ((i j : ℕ) → i < j → j < length xs → getD xs i 0 ≡ 1 → getD xs j 0 ≡ 1 → ⊥) → sum xs ≤ 1
+one-at-most : (xs : List ℕ) → ((i : ℕ) → i < length xs → getD xs i 0 ≤ 1) → ((i j : ℕ) → i < j → j < length xs → getD xs i 0 ≡ 1 → getD xs j 0 ≡ 1 → ⊥)
+    → sum xs ≤ 1
 unfolding sum
 one-at-most [] a b = omega arith
 one-at-most (x ∷ xs) a b =
-    go (one-at-most xs (λ i l. a (suc i) (omega arith)) (λ i j l m. b (suc i) (suc j) (omega arith) (omega arith))) (lt-or-le 0 x) (some-one xs (λ i l. a (suc i) (omega arith)))
+    go (one-at-most xs (λ i l. a (suc i) (omega arith)) (λ i j l m. b (suc i) (suc j) (omega arith) (omega arith))) (lt-or-le 0 x)
+    (some-one xs (λ i l. a (suc i) (omega arith)))
   where
     go : sum xs ≤ 1 → (0 < x) ⊎ (x ≤ 0) → (sum xs ≡ 0) ⊎ ((j : ℕ) × (j < length xs) × (getD xs j 0 ≡ 1)) → x + sum xs ≤ 1
     go ih (inl l) (inl e) = omega (arith, a 0 (omega arith))
@@ -118,7 +121,8 @@ module _ (c : Collection) (passes : Passes c) where
   spelt i = word-letters (judged-ready (collection-good c passes)) (getD (kmers c.k c.ends) i 0)
 
   -- two k-mers that are one word, read either way, are alike
-  alike : (word : List ℕ) (i j : ℕ) → once word (wordAt c.k c.letters (getD (kmers c.k c.ends) i 0)) ≡ 1 → once word (wordAt c.k c.letters (getD (kmers c.k c.ends) j 0)) ≡ 1
+  alike : (word : List ℕ) (i j : ℕ) → once word (wordAt c.k c.letters (getD (kmers c.k c.ends) i 0)) ≡ 1
+      → once word (wordAt c.k c.letters (getD (kmers c.k c.ends) j 0)) ≡ 1
       → (wordOf (spellingOf c) (i + 1) ≡ wordOf (spellingOf c) (j + 1)) ⊎ (wordOf (spellingOf c) (i + 1) ≡ turn (wordOf (spellingOf c) (j + 1)))
   alike word i j p q = go (once-either word _ p) (once-either word _ q)
     where
@@ -128,7 +132,8 @@ module _ (c : Collection) (passes : Passes c) where
       v : List ℕ
       v = wordAt c.k c.letters (getD (kmers c.k c.ends) j 0)
 
-      go : (u ≡ word) ⊎ (turn u ≡ word) → (v ≡ word) ⊎ (turn v ≡ word) → (wordOf (spellingOf c) (i + 1) ≡ wordOf (spellingOf c) (j + 1)) ⊎ (wordOf (spellingOf c) (i + 1) ≡ turn (wordOf (spellingOf c) (j + 1)))
+      go : (u ≡ word) ⊎ (turn u ≡ word) → (v ≡ word) ⊎ (turn v ≡ word)
+          → (wordOf (spellingOf c) (i + 1) ≡ wordOf (spellingOf c) (j + 1)) ⊎ (wordOf (spellingOf c) (i + 1) ≡ turn (wordOf (spellingOf c) (j + 1)))
       go (inl a) (inl b) = inl (word-at i ∙ (a ∙ (sym b ∙ sym (word-at j))))
       go (inl a) (inr b) = inr (word-at i ∙ (a ∙ (sym b ∙ ap turn (sym (word-at j)))))
       go (inr a) (inl b) = inr (word-at i ∙ (sym (turn-turn u (spelt i)) ∙ (ap turn (a ∙ sym b) ∙ ap turn (sym (word-at j)))))
@@ -138,7 +143,8 @@ module _ (c : Collection) (passes : Passes c) where
   pub distinct-once : Distinct (spellingOf c) → (word : List ℕ) → timesAt (spellingOf c) word ≤ 1
   unfolding timesAt
   distinct-once d word =
-      one-at-most (counts word) (λ i l. omega (arith, count-at word i (omega (arith, size word)), once-few word (wordAt c.k c.letters (getD (kmers c.k c.ends) i 0))))
+      one-at-most (counts word)
+      (λ i l. omega (arith, count-at word i (omega (arith, size word)), once-few word (wordAt c.k c.letters (getD (kmers c.k c.ends) i 0))))
       (λ i j l m p q.
       let jn : j < n = omega (arith, size word) in
       let z = d i j (omega arith) jn (alike word i j (sym (count-at word i (omega arith)) ∙ p) (sym (count-at word j jn) ∙ q)) in
@@ -155,7 +161,8 @@ module _ (c : Collection) (passes : Passes c) where
       here : once word (wordAt c.k c.letters (getD (kmers c.k c.ends) j 0)) ≡ 1
       here = once-is word _ (inl (sym (word-at j)))
 
-      turned : (wordOf (spellingOf c) (i + 1) ≡ word) ⊎ (wordOf (spellingOf c) (i + 1) ≡ turn word) → (wordAt c.k c.letters (getD (kmers c.k c.ends) i 0) ≡ word) ⊎ (turn (wordAt c.k c.letters (getD (kmers c.k c.ends) i 0)) ≡ word)
+      turned : (wordOf (spellingOf c) (i + 1) ≡ word) ⊎ (wordOf (spellingOf c) (i + 1) ≡ turn word)
+          → (wordAt c.k c.letters (getD (kmers c.k c.ends) i 0) ≡ word) ⊎ (turn (wordAt c.k c.letters (getD (kmers c.k c.ends) i 0)) ≡ word)
       turned (inl q) = inl (sym (word-at i) ∙ q)
       turned (inr q) = inr (ap turn (sym (word-at i) ∙ q) ∙ turn-turn word (subst Letters (sym (word-at j)) (spelt j)))
 
@@ -163,8 +170,10 @@ module _ (c : Collection) (passes : Passes c) where
       there = once-is word _ (turned e)
 
       go : (i < j) ⊎ (j ≤ i) → (j < i) ⊎ (i ≤ j) → i ≡ j
-      go (inl a) b = absurd (omega (arith, two-at-most (counts word) i j a (omega (arith, size word)), few word, count-at word i l, count-at word j m, here, there))
-      go (inr a) (inl b) = absurd (omega (arith, two-at-most (counts word) j i b (omega (arith, size word)), few word, count-at word i l, count-at word j m, here, there))
+      go (inl a) b =
+          absurd (omega (arith, two-at-most (counts word) i j a (omega (arith, size word)), few word, count-at word i l, count-at word j m, here, there))
+      go (inr a) (inl b) =
+          absurd (omega (arith, two-at-most (counts word) j i b (omega (arith, size word)), few word, count-at word i l, count-at word j m, here, there))
       go (inr a) (inr b) = omega arith
 
 -- reordering keeps words apart

@@ -1,5 +1,5 @@
--- What QUICK and WEIGHT answer over a reordered collection is what the collection itself says of the word, for any collection that passes the checks and any places.
--- Assumes nothing.
+-- What QUICK and WEIGHT answer over a reordered collection is what the collection itself says of the word, for any collection that passes the checks and any
+-- places. Assumes nothing.
 use mathlib.Core.Path.{_≡_, refl, sym, ap, _∙_}
 use mathlib.Core.Logic.{_⊎_, inl, inr}
 use mathlib.Core.List.{List}
@@ -45,7 +45,8 @@ Said c w answer =
     ⊎ ((answer ≡ word.Absent) × ((weight : ℕ) → WeighsAt c w weight → ⊥))
 
 -- a word that stands at a handle on either side has the handle's weight
-stands-weighs : (c : Collection) (w : List ℕ) → Letters w → (side : Side) (handle : ℕ) → Stands (spellingOf c) (sided side w) handle → WeighsAt c w (weightOf c.weights handle)
+stands-weighs : (c : Collection) (w : List ℕ) → Letters w → (side : Side) (handle : ℕ) → Stands (spellingOf c) (sided side w) handle
+    → WeighsAt c w (weightOf c.weights handle)
 stands-weighs c w g Asked handle s = (handle, s .low, s .high, inl (s .word), refl)
 stands-weighs c w g Turned handle s = (handle, s .low, s .high, inr (ap turn (s .word) ∙ turn-turn w g), refl)
 
@@ -69,19 +70,33 @@ module _ (c : Collection) (p : ℕ) (places : List ℤ) (passes : Passes c) (per
       back : (weight : ℕ) → WeighsAt new (spell asked) weight → WeighsAt c (spell asked) weight
       back weight = weight-from c places passes perm (spell asked) weight
 
-      none : (compared : ℕ) → quickOf c.k p asked new.letters (indexWith (spellingOf new) p) ≡ Absent compared → (weight : ℕ) → WeighsAt c (spell asked) weight → ⊥
+      none : (compared : ℕ) → quickOf c.k p asked new.letters (indexWith (spellingOf new) p) ≡ Absent compared → (weight : ℕ) → WeighsAt c (spell asked) weight
+          → ⊥
       none compared e weight u =
           let t = weight-kept c places passes perm (spell asked) weight u in
           let n = a .absent asked good compared e in
           either n t
         where
-          either : (((h : ℕ) → Stands (spellingOf new) (spell asked) h → ⊥) × ((h : ℕ) → Stands (spellingOf new) (turn (spell asked)) h → ⊥)) → WeighsAt new (spell asked) weight → ⊥
+          either : (((h : ℕ) → Stands (spellingOf new) (spell asked) h → ⊥) × ((h : ℕ) → Stands (spellingOf new) (turn (spell asked)) h → ⊥))
+              → WeighsAt new (spell asked) weight → ⊥
           either n (h, l, m, inl q, x) = n .0 h (record { low = l; high = m; word = q })
-          either n (h, l, m, inr q, x) = n .1 h (record { low = l; high = m; word = sym (turn-turn (wordOf (spellingOf new) h) (word-letters (judged-ready (collection-good new passes')) (positionOf c.k new.ends h))) ∙ ap turn q })
+          either n (h, l, m, inr q, x) =
+              n .1 h (record {
+                low =
+                    l;
+                high = m;
+                word = sym (turn-turn (wordOf (spellingOf new) h) (word-letters (judged-ready (collection-good new passes')) (positionOf c.k new.ends h)))
+                    ∙ ap turn q;
+              })
 
       go : (x : QuickAnswer) → quickOf c.k p asked new.letters (indexWith (spellingOf new) p) ≡ x → Said c (spell asked) (weighed new p asked)
       go (Found handle side compared) e =
           let s = a .found asked good handle side compared e in
-          inl (weightOf new.weights handle, found-weighs new passes' _ handle side compared (s .low) (omega (arith, s .high, many new p passes' sizes)) e, back (weightOf new.weights handle) (stands-weighs new (spell asked) (word-spelt c.k asked good) side handle s))
-      go (Absent compared) e = inr (ap (λ (x : QuickAnswer). weighedOf x (runWeights new.weights) (runFirsts new.weights) (length new.weights)) e, none compared e)
+          inl (
+            weightOf new.weights handle,
+            found-weighs new passes' _ handle side compared (s .low) (omega (arith, s .high, many new p passes' sizes)) e,
+            back (weightOf new.weights handle) (stands-weighs new (spell asked) (word-spelt c.k asked good) side handle s),
+          )
+      go (Absent compared) e =
+          inr (ap (λ (x : QuickAnswer). weighedOf x (runWeights new.weights) (runFirsts new.weights) (length new.weights)) e, none compared e)
       go (Refused number place) e = absurd (a .taken asked good number place e)

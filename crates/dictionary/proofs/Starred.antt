@@ -8,7 +8,17 @@ use Rattle.lists.specs.Pick.{pick, upTo}
 use Rattle.alphabet.specs.Letter.{letter, isLetter, capital}
 use Rattle.words.specs.Word.{codeFrom, turn}
 use Rattle.collection.specs.Collection.{collection}
-use Rattle.collection.specs.Judge.{kVerdict, sizeVerdict, endsVerdict, shapeVerdict, lettersVerdict, weightsVerdict, collectionVerdict, wordVerdict, handleVerdict}
+use Rattle.collection.specs.Judge.{
+  kVerdict,
+  sizeVerdict,
+  endsVerdict,
+  shapeVerdict,
+  lettersVerdict,
+  weightsVerdict,
+  collectionVerdict,
+  wordVerdict,
+  handleVerdict,
+}
 use Rattle.collection_faults.specs.Faults.{firstShort, lastEnd}
 use Rattle.collection.specs.Strings.{stringsFrom, lettersIn, endsIn, weightsIn}
 use Rattle.collection.specs.Verdict.{andThen, atPlace, settle}
@@ -17,7 +27,6 @@ use Rattle.text.specs.Parts.{upTo as partUpTo, later}
 use Rattle.sheet.specs.Sheet.{sheetK, sheetStrings, stringsOf}
 use Rattle.cover_trails.specs.Groups.{least}
 use Rattle.cover_trails.specs.Places.{standing, arrangedTo}
-use Rattle.cover_vertices.specs.EndWeights.{endWeights}
 use Rattle.apply_places.specs.Places.{badPlace, firstBad, placesVerdict}
 use Rattle.apply_strings.specs.Turned.{turnLetters}
 use Rattle.runs.specs.Runs.{laterRuns, runs, innerRuns, runWeights, runFirsts}
@@ -28,6 +37,7 @@ use Rattle.index_stretches.specs.Stretches.{numbered, walk, openFrom, ofString,
 use Rattle.apply_strings.specs.Reordered.{reordered}
 use Rattle.collection.specs.declared.Side.the-variants.{Turned}
 use Rattle.collection.specs.declared.Verdict.the-variants.{Good, Bad}
+use Rattle.collection.specs.EndWeights.{endWeights}
 use Rattle.quick.specs.declared.QuickAnswer.{QuickAnswer}
 use Rattle.quick.specs.declared.QuickAnswer.the-variants.{Found, Absent}
 use Rattle.quick.specs.declared.WordAnswer.the-variants.{Weighs}
@@ -43,7 +53,8 @@ read : (sheetK sheet ≡ 3) × (lettersIn (sheetStrings sheet) ≡ letters) × (
 unfolding partUpTo later stringsOf valueFrom lettersIn endsIn weightsIn
 read = (refl, refl, refl, refl)
 
-turned : (lettersIn (reordered (collection 3 letters ends weights) places) ≡ letters') × (endsIn 0 (reordered (collection 3 letters ends weights) places) ≡ ends') × (weightsIn (reordered (collection 3 letters ends weights) places) ≡ weights')
+turned : (lettersIn (reordered (collection 3 letters ends weights) places) ≡ letters')
+    × (endsIn 0 (reordered (collection 3 letters ends weights) places) ≡ ends') × (weightsIn (reordered (collection 3 letters ends weights) places) ≡ weights')
 unfolding lettersIn endsIn weightsIn stringsFrom standing arrangedTo turnLetters turn capital letter
 turned = (refl, refl, refl)
 
@@ -51,7 +62,9 @@ turned = (refl, refl, refl)
 
 -- CAG, TTT and CCC
 answered : (asked (bytes "CAG") ≡ Found 8 Turned 3) × (asked (bytes "TTT") ≡ Found 1 Turned 1) × (asked (bytes "CCC") ≡ Absent 0)
-unfolding quickOf quickVerdict askVerdict sizesVerdict kVerdict sizeVerdict wordVerdict rowsVerdict tablesFit rowFits stretchFits rowOf entries built upTo pick countFrom stretchesFrom ofString openFrom minimizer smallest codeFrom letter isLetter every same turn quickFound metOr seek isWord walk numbered andThen settle
+unfolding quickOf quickVerdict askVerdict sizesVerdict kVerdict sizeVerdict wordVerdict rowsVerdict tablesFit rowFits stretchFits rowOf entries built upTo pick
+    countFrom stretchesFrom ofString openFrom minimizer smallest codeFrom letter isLetter every same turn quickFound metOr seek isWord walk numbered andThen
+    settle
 answered = (refl, refl, refl)
 
 cag-weighs : weighed (bytes "CAG") ≡ Weighs 7
@@ -61,14 +74,17 @@ cag-weighs = ap (λ (a : QuickAnswer). weighedOf a (runWeights weights') (runFir
 -- ─── verdicts ────────────────────────────────────────────────────────────────
 
 -- a weight of 16,777,215, and one more
-heaviest : (collectionVerdict (collection 3 (bytes "ACG") (3 ∷ []) (16777215 ∷ [])) ≡ Good) × (collectionVerdict (collection 3 (bytes "ACG") (3 ∷ []) (16777216 ∷ [])) ≡ Bad 6 1)
-unfolding collectionVerdict shapeVerdict kVerdict sizeVerdict endsVerdict firstShort lastEnd lettersVerdict weightsVerdict firstFrom isLetter letter andThen atPlace
+heaviest : (collectionVerdict (collection 3 (bytes "ACG") (3 ∷ []) (16777215 ∷ [])) ≡ Good)
+    × (collectionVerdict (collection 3 (bytes "ACG") (3 ∷ []) (16777216 ∷ [])) ≡ Bad 6 1)
+unfolding collectionVerdict shapeVerdict kVerdict sizeVerdict endsVerdict firstShort lastEnd lettersVerdict weightsVerdict firstFrom isLetter letter andThen
+    atPlace
 heaviest = (refl, refl)
 
 -- ─── the list ────────────────────────────────────────────────────────────────
 
 pub starred : Starred
-unfolding least agree endWeights stringsFrom innerRuns runs laterRuns sum openFrom ofString minimizer smallest codeFrom letter kVerdict placesVerdict firstBad badPlace atPlace
+unfolding least agree endWeights stringsFrom innerRuns runs laterRuns sum openFrom ofString minimizer smallest codeFrom letter kVerdict placesVerdict firstBad
+    badPlace atPlace
 starred =
     record {
       sheet-read = read;

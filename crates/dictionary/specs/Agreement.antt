@@ -1,4 +1,5 @@
 -- The answer of QUICK as PLAIN would give it.
+-- Specification: 9.10, 12.2.
 use mathlib.Core.List.{List}
 use Prim.Native.Nat.{ℕ}
 use Rattle.words.specs.Word.{turn}

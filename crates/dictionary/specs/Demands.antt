@@ -1,4 +1,5 @@
 -- The three demands, each as a type; proofs/Demands inhabits them.
+-- Specification: 9.2, 12.1, 12.2, 12.3.
 use mathlib.Core.Path.{_≡_}
 use mathlib.Core.List.{List, []}
 use Prim.Native.Nat.{ℕ, suc, _+_, _-_, _/_, _<_, _≤_}
@@ -9,13 +10,14 @@ use Rattle.collection.specs.Collection.{Collection, collection}
 use Rattle.collection.specs.declared.Verdict.the-variants.{Good}
 use Rattle.collection.specs.Judge.{Passes}
 use Rattle.collection.specs.Strings.{strings, joined}
+use Rattle.collection.specs.Tables.{Tables, collectionIn}
+use Rattle.collection.specs.EndWeights.{endWeights}
 use Rattle.sheet.specs.declared.ReadAnswer.the-variants as read
 use Rattle.sheet.specs.declared.WriteAnswer.the-variants as write
 use Rattle.sheet.specs.Read.{readOf}
 use Rattle.sheet.specs.Write.{writeOutcome, writeOf}
 use Rattle.cover_trails.specs.Groups.{evenGroups, oddWeights}
 use Rattle.cover_trails.specs.Places.{SignedPermutation, turnedBy}
-use Rattle.cover_vertices.specs.EndWeights.{endWeights}
 use Rattle.cover.specs.declared.CoverAnswer.the-variants as cover
 use Rattle.cover.specs.Cover.{Promise}
 use Rattle.apply_strings.specs.Reordered.{reordered}
@@ -36,7 +38,8 @@ module _ (c : Collection) (places : List ℤ) where
   abbrev pub applied : Collection
   applied = joined c.k (reordered c places)
 
-  -- What reordering keeps: each string stands once, at its place, turned where the place is negative, its weights turned with it; and every word has the weights that it had.
+  -- What reordering keeps: each string stands once, at its place, turned where the place is negative, its weights turned with it; and every word has the
+  -- weights that it had.
   pub record Reordered : Type 0 where
     pub stands : (i : ℕ) → i < length c.ends
         → getD (strings applied) (natAbs (getD places i (pos 0)) - 1) none ≡ turnedBy turnStr (getD places i (pos 0)) (getD (strings c) i none)
@@ -46,17 +49,16 @@ module _ (c : Collection) (places : List ℤ) where
     pub none-new : (word : List ℕ) (weight : ℕ) → WeighsAt applied word weight → WeighsAt c word weight
     pub sound-kept : Sound c → Sound applied
 
--- 2: a word is found exactly if it or its reverse complement stands there, with its own handle and weight; each handle gives back its word. Reordering keeps each string
--- once. An accepted sheet, read and written, is the same bytes.
+-- 2: a word is found exactly if it or its reverse complement stands there, with its own handle and weight; each handle gives back its word. Reordering keeps
+-- each string once. An accepted sheet, read and written, is the same bytes.
 pub record DemandTwo : Type 0 where
   pub found : (c : Collection) (p : ℕ) → Sound c → sizesVerdict c.k p ≡ Good → Answers c p
   pub reordering : (c : Collection) (places : List ℤ) → Passes c → SignedPermutation (length c.ends) places → Reordered c places
-  pub same-bytes : (sheet letters ends weights : List ℕ) (k N m n : ℕ) → readOf sheet letters ends weights .answer ≡ read.Filled k N m n → (out : List ℕ) → length sheet ≤ length out
-      → writeOf (collection k (take N (readOf sheet letters ends weights .letters)) (take m (readOf sheet letters ends weights .ends)) (take n (readOf sheet letters ends weights .weights))) out
-      ≡ writeOutcome (write.Written (length sheet)) (fill sheet out)
+  pub same-bytes : (sheet : List ℕ) (t : Tables) (k N m n : ℕ) → readOf sheet t .answer ≡ read.Filled k N m n → (out : List ℕ) → length sheet ≤ length out
+      → writeOf (collectionIn k N m n (readOf sheet t .after)) out ≡ writeOutcome (write.Written (length sheet)) (fill sheet out)
 
--- 3: for each collection that passes 2 to 6, the runs in the weights reordered by COVER's places are the fewest of any order and turning, R - m + E + O/2, and the number of
--- paths that COVER answers is E + O/2; with no strings all are 0.
+-- 3: for each collection that passes 2 to 6, the runs in the weights reordered by COVER's places are the fewest of any order and turning, R - m + E + O/2, and
+-- the number of paths that COVER answers is E + O/2; with no strings all are 0.
 pub record DemandThree : Type 0 where
   pub fewest : (c : Collection) → Passes c → FewestRuns c (leastRuns c)
   pub covered : (c : Collection) (places : List ℤ) (work : List ℕ) (m paths : ℕ) (places' : List ℤ) (work' : List ℕ)

@@ -1,5 +1,6 @@
--- Demand 1: whatever comes in, a public call has one outcome: its answer, and the content of every lent table afterwards. That each call ends, and that it has an
--- outcome at all, is what the check of its function says: none of them asks anything of its caller.
+-- Demand 1: whatever comes in, a public call has one outcome: its answer, and the content of every lent table afterwards. That each call ends, and that it has
+-- an outcome at all, is what the check of its function says: none of them asks anything of its caller.
+-- Specification: 8.5, 12.1.
 use mathlib.Core.Path.{_≡_}
 use mathlib.Core.Logic.{_⊎_}
 use mathlib.Core.List.{List, map}
@@ -10,6 +11,7 @@ use Rattle.lists.specs.Fill.{fill}
 use Rattle.collection.specs.Collection.{Spelling, Collection, spellingOf}
 use Rattle.collection.specs.declared.Told.{Told}
 use Rattle.collection.specs.Judge.{kmersIn}
+use Rattle.collection.specs.Tables.{Tables}
 use Rattle.collection.specs.Verdict.{told}
 use Rattle.sheet.specs.declared.ReadAnswer.the-variants as read
 use Rattle.sheet.specs.declared.WriteAnswer.the-variants as write
@@ -54,7 +56,7 @@ One Out promise = (a b : Out) → promise a → promise b → a ≡ b
 
 -- COVER stands apart: its answer and its work table are determined, and its places where it refuses; else they are any with the fewest runs.
 pub record OneOutcome : Type 0 where
-  pub read : (sheet letters ends weights : List ℕ) → One ReadOutcome (λ o. o ≡ readOf sheet letters ends weights)
+  pub read : (sheet : List ℕ) (t : Tables) → One ReadOutcome (λ o. o ≡ readOf sheet t)
   pub write : (c : Collection) (sheet : List ℕ) → One WriteOutcome (λ o. o ≡ writeOf c sheet)
   pub check : (c : Collection) (work : List ℕ) → One checking.Outcome (λ o. o ≡ checkOf c work)
   pub apply : (c : Collection) (places : List ℤ) (t : applying.Lent)
@@ -64,7 +66,7 @@ pub record OneOutcome : Type 0 where
   pub access : (t : Spelling) (handle : ℕ) → One (List ℕ) (λ part. part ≡ accessPart t handle)
   pub access-start : (t : Spelling) (handle : ℕ) → One ℕ (λ at. at ≡ accessStart t handle)
   pub access-at : (t : Spelling) (handle : ℕ) → One AccessAnswer (λ r. r ≡ accessAt t handle)
-  pub access-told : (t : Spelling) (handle : ℕ) → One Told (λ t₁. t₁ ≡ told (accessVerdict t handle))
+  pub access-told : (t : Spelling) (handle : ℕ) → One Told (λ r. r ≡ told (accessVerdict t handle))
   pub plain : (c : Collection) (word : List ℕ) → One PlainAnswer (λ r. r ≡ plainOf c word)
   pub quick : (k p : ℕ) (word letters : List ℕ) (t : Index) → One QuickAnswer (λ r. r ≡ quickOf k p word letters t)
   pub weigh : (answer : QuickAnswer) (runWeights runFirsts : List ℕ) (n : ℕ) → One WordAnswer (λ r. r ≡ weighedOf answer runWeights runFirsts n)
@@ -77,8 +79,8 @@ pub record OneOutcome : Type 0 where
 -- ─── a refusal leaves the outputs ────────────────────────────────────────────
 
 pub record Kept : Type 0 where
-  pub read : (sheet letters ends weights : List ℕ) (number place : ℕ) → readOf sheet letters ends weights .answer ≡ read.Refused number place
-      → readOf sheet letters ends weights ≡ readOutcome (read.Refused number place) letters ends weights
+  pub read : (sheet : List ℕ) (t : Tables) (number place : ℕ) → readOf sheet t .answer ≡ read.Refused number place
+      → readOf sheet t ≡ readOutcome (read.Refused number place) t
   pub write : (c : Collection) (sheet : List ℕ) (number place : ℕ) → writeOf c sheet .answer ≡ write.Refused number place
       → writeOf c sheet ≡ writeOutcome (write.Refused number place) sheet
   pub runs : (c : Collection) (runWeights runFirsts : List ℕ) (number place : ℕ) → runsOf c runWeights runFirsts .answer ≡ runs.Refused number place
@@ -93,7 +95,7 @@ pub record Kept : Type 0 where
   pub apply : (c : Collection) (places : List ℤ) (t : applying.Lent) (number place : ℕ)
       → applyOf c places t .answer ≡ apply.Refused number place
       → (applyOf c places t ≡ applying.outcome (apply.Refused number place) t)
-      ⊎ (applyOf c places t ≡ applying.outcome (apply.Refused number place) (applying.lent t.letters t.ends t.weights (applying.zeroed (length c.ends) t.work)))
+      ⊎ (applyOf c places t ≡ applying.outcome (apply.Refused number place) (applying.lent t.new (applying.zeroed (length c.ends) t.work)))
   pub index : (c : Collection) (p : ℕ) (t : Lent) (number place : ℕ) → indexOf c p t .answer ≡ index.Refused number place
       → (indexOf c p t .after ≡ t)
       ⊎ ((number ≡ 7) × (indexOf c p t .after ≡ indexing.untouched (kmersIn (spellingOf c)) t))

@@ -1,4 +1,5 @@
 -- Demand 2, over a collection that passes the checks, with the index and the run list made of it.
+-- Specification: 12.2.
 use mathlib.Core.Path.{_≡_}
 use mathlib.Core.List.{List}
 use Prim.Native.Nat.{ℕ, _≤_}
@@ -41,9 +42,11 @@ module _ (c : Collection) (p : ℕ) where
     pub stands : (word : List ℕ) → wordVerdict c.k word ≡ Good → (side : Side) (handle : ℕ) → Stands (spellingOf c) (sided side (spell word)) handle
         → (found : Side) × (compared : ℕ) × (asked word ≡ Found handle found compared) × (weighed word ≡ Weighs (weightOf c.weights handle))
     -- and what is found stands there, on the side that is told
-    pub found : (word : List ℕ) → wordVerdict c.k word ≡ Good → (handle : ℕ) (side : Side) (compared : ℕ) → asked word ≡ Found handle side compared → Stands (spellingOf c) (sided side (spell word)) handle
+    pub found : (word : List ℕ) → wordVerdict c.k word ≡ Good → (handle : ℕ) (side : Side) (compared : ℕ) → asked word ≡ Found handle side compared
+        → Stands (spellingOf c) (sided side (spell word)) handle
     -- what is absent stands nowhere, as asked or turned
-    pub absent : (word : List ℕ) → wordVerdict c.k word ≡ Good → (compared : ℕ) → asked word ≡ Absent compared → Nowhere (spellingOf c) (spell word) × Nowhere (spellingOf c) (turn (spell word))
+    pub absent : (word : List ℕ) → wordVerdict c.k word ≡ Good → (compared : ℕ) → asked word ≡ Absent compared
+        → Nowhere (spellingOf c) (spell word) × Nowhere (spellingOf c) (turn (spell word))
     -- no word of k letters is refused
     pub taken : (word : List ℕ) → wordVerdict c.k word ≡ Good → (number place : ℕ) → asked word ≡ Refused number place → ⊥
     -- each handle gives back its word, and that word its handle

@@ -1,4 +1,5 @@
 -- From a sheet to the weight of a word: READ, CHECK, COVER, APPLY, RUNS, INDEX, and then QUICK and WEIGHT, each over the tables that the one before filled.
+-- Specification: 12.4.
 use mathlib.Core.Path.{_≡_}
 use mathlib.Core.List.{List}
 use Prim.Native.Nat.{ℕ}
@@ -8,6 +9,7 @@ use Rattle.words.specs.Word.{spell}
 use Rattle.collection.specs.Collection.{Collection, collection}
 use Rattle.collection.specs.declared.Verdict.the-variants.{Good}
 use Rattle.collection.specs.Judge.{wordVerdict}
+use Rattle.collection.specs.Tables.{Tables, collectionIn}
 use Rattle.sheet.specs.declared.ReadAnswer.the-variants as read
 use Rattle.sheet.specs.Read.{readOf}
 use Rattle.sheet.specs.Sheet.{sheetK, sheetStrings}
@@ -17,7 +19,7 @@ use Rattle.cover.specs.declared.CoverAnswer.the-variants as cover
 use Rattle.cover.specs.Cover.{Promise}
 use Rattle.apply.specs.declared.ApplyAnswer.the-variants as apply
 use Rattle.apply.specs.Apply as applying
-use Rattle.apply.specs.Apply.{collectionIn, applyOf}
+use Rattle.apply.specs.Apply.{applyOf}
 use Rattle.apply_strings.specs.Weighs.{Weighs}
 use Rattle.runs.specs.declared.RunsAnswer.the-variants as listing
 use Rattle.runs.specs.Calls.{runsOf}
@@ -35,23 +37,17 @@ use Rattle.quick.specs.Weighed.{weighedOf}
 -- ─── READ ────────────────────────────────────────────────────────────────────
 
 pub record Reading (sheet : List ℕ) : Type 0 where
-  pub letters₀ : List ℕ
-  pub ends₀ : List ℕ
-  pub weights₀ : List ℕ
+  pub lent : Tables
   pub k : ℕ
   pub N : ℕ
   pub m : ℕ
   pub n : ℕ
-  pub filled : readOf sheet letters₀ ends₀ weights₀ .answer ≡ read.Filled k N m n
+  pub filled : readOf sheet lent .answer ≡ read.Filled k N m n
 
 module _ {sheet : List ℕ} (r : Reading sheet) where
   -- the collection that READ filled in
   abbrev pub collectionRead : Collection
-  collectionRead =
-      collection (r .k)
-      (take (r .N) (readOf sheet (r .letters₀) (r .ends₀) (r .weights₀) .letters))
-      (take (r .m) (readOf sheet (r .letters₀) (r .ends₀) (r .weights₀) .ends))
-      (take (r .n) (readOf sheet (r .letters₀) (r .ends₀) (r .weights₀) .weights))
+  collectionRead = collectionIn (r .k) (r .N) (r .m) (r .n) (readOf sheet (r .lent) .after)
 
 -- ─── CHECK, COVER and APPLY ──────────────────────────────────────────────────
 
@@ -73,7 +69,7 @@ pub record Reordering {sheet : List ℕ} (r : Reading sheet) : Type 0 where
 module _ {sheet : List ℕ} {r : Reading sheet} (o : Reordering r) where
   -- the collection that APPLY filled in
   abbrev pub collectionApplied : Collection
-  collectionApplied = collectionIn (r .k) (r .N) (r .m) (r .n) (applyOf (collectionRead r) (take (r .m) (o .places)) (o .tables₁) .after)
+  collectionApplied = collectionIn (r .k) (r .N) (r .m) (r .n) (applyOf (collectionRead r) (take (r .m) (o .places)) (o .tables₁) .after .new)
 
 -- ─── RUNS and INDEX ──────────────────────────────────────────────────────────
 
@@ -108,8 +104,9 @@ pub data Says (sheet asked : List ℕ) : WordAnswer → Type 0 where
   weighs : (weight : ℕ) → Weighs (sheetK sheet) (sheetStrings sheet) asked weight → Says sheet asked (word.Weighs weight)
   absent : ((weight : ℕ) → Weighs (sheetK sheet) (sheetStrings sheet) asked weight → ⊥) → Says sheet asked word.Absent
 
--- The whole way: for every sheet and every word of k letters, what the calls in a row answer is what the sheet says. And the run list that WEIGHT reads is as short as any
--- order and turning of the sheet's strings can make it.
+-- The whole way: for every sheet and every word of k letters, what the calls in a row answer is what the sheet says. And the run list that WEIGHT reads is as
+-- short as any order and turning of the sheet's strings can make it.
 pub record EndToEnd : Type 0 where
-  pub says : (sheet : List ℕ) (p : ℕ) (r : Reading sheet) (o : Reordering r) (x : Indexing o p) (asked : List ℕ) → wordVerdict (r .k) asked ≡ Good → Says sheet (spell asked) (weighed x asked)
+  pub says : (sheet : List ℕ) (p : ℕ) (r : Reading sheet) (o : Reordering r) (x : Indexing o p) (asked : List ℕ) → wordVerdict (r .k) asked ≡ Good
+      → Says sheet (spell asked) (weighed x asked)
   pub shortest : (sheet : List ℕ) (p : ℕ) (r : Reading sheet) (o : Reordering r) (x : Indexing o p) → FewestRuns (collectionRead r) (x .runs)

@@ -1,4 +1,5 @@
--- The starred examples of document 01, as one list.
+-- The worked examples that are proved, as one list.
+-- Specification: 13.1.
 use mathlib.Core.Path.{_≡_}
 use mathlib.Core.List.{List, [], _∷_}
 use Prim.Native.Char.{code as charCode}
@@ -12,9 +13,9 @@ use Rattle.collection.specs.declared.Side.the-variants.{Turned}
 use Rattle.collection.specs.declared.Verdict.the-variants.{Good, Bad}
 use Rattle.collection.specs.Judge.{kVerdict, collectionVerdict}
 use Rattle.collection.specs.Strings.{lettersIn, endsIn, weightsIn}
+use Rattle.collection.specs.EndWeights.{endWeights}
 use Rattle.sheet.specs.Sheet.{sheetK, sheetStrings}
 use Rattle.cover_trails.specs.Groups.{least}
-use Rattle.cover_vertices.specs.EndWeights.{endWeights}
 use Rattle.apply_strings.specs.Reordered.{reordered}
 use Rattle.apply_places.specs.Places.{placesVerdict}
 use Rattle.runs.specs.Runs.{runs, runWeights, runFirsts}
@@ -74,11 +75,14 @@ weighed word = weighedOf (asked word) (runWeights weights') (runFirsts weights')
 
 pub record Starred : Type 0 where
   -- the sheet has these tables
-  pub sheet-read : (sheetK sheet ≡ 3) × (lettersIn (sheetStrings sheet) ≡ letters) × (endsIn 0 (sheetStrings sheet) ≡ ends) × (weightsIn (sheetStrings sheet) ≡ weights)
+  pub sheet-read : (sheetK sheet ≡ 3) × (lettersIn (sheetStrings sheet) ≡ letters) × (endsIn 0 (sheetStrings sheet) ≡ ends)
+      × (weightsIn (sheetStrings sheet) ≡ weights)
   -- it has least 5
   pub least-five : leastRuns (collection 3 letters ends weights) ≡ 5
   -- places +1 +4 -3 -2 give AAACC TGTA GGCTG AGAT, weights 2 2 5 5 3 3 7 7 7 2
-  pub applied : (lettersIn (reordered (collection 3 letters ends weights) places) ≡ letters') × (endsIn 0 (reordered (collection 3 letters ends weights) places) ≡ ends') × (weightsIn (reordered (collection 3 letters ends weights) places) ≡ weights')
+  pub applied : (lettersIn (reordered (collection 3 letters ends weights) places) ≡ letters')
+      × (endsIn 0 (reordered (collection 3 letters ends weights) places) ≡ ends')
+      × (weightsIn (reordered (collection 3 letters ends weights) places) ≡ weights')
   -- runs (2,1) (5,3) (3,5) (7,7) (2,10)
   pub runs-listed : runs weights' ≡ (2, 1) ∷ ((5, 3) ∷ ((3, 5) ∷ ((7, 7) ∷ ((2, 10) ∷ []))))
   -- CAG is handle 8, side -, weight 7, 3 compared
@@ -88,9 +92,11 @@ pub record Starred : Type 0 where
   -- CCC is absent
   pub ccc : (compared : ℕ) × (asked (bytes "CCC") ≡ Absent compared)
   -- GGCTG, three k-mers from handle 6 and position 9 on, has stretches GC with handle 6 and CT with 7, 8
-  pub ggctg : (ofString (minimizerAt 3 2 letters') 6 9 3 ≡ stretch 6 9 1 ∷ (stretch 7 10 2 ∷ [])) × (minimizerAt 3 2 letters' 9 ≡ code (wordAt 2 letters' 10)) × (minimizerAt 3 2 letters' 10 ≡ code (wordAt 2 letters' 11))
+  pub ggctg : (ofString (minimizerAt 3 2 letters') 6 9 3 ≡ stretch 6 9 1 ∷ (stretch 7 10 2 ∷ [])) × (minimizerAt 3 2 letters' 9 ≡ code (wordAt 2 letters' 10))
+      × (minimizerAt 3 2 letters' 10 ≡ code (wordAt 2 letters' 11))
   -- without AGAT: least 4, one path
-  pub without : (leastRuns (collection 3 (bytes "AAACCCAGCCTACA") (5 ∷ (10 ∷ (14 ∷ []))) (2 ∷ (2 ∷ (5 ∷ (7 ∷ (7 ∷ (3 ∷ (3 ∷ (5 ∷ []))))))))) ≡ 4) × (least (endWeights (collection 3 (bytes "AAACCCAGCCTACA") (5 ∷ (10 ∷ (14 ∷ []))) (2 ∷ (2 ∷ (5 ∷ (7 ∷ (7 ∷ (3 ∷ (3 ∷ (5 ∷ [])))))))))) ≡ 1)
+  pub without : (leastRuns (collection 3 (bytes "AAACCCAGCCTACA") (5 ∷ (10 ∷ (14 ∷ []))) (2 ∷ (2 ∷ (5 ∷ (7 ∷ (7 ∷ (3 ∷ (3 ∷ (5 ∷ []))))))))) ≡ 4)
+      × (least (endWeights (collection 3 (bytes "AAACCCAGCCTACA") (5 ∷ (10 ∷ (14 ∷ []))) (2 ∷ (2 ∷ (5 ∷ (7 ∷ (7 ∷ (3 ∷ (3 ∷ (5 ∷ [])))))))))) ≡ 1)
   -- end weights (1,2) (2,3) (2,2): one path; (4,4) (9,9): two
   pub one-path : least ((1, 2) ∷ ((2, 3) ∷ ((2, 2) ∷ []))) ≡ 1
   pub two-paths : least ((4, 4) ∷ ((9, 9) ∷ [])) ≡ 2

@@ -1,4 +1,5 @@
 -- What a host sees of each call that fills tables: its answer told, and the tables as the call's own definition leaves them.
+-- Specification: 11.
 use mathlib.Core.List.{List}
 use mathlib.Core.Path.{_≡_}
 use Prim.Native.Nat.{ℕ, _≤_}
@@ -15,10 +16,11 @@ use Rattle.sheet.specs.Write.{WriteOutcome}
 use Rattle.exports_replies.specs.Exported.{Exported, exported, exportedOf}
 use Rattle.exports_replies.specs.Replies.{readReply, writeReply, checkReply, coverReply, applyReply, runsReply, indexReply}
 use Rattle.collection.specs.Collection.{Collection}
+use Rattle.collection.specs.Tables.{Tables}
 
 -- letters, ends and weights
-abbrev pub readExported : List ℕ → List ℕ × List ℕ × List ℕ → ReadOutcome → Exported (List ℕ × List ℕ × List ℕ)
-readExported answer before o = exportedOf answer before (readReply (o .answer)) (o .letters, o .ends, o .weights)
+abbrev pub readExported : List ℕ → Tables → ReadOutcome → Exported Tables
+readExported answer before o = exportedOf answer before (readReply (o .answer)) (o .after)
 
 -- the sheet
 abbrev pub writeExported : List ℕ → List ℕ → WriteOutcome → Exported (List ℕ)

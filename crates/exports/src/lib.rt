@@ -4,7 +4,7 @@ ghost use mathlib.Core.Path.{_≡_};
 ghost use Rattle.index.specs.Indexing.{lent, indexOf};
 ghost use Rattle.access.specs.Access.{accessAt};
 ghost use Rattle.plain.specs.Plain.{plainOf};
-ghost use Rattle.apply.specs.Apply.{applyOf, lent as newTables};
+ghost use Rattle.apply.specs.Apply.{applyOf, lent as newLent};
 ghost use Rattle.quick.specs.Quick.{quickOf};
 ghost use Rattle.quick.specs.Weighed.{weighedOf};
 ghost use Rattle.repeats.specs.Check.{checkOf};
@@ -17,6 +17,7 @@ ghost use Rattle.exports_replies.specs.Exported.{exported, exportedOf, none};
 ghost use Rattle.exports_replies.specs.Replies.{weightReply, accessReply, plainReply, quickReply, weighReply};
 ghost use Rattle.exports.specs.Calls.{readExported, writeExported, checkExported, CoverExported, applyExported, runsExported, indexExported};
 ghost use Rattle.collection.specs.Collection.{spelling, collection};
+ghost use Rattle.collection.specs.Tables.{tables as collectionTables};
 
 // How many entries the answer table needs, for every call.
 const ANSWER: usize = 4;
@@ -30,7 +31,10 @@ pub extern "C" fn corrivume_read(
     weights: &mut [u32],
     answer: &mut [u64],
 ) -> u32
-    ensures { λ r. ⌜ exported r (now (answer .exit)) (now (letters .exit), now (ends .exit), now (weights .exit)) ≡ readExported (now (answer .entry)) (now (letters .entry), now (ends .entry), now (weights .entry)) (readOf (now (sheet .entry)) (now (letters .entry)) (now (ends .entry)) (now (weights .entry))) ⌝ }
+    ensures { λ r.
+        ⌜ exported r (now (answer .exit)) (collectionTables (now (letters .exit)) (now (ends .exit)) (now (weights .exit)))
+        ≡ readExported (now (answer .entry)) (collectionTables (now (letters .entry)) (now (ends .entry)) (now (weights .entry)))
+        (readOf (now (sheet .entry)) (collectionTables (now (letters .entry)) (now (ends .entry)) (now (weights .entry)))) ⌝ }
 {
     if answer.len() < ANSWER {
         return 1;
@@ -50,7 +54,10 @@ pub extern "C" fn corrivume_write(
     sheet: &mut [u8],
     answer: &mut [u64],
 ) -> u32
-    ensures { λ r. ⌜ exported r (now (answer .exit)) (now (sheet .exit)) ≡ writeExported (now (answer .entry)) (now (sheet .entry)) (writeOf (collection k (now (letters .entry)) (now (ends .entry)) (now (weights .entry))) (now (sheet .entry))) ⌝ }
+    ensures { λ r.
+        ⌜ exported r (now (answer .exit)) (now (sheet .exit))
+        ≡ writeExported (now (answer .entry)) (now (sheet .entry))
+        (writeOf (collection k (now (letters .entry)) (now (ends .entry)) (now (weights .entry))) (now (sheet .entry))) ⌝ }
 {
     if answer.len() < ANSWER {
         return 1;
@@ -70,7 +77,10 @@ pub extern "C" fn corrivume_check(
     work: &mut [u32],
     answer: &mut [u64],
 ) -> u32
-    ensures { λ r. ⌜ exported r (now (answer .exit)) (now (work .exit)) ≡ checkExported (now (answer .entry)) (now (work .entry)) (checkOf (collection k (now (letters .entry)) (now (ends .entry)) (now (weights .entry))) (now (work .entry))) ⌝ }
+    ensures { λ r.
+        ⌜ exported r (now (answer .exit)) (now (work .exit))
+        ≡ checkExported (now (answer .entry)) (now (work .entry))
+        (checkOf (collection k (now (letters .entry)) (now (ends .entry)) (now (weights .entry))) (now (work .entry))) ⌝ }
 {
     if answer.len() < ANSWER {
         return 1;
@@ -91,7 +101,9 @@ pub extern "C" fn corrivume_cover(
     work: &mut [u32],
     answer: &mut [u64],
 ) -> u32
-    ensures { λ r. ⌜ CoverExported (collection k (now (letters .entry)) (now (ends .entry)) (now (weights .entry))) (now (places .entry)) (now (work .entry)) (now (answer .entry)) r (now (places .exit)) (now (work .exit)) (now (answer .exit)) ⌝ }
+    ensures { λ r.
+        ⌜ CoverExported (collection k (now (letters .entry)) (now (ends .entry)) (now (weights .entry))) (now (places .entry)) (now (work .entry))
+        (now (answer .entry)) r (now (places .exit)) (now (work .exit)) (now (answer .exit)) ⌝ }
 {
     if answer.len() < ANSWER {
         return 1;
@@ -115,7 +127,13 @@ pub extern "C" fn corrivume_apply(
     work: &mut [u32],
     answer: &mut [u64],
 ) -> u32
-    ensures { λ r. ⌜ exported r (now (answer .exit)) (newTables (now («new_letters» .exit)) (now («new_ends» .exit)) (now («new_weights» .exit)) (now (work .exit))) ≡ applyExported (now (answer .entry)) (newTables (now («new_letters» .entry)) (now («new_ends» .entry)) (now («new_weights» .entry)) (now (work .entry))) (applyOf (collection k (now (letters .entry)) (now (ends .entry)) (now (weights .entry))) (now (signed .entry)) (newTables (now («new_letters» .entry)) (now («new_ends» .entry)) (now («new_weights» .entry)) (now (work .entry)))) ⌝ }
+    ensures { λ r.
+        ⌜ exported r (now (answer .exit))
+        (newLent (collectionTables (now («new_letters» .exit)) (now («new_ends» .exit)) (now («new_weights» .exit))) (now (work .exit)))
+        ≡ applyExported (now (answer .entry))
+        (newLent (collectionTables (now («new_letters» .entry)) (now («new_ends» .entry)) (now («new_weights» .entry))) (now (work .entry)))
+        (applyOf (collection k (now (letters .entry)) (now (ends .entry)) (now (weights .entry))) (now (signed .entry))
+        (newLent (collectionTables (now («new_letters» .entry)) (now («new_ends» .entry)) (now («new_weights» .entry))) (now (work .entry)))) ⌝ }
 {
     if answer.len() < ANSWER {
         return 1;
@@ -146,7 +164,10 @@ pub extern "C" fn corrivume_runs(
     run_firsts: &mut [u32],
     answer: &mut [u64],
 ) -> u32
-    ensures { λ r. ⌜ exported r (now (answer .exit)) (now («run_weights» .exit), now («run_firsts» .exit)) ≡ runsExported (now (answer .entry)) (now («run_weights» .entry), now («run_firsts» .entry)) (runsOf (collection k (now (letters .entry)) (now (ends .entry)) (now (weights .entry))) (now («run_weights» .entry)) (now («run_firsts» .entry))) ⌝ }
+    ensures { λ r.
+        ⌜ exported r (now (answer .exit)) (now («run_weights» .exit), now («run_firsts» .exit))
+        ≡ runsExported (now (answer .entry)) (now («run_weights» .entry), now («run_firsts» .entry))
+        (runsOf (collection k (now (letters .entry)) (now (ends .entry)) (now (weights .entry))) (now («run_weights» .entry)) (now («run_firsts» .entry))) ⌝ }
 {
     if answer.len() < ANSWER {
         return 1;
@@ -165,7 +186,9 @@ pub extern "C" fn corrivume_weight(
     handle: usize,
     answer: &mut [u64],
 ) -> u32
-    ensures { λ r. ⌜ exported r (now (answer .exit)) none ≡ exportedOf (now (answer .entry)) none (weightReply (weightAnswer (now («run_weights» .entry)) (now («run_firsts» .entry)) n handle)) none ⌝ }
+    ensures { λ r.
+        ⌜ exported r (now (answer .exit)) none
+        ≡ exportedOf (now (answer .entry)) none (weightReply (weightAnswer (now («run_weights» .entry)) (now («run_firsts» .entry)) n handle)) none ⌝ }
 {
     if answer.len() < ANSWER {
         return 1;
@@ -184,7 +207,9 @@ pub extern "C" fn corrivume_access(
     handle: usize,
     answer: &mut [u64],
 ) -> u32
-    ensures { λ r. ⌜ exported r (now (answer .exit)) none ≡ exportedOf (now (answer .entry)) none (accessReply k (accessAt (spelling k (now (letters .entry)) (now (ends .entry))) handle)) none ⌝ }
+    ensures { λ r.
+        ⌜ exported r (now (answer .exit)) none
+        ≡ exportedOf (now (answer .entry)) none (accessReply k (accessAt (spelling k (now (letters .entry)) (now (ends .entry))) handle)) none ⌝ }
 {
     if answer.len() < ANSWER {
         return 1;
@@ -204,7 +229,10 @@ pub extern "C" fn corrivume_plain(
     word: &[u8],
     answer: &mut [u64],
 ) -> u32
-    ensures { λ r. ⌜ exported r (now (answer .exit)) none ≡ exportedOf (now (answer .entry)) none (plainReply (plainOf (collection k (now (letters .entry)) (now (ends .entry)) (now (weights .entry))) (now (word .entry)))) none ⌝ }
+    ensures { λ r.
+        ⌜ exported r (now (answer .exit)) none
+        ≡ exportedOf (now (answer .entry)) none
+        (plainReply (plainOf (collection k (now (letters .entry)) (now (ends .entry)) (now (weights .entry))) (now (word .entry)))) none ⌝ }
 {
     if answer.len() < ANSWER {
         return 1;
@@ -229,7 +257,12 @@ pub extern "C" fn corrivume_index(
     work: &mut [u32],
     answer: &mut [u64],
 ) -> u32
-    ensures { λ r. ⌜ exported r (now (answer .exit)) (lent (now (firsts .exit)) (now (positions .exit)) (now (numbers .exit)) (now (before .exit)) (now (work .exit))) ≡ indexExported (now (answer .entry)) (lent (now (firsts .entry)) (now (positions .entry)) (now (numbers .entry)) (now (before .entry)) (now (work .entry))) (indexOf (collection k (now (letters .entry)) (now (ends .entry)) (now (weights .entry))) p (lent (now (firsts .entry)) (now (positions .entry)) (now (numbers .entry)) (now (before .entry)) (now (work .entry)))) ⌝ }
+    ensures { λ r.
+        ⌜ exported r (now (answer .exit)) (lent (now (firsts .exit)) (now (positions .exit)) (now (numbers .exit)) (now (before .exit)) (now (work .exit)))
+        ≡ indexExported (now (answer .entry))
+        (lent (now (firsts .entry)) (now (positions .entry)) (now (numbers .entry)) (now (before .entry)) (now (work .entry)))
+        (indexOf (collection k (now (letters .entry)) (now (ends .entry)) (now (weights .entry))) p
+        (lent (now (firsts .entry)) (now (positions .entry)) (now (numbers .entry)) (now (before .entry)) (now (work .entry)))) ⌝ }
 {
     if answer.len() < ANSWER {
         return 1;
@@ -263,7 +296,11 @@ pub extern "C" fn corrivume_quick(
     before: &[u32],
     answer: &mut [u64],
 ) -> u32
-    ensures { λ r. ⌜ exported r (now (answer .exit)) none ≡ exportedOf (now (answer .entry)) none (quickReply (quickOf k p (now (word .entry)) (now (letters .entry)) (tables (now (firsts .entry)) (now (positions .entry)) (now (numbers .entry)) (now (before .entry))))) none ⌝ }
+    ensures { λ r.
+        ⌜ exported r (now (answer .exit)) none
+        ≡ exportedOf (now (answer .entry)) none
+        (quickReply (quickOf k p (now (word .entry)) (now (letters .entry))
+        (tables (now (firsts .entry)) (now (positions .entry)) (now (numbers .entry)) (now (before .entry))))) none ⌝ }
 {
     if answer.len() < ANSWER {
         return 1;
@@ -289,7 +326,13 @@ pub extern "C" fn corrivume_weigh(
     n: usize,
     answer: &mut [u64],
 ) -> u32
-    ensures { λ r. ⌜ exported r (now (answer .exit)) none ≡ exportedOf (now (answer .entry)) none (weighReply (weighedOf (quickOf k p (now (word .entry)) (now (letters .entry)) (tables (now (firsts .entry)) (now (positions .entry)) (now (numbers .entry)) (now (before .entry)))) (now («run_weights» .entry)) (now («run_firsts» .entry)) n)) none ⌝ }
+    ensures { λ r.
+        ⌜ exported r (now (answer .exit)) none
+        ≡ exportedOf (now (answer .entry)) none
+        (weighReply (weighedOf
+        (quickOf k p (now (word .entry)) (now (letters .entry))
+        (tables (now (firsts .entry)) (now (positions .entry)) (now (numbers .entry)) (now (before .entry))))
+        (now («run_weights» .entry)) (now («run_firsts» .entry)) n)) none ⌝ }
 {
     if answer.len() < ANSWER {
         return 1;

@@ -21,7 +21,8 @@ pub stored-two : (old : List ℕ) (a b : ℕ) → 4 ≤ length old → set (set 
 stored-two old a b h = stored (store {table = set old 0 a} (store {table = old} (begin old (a ∷ (b ∷ [])) (omega arith))))
 
 pub stored-three : (old : List ℕ) (a b c : ℕ) → 4 ≤ length old → set (set (set old 0 a) 1 b) 2 c ≡ fill (a ∷ (b ∷ (c ∷ []))) old
-stored-three old a b c h = stored (store {table = set (set old 0 a) 1 b} (store {table = set old 0 a} (store {table = old} (begin old (a ∷ (b ∷ (c ∷ []))) (omega arith)))))
+stored-three old a b c h =
+    stored (store {table = set (set old 0 a) 1 b} (store {table = set old 0 a} (store {table = old} (begin old (a ∷ (b ∷ (c ∷ []))) (omega arith)))))
 
 pub stored-four : (old : List ℕ) (a b c d : ℕ) → 4 ≤ length old → set (set (set (set old 0 a) 1 b) 2 c) 3 d ≡ fill (a ∷ (b ∷ (c ∷ (d ∷ [])))) old
 stored-four old a b c d h =
@@ -30,14 +31,17 @@ stored-four old a b c d h =
     (store {table = set (set old 0 a) 1 b} (store {table = set old 0 a} (store {table = old} (begin old (a ∷ (b ∷ (c ∷ (d ∷ [])))) (omega arith))))))
 
 -- a reply whose values were stored, and whose number is returned, is told
-pub tells : {reply known : Reply} {table : List ℕ} (old : List ℕ) → reply ≡ known → table ≡ fill (valuesOf known) old → told (numberOf known) table ≡ toldOf reply old
+pub tells : {reply known : Reply} {table : List ℕ} (old : List ℕ) → reply ≡ known → table ≡ fill (valuesOf known) old
+    → told (numberOf known) table ≡ toldOf reply old
 unfolding toldOf
 tells {known = known} old e q = ap (told (numberOf known)) q ∙ sym (ap (λ (r : Reply). toldOf r old) e)
 
 -- an answer table that is too short: 1, and nothing is written
-pub too-short : {Tables : Type 0} {before : Tables} (old : List ℕ) (reply : Reply) (after : Tables) → length old < 4 → exported 1 old before ≡ exportedOf old before reply after
+pub too-short : {Tables : Type 0} {before : Tables} (old : List ℕ) (reply : Reply) (after : Tables) → length old < 4
+    → exported 1 old before ≡ exportedOf old before reply after
 unfolding exportedOf
-too-short {before = before} old reply after h = sym (ap (λ (t : Bool). choose t (exported 1 old before) (record { telling = toldOf reply old; tables = after })) (lt-ltb _ _ h))
+too-short {before = before} old reply after h =
+    sym (ap (λ (t : Bool). choose t (exported 1 old before) (record { telling = toldOf reply old; tables = after })) (lt-ltb _ _ h))
 
 -- the reply of a call told through a table that is long enough
 pub shown :
@@ -46,4 +50,5 @@ pub shown :
 unfolding exportedOf
 shown {known = known} {after = after} old before h e q =
     let whole : Told → Exported _ = λ (t : Told). record { telling = t; tables = after } in
-    (ap whole q ∙ ap (λ (r : Reply). whole (toldOf r old)) e) ∙ sym (ap (λ (t : Bool). choose t (exported 1 old before) (whole (toldOf known old))) (le-ltb _ _ h))
+    (ap whole q ∙ ap (λ (r : Reply). whole (toldOf r old)) e)
+    ∙ sym (ap (λ (t : Bool). choose t (exported 1 old before) (whole (toldOf known old))) (le-ltb _ _ h))

@@ -1,4 +1,5 @@
 -- What a host sees of a call: what is told, and the tables it lent.
+-- Specification: 11.
 use Prim.{Unit, tt}
 use mathlib.Core.List.{List}
 use Prim.Native.Nat.{ℕ}
@@ -20,6 +21,7 @@ exported number answer tables = record { telling = told number answer; tables = 
 abbrev pub none : Unit {0}
 none = tt
 
--- The answer table needs 4 entries. Where it has fewer, 1 is returned and nothing is written; else the reply is told, and the tables are as the call leaves them.
+-- The answer table needs 4 entries. Where it has fewer, 1 is returned and nothing is written; else the reply is told, and the tables are as the call leaves
+-- them.
 unfoldable pub exportedOf : {Tables : Type 0} → List ℕ → Tables → Reply → Tables → Exported Tables
 exportedOf answer before reply after = choose (ltb (length answer) 4) (exported 1 answer before) (record { telling = toldOf reply answer; tables = after })

@@ -1,4 +1,5 @@
--- Document 01's number and values for each case of a call's answer.
+-- The number and the values for each case of a call's answer.
+-- Specification: 11.
 use Prim.Native.Nat.{ℕ}
 use Rattle.collection.specs.declared.Side.{Side}
 use Rattle.collection.specs.declared.Side.the-variants.{Asked, Turned}

@@ -1,4 +1,5 @@
 -- A reply: the number that is returned, and what the first entries of the answer table hold.
+-- Specification: 11.
 use mathlib.Core.List.{List, [], _∷_}
 use Prim.Native.Nat.{ℕ}
 use Rattle.lists.specs.Fill.{fill}

@@ -17,7 +17,21 @@ ghost use mathlib.Core.Path.{_≡_};
 ghost use Prim.Native.Nat.{_≤_};
 ghost use lib.ListN.{length};
 ghost use Rattle.exports_replies.specs.Told.{told, toldOf};
-ghost use Rattle.exports_replies.specs.Replies.{sideOf, readReply, writeReply, checkReply, coverReply, applyReply, runsReply, weightReply, accessReply, plainReply, indexReply, quickReply, weighReply};
+ghost use Rattle.exports_replies.specs.Replies.{
+  sideOf,
+  readReply,
+  writeReply,
+  checkReply,
+  coverReply,
+  applyReply,
+  runsReply,
+  weightReply,
+  accessReply,
+  plainReply,
+  indexReply,
+  quickReply,
+  weighReply,
+};
 
 // 0 for a word as asked, 1 for its reverse complement.
 fn side_of(side: Side) -> u64

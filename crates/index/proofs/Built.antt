@@ -28,22 +28,22 @@ use Rattle.index.specs.Indexing.{Lent, lent, indexWith}
 use Rattle.index.specs.Judged.{Judged, Held}
 use Rattle.collection.specs.Collection.{Spelling}
 
-module _ {t : Spelling} {p : ℕ} {n m : ℕ} (t₁ : Lent) (j : Judged t p n m t₁) where
+module _ {spelt : Spelling} {p : ℕ} {n m : ℕ} (t : Lent) (j : Judged spelt p n m t) where
   abbrev ss : List Stretch
-  ss = stretches (minimizerAt t.k p t.letters) t.k t.ends
+  ss = stretches (minimizerAt spelt.k p spelt.letters) spelt.k spelt.ends
 
   abbrev key : Stretch → ℕ
-  key s = minimizerAt t.k p t.letters (s .at)
+  key s = minimizerAt spelt.k p spelt.letters (s .at)
 
   few : m ≤ n
-  few = omega (arith, j .counted, j .each, stretches-few (minimizerAt t.k p t.letters) t.k t.ends)
+  few = omega (arith, j .counted, j .each, stretches-few (minimizerAt spelt.k p spelt.letters) spelt.k spelt.ends)
 
   -- the part of work that takes the minimizers
-  pub lent-size : length (take n (t₁ .work)) ≡ n
-  lent-size = length-take-le n (t₁ .work) (omega (arith, j .work-room))
+  pub lent-size : length (take n (t .work)) ≡ n
+  lent-size = length-take-le n (t .work) (omega (arith, j .work-room))
 
   -- all stretches fit the tables and that part
-  pub room4 : Room4 0 (length ss) (t₁ .firsts) (t₁ .positions) (t₁ .numbers) (take n (t₁ .work))
+  pub room4 : Room4 0 (length ss) (t .firsts) (t .positions) (t .numbers) (take n (t .work))
   room4 =
       record {
         firsts-room = omega (arith, j .counted, j .firsts-room);
@@ -53,35 +53,38 @@ module _ {t : Spelling} {p : ℕ} {n m : ℕ} (t₁ : Lent) (j : Judged t p n m 
       }
 
   small : All (λ s. key s < 4 ^ p) ss
-  small = keys-small t p (j .ready) (j .p-fits)
+  small = keys-small spelt p (j .ready) (j .p-fits)
 
   -- ─── the stretches are cut ─────────────────────────────────────────────────
 
-  module _ {firsts positions numbers keys : List ℕ} (c : Cut (minimizerAt t.k p t.letters) 0 ss (t₁ .firsts) firsts (t₁ .positions) positions (t₁ .numbers) numbers (take n (t₁ .work)) keys) where
+  module _ {firsts positions numbers keys : List ℕ}
+      (c : Cut (minimizerAt spelt.k p spelt.letters) 0 ss (t .firsts) firsts (t .positions) positions (t .numbers) numbers (take n (t .work)) keys) where
     abbrev work : List ℕ
-    work = keys ++ drop n (t₁ .work)
+    work = keys ++ drop n (t .work)
 
-    keys-fill : keys ≡ fill (map key ss) (take n (t₁ .work))
-    keys-fill = c .keys-held ∙ put-start (map key ss) (take n (t₁ .work))
+    keys-fill : keys ≡ fill (map key ss) (take n (t .work))
+    keys-fill = c .keys-held ∙ put-start (map key ss) (take n (t .work))
 
     keys-number : length (map key ss) ≡ m
     keys-number = length-map ss key ∙ sym (j .counted)
 
     keys-size : length keys ≡ n
-    keys-size = ap length keys-fill ∙ (length-fill (map key ss) (take n (t₁ .work)) (omega (arith, keys-number, few, lent-size)) ∙ lent-size)
+    keys-size = ap length keys-fill ∙ (length-fill (map key ss) (take n (t .work)) (omega (arith, keys-number, few, lent-size)) ∙ lent-size)
 
     cut-keys : part 0 m work ≡ map key ss
     cut-keys =
         part-is 0 m work
-        ∙ (take-append-le m keys (drop n (t₁ .work)) (omega (arith, keys-size, few)) ∙ (ap (take m) keys-fill ∙ take-fill (map key ss) (take n (t₁ .work)) m keys-number))
+        ∙ (take-append-le m keys (drop n (t .work)) (omega (arith, keys-size, few))
+        ∙ (ap (take m) keys-fill ∙ take-fill (map key ss) (take n (t .work)) m keys-number))
 
-    cut-only : Only 0 n (t₁ .work) work
+    cut-only : Only 0 n (t .work) work
     cut-only =
-        subst (λ (i : ℕ). Only 0 i (t₁ .work) work) keys-size
-        (subst (Only 0 (length keys) (t₁ .work)) (ap (λ (i : ℕ). keys ++ drop i (t₁ .work)) keys-size) (fill-only keys (t₁ .work) (omega (arith, keys-size, j .work-room))))
+        subst (λ (i : ℕ). Only 0 i (t .work) work) keys-size
+        (subst (Only 0 (length keys) (t .work)) (ap (λ (i : ℕ). keys ++ drop i (t .work)) keys-size)
+        (fill-only keys (t .work) (omega (arith, keys-size, j .work-room))))
 
     -- the tables are fit for the order
-    pub cut-orderable : Orderable p n m (length work) (length (t₁ .before))
+    pub cut-orderable : Orderable p n m (length work) (length (t .before))
     cut-orderable =
         record {
           p-high = j .p-high;
@@ -111,7 +114,8 @@ module _ {t : Spelling} {p : ℕ} {n m : ℕ} (t₁ : Lent) (j : Judged t p n m 
       cut-ordered =
           (λ i. fill (gathered (placesBy (cut-keys i) (j .counted i) (4 ^ p)) (taken i)) cut)
           ∙ (ap (λ (l : List ℕ). fill l cut) (gathered-places key (4 ^ p) g ss)
-          ∙ fill-again (map g (upTo key (4 ^ p) ss)) old cut m (length-map (upTo key (4 ^ p) ss) g ∙ (length-upTo key (4 ^ p) ss small ∙ sym (j .counted))) (ap (drop m) cut-fill ∙ drop-fill (map g ss) old m size))
+          ∙ fill-again (map g (upTo key (4 ^ p) ss)) old cut m (length-map (upTo key (4 ^ p) ss) g ∙ (length-upTo key (4 ^ p) ss small ∙ sym (j .counted)))
+          (ap (drop m) cut-fill ∙ drop-fill (map g ss) old m size))
         where
           taken : take m cut ≡ map g ss
           taken = ap (take m) cut-fill ∙ take-fill (map g ss) old m size
@@ -120,9 +124,9 @@ module _ {t : Spelling} {p : ℕ} {n m : ℕ} (t₁ : Lent) (j : Judged t p n m 
     pub cut-room : Room3 m firsts positions numbers
     cut-room =
         record {
-          firsts-room = cut-size (λ s. s .first) (t₁ .firsts) firsts (c .firsts-held) (j .firsts-room);
-          positions-room = cut-size (λ s. s .at) (t₁ .positions) positions (c .positions-held) (j .positions-room);
-          numbers-room = cut-size (λ s. s .number) (t₁ .numbers) numbers (c .numbers-held) (j .numbers-room);
+          firsts-room = cut-size (λ s. s .first) (t .firsts) firsts (c .firsts-held) (j .firsts-room);
+          positions-room = cut-size (λ s. s .at) (t .positions) positions (c .positions-held) (j .positions-room);
+          numbers-room = cut-size (λ s. s .number) (t .numbers) numbers (c .numbers-held) (j .numbers-room);
         }
 
     -- ─── and ordered ─────────────────────────────────────────────────────────
@@ -133,14 +137,15 @@ module _ {t : Spelling} {p : ℕ} {n m : ℕ} (t₁ : Lent) (j : Judged t p n m 
         ∙ (λ i. map (λ d. length-places key d ss i) (countFrom 0 (4 ^ p + 1)))
 
     -- the ordered tables are the index
-    pub index-built : {work' before' firsts' positions' numbers' : List ℕ} → Arranged (part 0 m work) p n m work work' (t₁ .before) before' firsts firsts' positions positions' numbers numbers'
-        → Held (indexWith t p) n t₁ (lent firsts' positions' numbers' before' work')
+    pub index-built : {work' before' firsts' positions' numbers' : List ℕ}
+        → Arranged (part 0 m work) p n m work work' (t .before) before' firsts firsts' positions positions' numbers numbers'
+        → Held (indexWith spelt p) n t (lent firsts' positions' numbers' before' work')
     unfolding built
     index-built {work'} a =
         record {
-          firsts-held = a .firsts-ordered ∙ cut-ordered (λ s. s .first) (t₁ .firsts) firsts (c .firsts-held);
-          positions-held = a .positions-ordered ∙ cut-ordered (λ s. s .at) (t₁ .positions) positions (c .positions-held);
-          numbers-held = a .numbers-ordered ∙ cut-ordered (λ s. s .number) (t₁ .numbers) numbers (c .numbers-held);
-          before-held = a .starts ∙ ap (λ (l : List ℕ). fill l (t₁ .before)) starts;
-          rest = among-trans _ (t₁ .work) work work' (wider n 0 n (t₁ .work) work (omega arith) cut-only) (a .rest);
+          firsts-held = a .firsts-ordered ∙ cut-ordered (λ s. s .first) (t .firsts) firsts (c .firsts-held);
+          positions-held = a .positions-ordered ∙ cut-ordered (λ s. s .at) (t .positions) positions (c .positions-held);
+          numbers-held = a .numbers-ordered ∙ cut-ordered (λ s. s .number) (t .numbers) numbers (c .numbers-held);
+          before-held = a .starts ∙ ap (λ (l : List ℕ). fill l (t .before)) starts;
+          rest = among-trans _ (t .work) work work' (wider n 0 n (t .work) work (omega arith) cut-only) (a .rest);
         }

@@ -13,15 +13,16 @@ use Rattle.lists.specs.Regions.{Only}
 use Rattle.lists.proofs.Every.{and-left, and-right}
 use Rattle.lists.proofs.Regions.{among-trans}
 use Rattle.lists.proofs.Zeroed.{only-fill}
+use Rattle.lists.proofs.Refuted.{refuted}
 use Rattle.collection.specs.Collection.{Spelling, Collection, spellingOf}
 use Rattle.collection.specs.declared.Verdict.{Verdict}
 use Rattle.collection.specs.declared.Verdict.the-variants.{Good, Bad}
 use Rattle.collection.specs.Judge.{collectionVerdict, kmersIn, Passes}
 use Rattle.collection.specs.Verdict.{atPlace, settle}
 use Rattle.collection.proofs.Judged.{collection-good}
-use Rattle.collection.proofs.Kmers.{kmers-counted}
 use Rattle.collection.proofs.Verdicts.{both-good, test-good, then-bad, then-good, place-none, place-some, refused, settled}
 use Rattle.collection.proofs.Ready.{judged-ready}
+use Rattle.collection.proofs.Strung.{each-weighed}
 use Rattle.repeats.specs.Check.{firstRepeat}
 use Rattle.index_minimizers.specs.Minimizer.{sizesVerdict}
 use Rattle.index_minimizers.proofs.Sizes.{sizes-good}
@@ -47,20 +48,24 @@ module _ (c : Collection) (p : ℕ) where
     unfolding foreseen indexVerdict
     collection-refused e t = refused Refused _ (then-good _ sizes (then-bad _ e))
 
-    module _ (passes : Passes c) {count starts : ℕ} (counted : count ≡ stretchCount (spellingOf c) p) (all : starts ≡ 4 ^ p + 1) (firsts positions numbers before work : ℕ) where
+    module _ (passes : Passes c) {count starts : ℕ} (counted : count ≡ stretchCount (spellingOf c) p) (all : starts ≡ 4 ^ p + 1)
+        (firsts positions numbers before work : ℕ) where
       -- the test of the five sizes
       abbrev room : Bool
       room = leb count firsts && (leb count positions && (leb count numbers && (leb starts before && leb (4 * length c.weights) work)))
 
-      rooms : (t : Lent) → Sized t firsts positions numbers before work → roomsVerdict (stretchCount (spellingOf c) p) (4 ^ p) kmerNumber t ≡ choose room Good (Bad 1 0)
+      rooms : (t : Lent) → Sized t firsts positions numbers before work
+          → roomsVerdict (stretchCount (spellingOf c) p) (4 ^ p) kmerNumber t ≡ choose room Good (Bad 1 0)
       unfolding roomsVerdict
       rooms t s =
-          let n = sym (collection-good c passes .counted) in
-          let c₁ = sym counted in
-          let d = sym all in
+          let number = sym (collection-good c passes .counted) in
+          let many = sym counted in
+          let entries = sym all in
           λ i.
           choose
-          (leb (c₁ i) (s .firsts-size i) && (leb (c₁ i) (s .positions-size i) && (leb (c₁ i) (s .numbers-size i) && (leb (d i) (s .before-size i) && leb (4 * n i) (s .work-size i)))))
+          (leb (many i) (s .firsts-size i) &&
+          (leb (many i) (s .positions-size i) &&
+          (leb (many i) (s .numbers-size i) && (leb (entries i) (s .before-size i) && leb (4 * number i) (s .work-size i)))))
           Good (Bad 1 0)
 
       verdict : (t : Lent) → Sized t firsts positions numbers before work → indexVerdict c p t ≡ choose room Good (Bad 1 0)
@@ -100,7 +105,7 @@ module _ (c : Collection) (p : ℕ) where
         p-low = s .p-low;
         p-high = s .p-high;
         p-fits = s .p-fits;
-        each = j .counted ∙ sym (kmers-counted (j .shape));
+        each = each-weighed j;
         counted = refl;
         firsts-room = leb-true count (length (t .firsts)) (and-left _ _ r);
         positions-room = leb-true count (length (t .positions)) (and-left _ _ r1);
@@ -111,21 +116,22 @@ module _ (c : Collection) (p : ℕ) where
 
 -- ─── 7, or the index ─────────────────────────────────────────────────────────
 
-module _ {t : Spelling} {p : ℕ} {n m : ℕ} (t₁ : Lent) (j : Judged t p n m t₁) where
+module _ {spelt : Spelling} {p : ℕ} {n m : ℕ} (t : Lent) (j : Judged spelt p n m t) where
   -- work is zeroed, whatever was written into its first 4n entries
-  zeroed : {u z : List ℕ} → Only 0 (4 * n) (t₁ .work) u → z ≡ fill (replicate (4 * n) 0) u → z ≡ cleared n (t₁ .work)
-  zeroed {u} only e = e ∙ only-fill (4 * n) (replicate (4 * n) 0) (t₁ .work) u (length-replicate (4 * n) 0) (j .work-room) only
+  zeroed : {u z : List ℕ} → Only 0 (4 * n) (t .work) u → z ≡ fill (replicate (4 * n) 0) u → z ≡ cleared n (t .work)
+  zeroed {u} only e = e ∙ only-fill (4 * n) (replicate (4 * n) 0) (t .work) u (length-replicate (4 * n) 0) (j .work-room) only
 
-  module _ {repeat : ℕ} {u : List ℕ} (search : (repeat ≡ firstRepeat t) × Only 0 (4 * n) (t₁ .work) u) where
+  module _ {repeat : ℕ} {u : List ℕ} (search : (repeat ≡ firstRepeat spelt) × Only 0 (4 * n) (t .work) u) where
     -- 7
-    pub repeat-refused : {z : List ℕ} → (repeat ≡ 0 → ⊥) → z ≡ fill (replicate (4 * n) 0) u → outcome (Refused 7 repeat) (lent (t₁ .firsts) (t₁ .positions) (t₁ .numbers) (t₁ .before) z) ≡ judgedOf t p n t₁
+    pub repeat-refused : {z : List ℕ} → (repeat ≡ 0 → ⊥) → z ≡ fill (replicate (4 * n) 0) u
+        → outcome (Refused 7 repeat) (lent (t .firsts) (t .positions) (t .numbers) (t .before) z) ≡ judgedOf spelt p n t
     unfolding judgedOf
     repeat-refused h e =
-        ap (λ (w : List ℕ). outcome (Refused 7 repeat) (lent (t₁ .firsts) (t₁ .positions) (t₁ .numbers) (t₁ .before) w)) (zeroed (search .1) e)
+        ap (λ (w : List ℕ). outcome (Refused 7 repeat) (lent (t .firsts) (t .positions) (t .numbers) (t .before) w)) (zeroed (search .1) e)
         ∙ refused _ _ (ap (atPlace 7) (sym (search .0)) ∙ sym (place-some 7 repeat h))
 
     -- the search leaves the tables fit
-    pub judged-still : Judged t p n m (lent (t₁ .firsts) (t₁ .positions) (t₁ .numbers) (t₁ .before) u)
+    pub judged-still : Judged spelt p n m (lent (t .firsts) (t .positions) (t .numbers) (t .before) u)
     judged-still =
         record {
           ready = j .ready;
@@ -141,13 +147,13 @@ module _ {t : Spelling} {p : ℕ} {n m : ℕ} (t₁ : Lent) (j : Judged t p n m 
           work-room = omega (arith, j .work-room, search .1 .size);
         }
 
-    module _ {t' : Lent} (h : Held (indexWith t p) n (lent (t₁ .firsts) (t₁ .positions) (t₁ .numbers) (t₁ .before) u) t') where
+    module _ {t' : Lent} (h : Held (indexWith spelt p) n (lent (t .firsts) (t .positions) (t .numbers) (t .before) u) t') where
       -- no word repeats: the index is made, and work zeroed
       pub index-made : {z : List ℕ} {starts : ℕ} → repeat ≡ 0 → z ≡ fill (replicate (4 * n) 0) (t' .work) → starts ≡ 4 ^ p + 1
-          → outcome (Indexed m starts) (lent (t' .firsts) (t' .positions) (t' .numbers) (t' .before) z) ≡ judgedOf t p n t₁
+          → outcome (Indexed m starts) (lent (t' .firsts) (t' .positions) (t' .numbers) (t' .before) z) ≡ judgedOf spelt p n t
       unfolding judgedOf
       index-made none e s =
-          let w = zeroed (among-trans _ (t₁ .work) u (t' .work) (search .1) (h .rest)) e in
+          let w = zeroed (among-trans _ (t .work) u (t' .work) (search .1) (h .rest)) e in
           settled _ (λ i. outcome (Indexed (j .counted i) (s i)) (lent (h .firsts-held i) (h .positions-held i) (h .numbers-held i) (h .before-held i) (w i)))
           (sym (place-none 7 (sym (search .0) ∙ none)))
 
@@ -158,17 +164,19 @@ module _ {t : Spelling} {p : ℕ} {n m : ℕ} (t₁ : Lent) (j : Judged t p n m 
 -- ─── the whole call ──────────────────────────────────────────────────────────
 
 -- an answer that is foreseen as refused: the verdict refuses
-told-refused : (verdict : Verdict) (m starts : ℕ) {answer : IndexAnswer} {number place : ℕ} (t : Lent) (done : Outcome) → answer ≡ settle verdict Refused (Indexed m starts) → answer ≡ Refused number place
+told-refused : (verdict : Verdict) (m starts : ℕ) {answer : IndexAnswer} {number place : ℕ} (t : Lent) (done : Outcome)
+    → answer ≡ settle verdict Refused (Indexed m starts) → answer ≡ Refused number place
     → outcome answer t ≡ settle verdict (λ number place. outcome (Refused number place) t) done
 unfolding settle
-told-refused Good m starts t done e f = let z : _≡_ {A = ℕ} 0 1 = cc in absurd (let y : ⊥ = omega arith in y)
+told-refused Good m starts t done e f = refuted (cc)
 told-refused (Bad number place) m starts t done e f = ap (λ (r : IndexAnswer). outcome r t) e
 
 -- one that is foreseen as an index: it does not
-told-good : (verdict : Verdict) (m starts : ℕ) {answer : IndexAnswer} {m' starts' : ℕ} → answer ≡ settle verdict Refused (Indexed m starts) → answer ≡ Indexed m' starts' → (verdict ≡ Good) × (m' ≡ m)
+told-good : (verdict : Verdict) (m starts : ℕ) {answer : IndexAnswer} {m' starts' : ℕ} → answer ≡ settle verdict Refused (Indexed m starts)
+    → answer ≡ Indexed m' starts' → (verdict ≡ Good) × (m' ≡ m)
 unfolding settle
 told-good Good m starts e f = (refl, cc)
-told-good (Bad number place) m starts e f = let z : _≡_ {A = ℕ} 0 1 = cc in absurd (let y : ⊥ = omega arith in y)
+told-good (Bad number place) m starts e f = refuted (cc)
 
 module _ (c : Collection) (p : ℕ) (t : Lent) {answer : IndexAnswer} (e : answer ≡ foreseen c p t) where
   -- a foreseen refusal is the answer, and nothing is written

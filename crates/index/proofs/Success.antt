@@ -2,7 +2,6 @@
 use mathlib.Core.Path.{_≡_, refl, sym, ap, _∙_}
 use mathlib.Core.List.{List, map}
 use Prim.Native.Nat.{ℕ, _+_, _^_}
-use native.Mathlib.Omega.{arith}
 use lib.ListN.{length, take, length-map}
 use Rattle.lists.specs.Count.{countFrom}
 use Rattle.lists.specs.Fill.{fill}
@@ -10,6 +9,7 @@ use Rattle.lists.specs.Pick.{upTo}
 use Rattle.lists.proofs.Count.{length-count}
 use Rattle.lists.proofs.Picks.{length-upTo}
 use Rattle.lists.proofs.Storing.{take-fill}
+use Rattle.lists.proofs.Refuted.{refuted}
 use Rattle.collection.specs.Collection.{Collection, spellingOf}
 use Rattle.collection.specs.declared.Verdict.the-variants.{Good}
 use Rattle.collection.specs.Judge.{kmersIn}
@@ -24,17 +24,13 @@ use Rattle.index.specs.declared.IndexAnswer.the-variants.{Indexed, Refus
 use Rattle.index.specs.Indexing.{Lent, stretchCount, indexVerdict, Outcome, outcome, untouched, holding, firstEntries, indexWith, indexOf}
 use Rattle.index.proofs.Indexed.{index-good}
 
--- no refusal is an answer of success
-never : {number place m starts : ℕ} → Refused number place ≡ Indexed m starts → ⊥
-never e = let z : _≡_ {A = ℕ} 0 1 = cc in omega arith
-
 module _ (c : Collection) (p : ℕ) (t : Lent) where
   -- an index is made only where nothing is refused
   pub index-told : {m starts : ℕ} → indexOf c p t .answer ≡ Indexed m starts → (indexVerdict c p t ≡ Good) × (firstRepeat (spellingOf c) ≡ 0)
   unfolding indexOf
   index-told {m} {starts} e =
-      let a = done-by (λ (o : Outcome). o .answer) (indexVerdict c p t) _ _ (Indexed m starts) (λ number place q. never q) e in
-      let b = done-by (λ (o : Outcome). o .answer) (atPlace 7 (firstRepeat (spellingOf c))) _ _ (Indexed m starts) (λ number place q. never q) (a .2) in
+      let a = done-by (λ (o : Outcome). o .answer) (indexVerdict c p t) _ _ (Indexed m starts) (λ number place q. refuted (cc)) e in
+      let b = done-by (λ (o : Outcome). o .answer) (atPlace 7 (firstRepeat (spellingOf c))) _ _ (Indexed m starts) (λ number place q. refuted (cc)) (a .2) in
       (a .0, place-good 7 _ (b .0))
 
   module _ (good : indexVerdict c p t ≡ Good) where
@@ -48,17 +44,19 @@ module _ (c : Collection) (p : ℕ) (t : Lent) where
     taken : (g : Stretch → ℕ) (old : List ℕ) → take (length ss) (fill (map g arrangedBy) old) ≡ map g arrangedBy
     taken g old =
         let j = index-good c p t good in
-        take-fill (map g arrangedBy) old (length ss) (length-map arrangedBy g ∙ length-upTo (λ s. minimizerAt c.k p c.letters (s .at)) (4 ^ p) ss (keys-small (spellingOf c) p (j .ready) (j .p-fits)))
+        take-fill (map g arrangedBy) old (length ss)
+        (length-map arrangedBy g ∙ length-upTo (λ s. minimizerAt c.k p c.letters (s .at)) (4 ^ p) ss (keys-small (spellingOf c) p (j .ready) (j .p-fits)))
 
     held : (n : ℕ) → firstEntries (stretchCount (spellingOf c) p) (4 ^ p + 1) (holding (indexWith (spellingOf c) p) n t) ≡ indexWith (spellingOf c) p
     unfolding built
     held n =
-        let a = taken (λ s. s .first) (t .firsts) in
-        let b = taken (λ s. s .at) (t .positions) in
-        let c₁ = taken (λ s. s .number) (t .numbers) in
+        let firsts = taken (λ s. s .first) (t .firsts) in
+        let positions = taken (λ s. s .at) (t .positions) in
+        let numbers = taken (λ s. s .number) (t .numbers) in
         let starts : ℕ → ℕ = λ i. length (upTo (λ s. minimizerAt c.k p c.letters (s .at)) i ss) in
-        let d = take-fill (map starts (countFrom 0 (4 ^ p + 1))) (t .before) (4 ^ p + 1) (length-map (countFrom 0 (4 ^ p + 1)) starts ∙ length-count 0 (4 ^ p + 1)) in
-        λ i. tables (a i) (b i) (c₁ i) (d i)
+        let before = take-fill (map starts (countFrom 0 (4 ^ p + 1))) (t .before) (4 ^ p + 1)
+        (length-map (countFrom 0 (4 ^ p + 1)) starts ∙ length-count 0 (4 ^ p + 1)) in
+        λ i. tables (firsts i) (positions i) (numbers i) (before i)
 
     -- where nothing is refused, the answer says how many entries are filled, and these are the index
     pub index-success : firstRepeat (spellingOf c) ≡ 0
@@ -68,5 +66,6 @@ module _ (c : Collection) (p : ℕ) (t : Lent) where
     index-success none =
         let n : ℕ = kmersIn (spellingOf c) in
         let done : Outcome = outcome (Indexed (stretchCount (spellingOf c) p) (4 ^ p + 1)) (holding (indexWith (spellingOf c) p) n t) in
-        let o = settled (λ number place. outcome (Refused number place) t) (settled (λ number place. outcome (Refused number place) (untouched n t)) {answer = done} refl (sym (place-none 7 none))) good in
+        let o = settled (λ number place. outcome (Refused number place) t)
+        (settled (λ number place. outcome (Refused number place) (untouched n t)) {answer = done} refl (sym (place-none 7 none))) good in
         (ap (λ (r : Outcome). r .answer) (sym o), ap (λ (r : Outcome). firstEntries (stretchCount (spellingOf c) p) (4 ^ p + 1) (r .after)) (sym o) ∙ held n)

@@ -1,4 +1,5 @@
 -- INDEX: the collection is judged and looked through for repeated words, and its index is made.
+-- Specification: 9.7.
 use mathlib.Core.Bool.{_&&_}
 use mathlib.Core.List.{List}
 use Prim.Native.Nat.{ℕ, _+_, _*_, _^_}
@@ -33,13 +34,14 @@ lent firsts positions numbers before work = record { firsts = firsts; positions 
 
 -- how many stretches there are
 abbrev pub stretchCount : Spelling → ℕ → ℕ
-stretchCount t p = length (stretches (minimizerAt t.k p t.letters) t.k t.ends)
+stretchCount spelt p = length (stretches (minimizerAt spelt.k p spelt.letters) spelt.k spelt.ends)
 
 -- 1: three tables have an entry for each of `count` stretches, the fourth d + 1, and work 4n
 unfoldable pub roomsVerdict : ℕ → ℕ → ℕ → Lent → Verdict
 roomsVerdict count d n t =
     choose
-    (leb count (length (t .firsts)) && (leb count (length (t .positions)) && (leb count (length (t .numbers)) && (leb (d + 1) (length (t .before)) && leb (4 * n) (length (t .work))))))
+    (leb count (length (t .firsts)) &&
+    (leb count (length (t .positions)) && (leb count (length (t .numbers)) && (leb (d + 1) (length (t .before)) && leb (4 * n) (length (t .work))))))
     Good (Bad 1 0)
 
 -- 2, of k and p, then 3 to 6, then 1
@@ -70,11 +72,12 @@ untouched n t = lent (t .firsts) (t .positions) (t .numbers) (t .before) (cleare
 -- the tables with the index in their first entries
 abbrev pub holding : Index → ℕ → Lent → Lent
 holding index n t =
-    lent (fill (index .firsts) (t .firsts)) (fill (index .positions) (t .positions)) (fill (index .numbers) (t .numbers)) (fill (index .before) (t .before)) (cleared n (t .work))
+    lent (fill (index .firsts) (t .firsts)) (fill (index .positions) (t .positions)) (fill (index .numbers) (t .numbers)) (fill (index .before) (t .before))
+    (cleared n (t .work))
 
 -- the index of a collection, by minimizers of p letters
 abbrev pub indexWith : Spelling → ℕ → Index
-indexWith t p = indexed (minimizerAt t.k p t.letters) (4 ^ p) t.k t.ends
+indexWith spelt p = indexed (minimizerAt spelt.k p spelt.letters) (4 ^ p) spelt.k spelt.ends
 
 -- the index in the first entries of the tables: so many stretches, and so many entries of the fourth
 abbrev pub firstEntries : ℕ → ℕ → Lent → Index

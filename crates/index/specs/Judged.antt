@@ -27,18 +27,18 @@ unfoldable pub foreseen : Collection → ℕ → Lent → IndexAnswer
 foreseen c p t = settle (indexVerdict c p t) Refused (Indexed (stretchCount (spellingOf c) p) (4 ^ p + 1))
 
 -- what 2 to 6 and 1 leave: n k-mers in m stretches, and room for them
-pub record Judged (t : Spelling) (p : ℕ) (n m : ℕ) (t₁ : Lent) : Type 0 where
-  pub ready : Ready t
+pub record Judged (spelt : Spelling) (p : ℕ) (n m : ℕ) (t : Lent) : Type 0 where
+  pub ready : Ready spelt
   pub p-low : 1 ≤ p
   pub p-high : p ≤ 8
-  pub p-fits : p ≤ t.k
-  pub each : n ≡ length (kmers t.k t.ends)
-  pub counted : m ≡ stretchCount t p
-  pub firsts-room : m ≤ length (t₁ .firsts)
-  pub positions-room : m ≤ length (t₁ .positions)
-  pub numbers-room : m ≤ length (t₁ .numbers)
-  pub before-room : 4 ^ p + 1 ≤ length (t₁ .before)
-  pub work-room : 4 * n ≤ length (t₁ .work)
+  pub p-fits : p ≤ spelt.k
+  pub each : n ≡ length (kmers spelt.k spelt.ends)
+  pub counted : m ≡ stretchCount spelt p
+  pub firsts-room : m ≤ length (t .firsts)
+  pub positions-room : m ≤ length (t .positions)
+  pub numbers-room : m ≤ length (t .numbers)
+  pub before-room : 4 ^ p + 1 ≤ length (t .before)
+  pub work-room : 4 * n ≤ length (t .work)
 
 -- the tables t hold the index in their first entries; of work nothing but the first 4n entries is written
 pub record Held (index : Index) (n : ℕ) (t t' : Lent) : Type 0 where
@@ -50,6 +50,6 @@ pub record Held (index : Index) (n : ℕ) (t t' : Lent) : Type 0 where
 
 -- 7, or the index of n k-mers
 unfoldable pub judgedOf : Spelling → ℕ → ℕ → Lent → Outcome
-judgedOf t p n t₁ =
-    settle (atPlace 7 (firstRepeat t)) (λ number place. outcome (Refused number place) (untouched n t₁))
-    (outcome (Indexed (stretchCount t p) (4 ^ p + 1)) (holding (indexWith t p) n t₁))
+judgedOf spelt p n t =
+    settle (atPlace 7 (firstRepeat spelt)) (λ number place. outcome (Refused number place) (untouched n t))
+    (outcome (Indexed (stretchCount spelt p) (4 ^ p + 1)) (holding (indexWith spelt p) n t))

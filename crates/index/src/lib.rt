@@ -24,7 +24,9 @@ fn foresee(
     before: usize,
     work: usize,
 ) -> IndexAnswer
-    ensures { λ r. ⌜ ((t : Lent) → Sized t firsts positions numbers before work → r ≡ foreseen (collection k (now (letters .entry)) (now (ends .entry)) (now (weights .entry))) p t) ⌝ }
+    ensures { λ r.
+        ⌜ ((t : Lent) → Sized t firsts positions numbers before work
+        → r ≡ foreseen (collection k (now (letters .entry)) (now (ends .entry)) (now (weights .entry))) p t) ⌝ }
 {
     let a = index_minimizers::judge_sizes(k, p);
     if let Verdict::Bad { number, place } = a {
@@ -35,7 +37,7 @@ fn foresee(
         return IndexAnswer::Refused { number, place };
     }
     let stretches = index_cutting::inner::count_all(k, p, letters, ends);
-    let starts = index_minimizers::inner::word_count(p) + 1;
+    let starts = words::inner::word_count(p) + 1;
     if (stretches <= firsts)
         & ((stretches <= positions)
             & ((stretches <= numbers) & ((starts <= before) & (4 * weights.len() <= work))))
@@ -63,7 +65,10 @@ fn build(
     work: &mut [u32],
 )
     requires { ⌜ Judged (spelling k (now letters) (now ends)) p n m (lent (now firsts) (now positions) (now numbers) (now before) (now work)) ⌝ }
-    ensures { λ _. ⌜ Held (indexWith (spelling k (now (letters .entry)) (now (ends .entry))) p) n (lent (now (firsts .entry)) (now (positions .entry)) (now (numbers .entry)) (now (before .entry)) (now (work .entry))) (lent (now (firsts .exit)) (now (positions .exit)) (now (numbers .exit)) (now (before .exit)) (now (work .exit))) ⌝ }
+    ensures { λ _.
+        ⌜ Held (indexWith (spelling k (now (letters .entry)) (now (ends .entry))) p) n
+        (lent (now (firsts .entry)) (now (positions .entry)) (now (numbers .entry)) (now (before .entry)) (now (work .entry)))
+        (lent (now (firsts .exit)) (now (positions .exit)) (now (numbers .exit)) (now (before .exit)) (now (work .exit))) ⌝ }
 {
     index_cutting::inner::cut_all(
         k,
@@ -93,7 +98,10 @@ fn index_judged(
     work: &mut [u32],
 ) -> IndexAnswer
     requires { ⌜ Judged (spelling k (now letters) (now ends)) p n m (lent (now firsts) (now positions) (now numbers) (now before) (now work)) ⌝ }
-    ensures { λ r. ⌜ outcome r (lent (now (firsts .exit)) (now (positions .exit)) (now (numbers .exit)) (now (before .exit)) (now (work .exit))) ≡ judgedOf (spelling k (now (letters .entry)) (now (ends .entry))) p n (lent (now (firsts .entry)) (now (positions .entry)) (now (numbers .entry)) (now (before .entry)) (now (work .entry))) ⌝ }
+    ensures { λ r.
+        ⌜ outcome r (lent (now (firsts .exit)) (now (positions .exit)) (now (numbers .exit)) (now (before .exit)) (now (work .exit)))
+        ≡ judgedOf (spelling k (now (letters .entry)) (now (ends .entry))) p n
+        (lent (now (firsts .entry)) (now (positions .entry)) (now (numbers .entry)) (now (before .entry)) (now (work .entry))) ⌝ }
 {
     let repeat = repeats::inner::first_repeat(k, letters, ends, n, work);
     if repeat != 0 {
@@ -117,7 +125,7 @@ fn index_judged(
         work,
     );
     collection::inner::zero_first(work, 4 * n);
-    let starts = index_minimizers::inner::word_count(p) + 1;
+    let starts = words::inner::word_count(p) + 1;
     IndexAnswer::Indexed {
         stretches: m,
         starts,
@@ -138,7 +146,10 @@ pub fn index(
     before: &mut [u32],
     work: &mut [u32],
 ) -> IndexAnswer
-    ensures { λ r. ⌜ outcome r (lent (now (firsts .exit)) (now (positions .exit)) (now (numbers .exit)) (now (before .exit)) (now (work .exit))) ≡ indexOf (collection k (now (letters .entry)) (now (ends .entry)) (now (weights .entry))) p (lent (now (firsts .entry)) (now (positions .entry)) (now (numbers .entry)) (now (before .entry)) (now (work .entry))) ⌝ }
+    ensures { λ r.
+        ⌜ outcome r (lent (now (firsts .exit)) (now (positions .exit)) (now (numbers .exit)) (now (before .exit)) (now (work .exit)))
+        ≡ indexOf (collection k (now (letters .entry)) (now (ends .entry)) (now (weights .entry))) p
+        (lent (now (firsts .entry)) (now (positions .entry)) (now (numbers .entry)) (now (before .entry)) (now (work .entry))) ⌝ }
 {
     let v = foresee(
         k,

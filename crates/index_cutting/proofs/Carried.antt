@@ -8,6 +8,7 @@ use native.Mathlib.Nat.{add-zero, mod-lt}
 use native.Mathlib.Omega.{arith}
 use lib.ListN.{length, getD, take, drop}
 use Rattle.lists.specs.Every.{All}
+use Rattle.lists.specs.Limits.{mostK}
 use Rattle.lists.proofs.Every.{all-take, all-drop}
 use Rattle.alphabet.specs.Letter.{isLetter, twoBits}
 use Rattle.words.specs.Turned.{rolled}
@@ -33,11 +34,11 @@ carried-small {k} {p} {a} {c} s l =
     omega (arith, s .is-least, least-low p (k - p) c, mod-lt c (four-pos p), words-few p l)
 
 -- what `roll` and `slide` ask of the code, the minimizer and the next letter's byte b
-module _ {k p : ℕ} {letters : List ℕ} (a c v x b : ℕ) (s : Carried k p letters a c v) (k-high : k ≤ 31) (e : x ≡ twoBits b) where
-  pub roll-fits : (k ≤ 31) × (c < 4 ^ 31) × (x < 4)
+module _ {k p : ℕ} {letters : List ℕ} (a c v x b : ℕ) (s : Carried k p letters a c v) (k-high : k ≤ mostK) (e : x ≡ twoBits b) where
+  pub roll-fits : (k ≤ mostK) × (c < 4 ^ mostK) × (x < 4)
   roll-fits = (k-high, s .rolls .small, omega (arith, bits-lt b))
 
-  pub slide-fits : (d : ℕ) → p ≤ k → d ≡ rolled k c x → (k - p + p ≤ 31) × (v ≡ least p (k - p) c) × (x < 4) × (d ≡ rolled (k - p + p) c x)
+  pub slide-fits : (d : ℕ) → p ≤ k → d ≡ rolled k c x → (k - p + p ≤ mostK) × (v ≡ least p (k - p) c) × (x < 4) × (d ≡ rolled (k - p + p) c x)
   slide-fits d l f =
       let q : k ≡ k - p + p = omega arith in
       (omega arith, s .is-least, omega (arith, bits-lt b), f ∙ ap (λ (m : ℕ). rolled m c x) q)
@@ -47,14 +48,15 @@ module _ (k p : ℕ) (letters : List ℕ) (fits : p ≤ k) (good : All (λ b. is
   pub minimizer-below : (a : ℕ) → a + k ≤ length letters → minimizerAt k p letters a < 4 ^ p
   minimizer-below a l = minimizer-lt p (wordAt k letters a) (letters-word k letters a good) (omega (arith, length-word k letters a l))
 
-  module _ (k-low : 1 ≤ k) (k-high : k ≤ 31) where
+  module _ (k-low : 1 ≤ k) (k-high : k ≤ mostK) where
     -- the least piece of a k-mer's code is its minimizer, and the pass goes on
     carried-from : (a i c v : ℕ) → a + i + k ≤ length letters → c ≡ code (wordAt k letters (a + i)) → v ≡ least p (k - p) c
         → (v ≡ minimizerAt k p letters (a + i)) × Carried k p letters (a + (i + 1)) c v
     carried-from a i c v l e f =
         let w = wordAt k letters (a + i) in
         let n = length-word k letters (a + i) l in (
-          f ∙ (ap (least p (k - p)) e ∙ (ap (λ (m : ℕ). least p (m - p) (code w)) (sym n) ∙ least-minimizer p w (letters-word k letters (a + i) good) (omega (arith, n)))),
+          f ∙ (ap (least p (k - p)) e
+              ∙ (ap (λ (m : ℕ). least p (m - p) (code w)) (sym n) ∙ least-minimizer p w (letters-word k letters (a + i) good) (omega (arith, n)))),
           record { rolls = word-on k letters k-low k-high good a i c l e; is-least = f },
         )
 
@@ -66,7 +68,8 @@ module _ (k p : ℕ) (letters : List ℕ) (fits : p ≤ k) (good : All (λ b. is
         carried-from a 0 c v (omega arith)
         (e
         ∙ (ap (λ (m : ℕ). code (map twoBits (take m (drop a letters)))) q
-        ∙ (ap code (spell-bits (take k (drop a letters)) (all-take _ k (drop a letters) (all-drop _ a letters good))) ∙ ap (λ (m : ℕ). code (wordAt k letters m)) (sym (add-zero a)))))
+        ∙ (ap code (spell-bits (take k (drop a letters)) (all-take _ k (drop a letters) (all-drop _ a letters good)))
+        ∙ ap (λ (m : ℕ). code (wordAt k letters m)) (sym (add-zero a)))))
         f
 
     -- and the one after i others

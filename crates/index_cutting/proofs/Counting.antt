@@ -76,7 +76,8 @@ module _ (q : ℕ → ℕ) (k N : ℕ) (ends : List ℕ) where
 
   module _ (i before count : ℕ) (r : Tallied q k N ends i before count) where
     -- the next string, which has m stretches
-    pub tallied-on : i < length ends → 1 ≤ k → (m : ℕ) → ((h : ℕ) → m ≡ length (ofString q h before (within k before (getD ends i 0)))) → Tallied q k N ends (i + 1) (getD ends i 0) (count + m)
+    pub tallied-on : i < length ends → 1 ≤ k → (m : ℕ) → ((h : ℕ) → m ≡ length (ofString q h before (within k before (getD ends i 0))))
+        → Tallied q k N ends (i + 1) (getD ends i 0) (count + m)
     tallied-on l k1 m e =
         let n = within k before (getD ends i 0) in
         let h = r .next in
@@ -85,7 +86,13 @@ module _ (q : ℕ → ℕ) (k N : ℕ) (ends : List ℕ) where
           strings = strings-on (r .strings) l k1 (h + n - 1) (omega (arith, r .small));
           small = omega (arith, r .small, e h, string-few q h before n);
           whole =
-              omega (arith, r .whole, e h, ap length (stretches-next q k h before ends i l), length-append (ofString q h before n) (stretchesFrom q k (h + n) (getD ends i 0) (drop (i + 1) ends)));
+              omega (
+                arith,
+                r .whole,
+                e h,
+                ap length (stretches-next q k h before ends i l),
+                length-append (ofString q h before n) (stretchesFrom q k (h + n) (getD ends i 0) (drop (i + 1) ends)),
+              );
         }
 
     -- no string is left

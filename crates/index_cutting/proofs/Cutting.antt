@@ -93,7 +93,8 @@ module _ {q : ℕ → ℕ} {k N : ℕ} {ends : List ℕ} where
       passed-room = filling-room (ofString q h before number) rest split
 
       -- they are stored
-      pub passed-on : 1 ≤ k → (o' : ℕ) {fs' ps' ns' ks' : List ℕ} → o' ≡ o + length (ofString q h before number) → Cut q o (ofString q h before number) fs fs' ps ps' ns ns' ks ks'
+      pub passed-on : 1 ≤ k → (o' : ℕ) {fs' ps' ns' ks' : List ℕ} → o' ≡ o + length (ofString q h before number)
+          → Cut q o (ofString q h before number) fs fs' ps ps' ns ns' ks ks'
           → Passed q k N ends fs₀ fs' ps₀ ps' ns₀ ns' ks₀ ks' (getD ends i 0) (h + number) o' (i + 1)
       passed-on k1 o' {fs'} {ps'} {ns'} {ks'} e c =
           record {

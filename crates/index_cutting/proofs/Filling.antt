@@ -26,7 +26,8 @@ module _ (g : Stretch → ℕ) (o : ℕ) (all : List Stretch) where
     column-many : {table' : List ℕ} → table' ≡ put to (map g ss) table → Column g o all old table' rest (to + length ss)
     column-many e =
         subst (λ (t : List ℕ). Column g o all old t rest (to + length ss)) (sym e)
-        (subst (λ (m : ℕ). Column g o all old (put to (map g ss) table) rest (to + m)) (length-map ss g) (store-many (map g ss) (restated (map-append g ss rest) c)))
+        (subst (λ (m : ℕ). Column g o all old (put to (map g ss) table) rest (to + m)) (length-map ss g)
+        (store-many (map g ss) (restated (map-append g ss rest) c)))
 
 -- ─── four tables ─────────────────────────────────────────────────────────────
 
@@ -39,7 +40,8 @@ pub record Filling (q : ℕ → ℕ) (o : ℕ) (all : List Stretch) (fs₀ fs ps
   pub counted : to + length rest ≡ o + length all
 
 -- all are still to come
-pub filling-begin : (q : ℕ → ℕ) {o : ℕ} (all : List Stretch) {fs ps ns ks : List ℕ} → Room4 o (length all) fs ps ns ks → Filling q o all fs fs ps ps ns ns ks ks all o
+pub filling-begin : (q : ℕ → ℕ) {o : ℕ} (all : List Stretch) {fs ps ns ks : List ℕ} → Room4 o (length all) fs ps ns ks
+    → Filling q o all fs fs ps ps ns ns ks ks all o
 filling-begin q all {fs} {ps} {ns} {ks} r =
     record {
       firsts = column-begin (λ s. s .first) _ all fs (r .firsts-room);
@@ -51,7 +53,8 @@ filling-begin q all {fs} {ps} {ns} {ks} r =
 
 module _ {q : ℕ → ℕ} {o to : ℕ} {all : List Stretch} {fs₀ fs ps₀ ps ns₀ ns ks₀ ks : List ℕ} where
   -- what is still to come, said another way
-  pub filling-restated : {rest rest' : List Stretch} → rest ≡ rest' → Filling q o all fs₀ fs ps₀ ps ns₀ ns ks₀ ks rest to → Filling q o all fs₀ fs ps₀ ps ns₀ ns ks₀ ks rest' to
+  pub filling-restated : {rest rest' : List Stretch} → rest ≡ rest' → Filling q o all fs₀ fs ps₀ ps ns₀ ns ks₀ ks rest to
+      → Filling q o all fs₀ fs ps₀ ps ns₀ ns ks₀ ks rest' to
   filling-restated e r = subst (λ (ss : List Stretch). Filling q o all fs₀ fs ps₀ ps ns₀ ns ks₀ ks ss to) e r
 
   -- none is
@@ -86,7 +89,8 @@ module _ {q : ℕ → ℕ} {o to : ℕ} {all : List Stretch} {fs₀ fs ps₀ ps 
           keys-room = column-room (λ s. q (s .at)) o all _ _ ss rest to (r .keys);
         }
 
-    pub filling-many : {fs' ps' ns' ks' : List ℕ} → Cut q to ss fs fs' ps ps' ns ns' ks ks' → Filling q o all fs₀ fs' ps₀ ps' ns₀ ns' ks₀ ks' rest (to + length ss)
+    pub filling-many : {fs' ps' ns' ks' : List ℕ} → Cut q to ss fs fs' ps ps' ns ns' ks ks'
+        → Filling q o all fs₀ fs' ps₀ ps' ns₀ ns' ks₀ ks' rest (to + length ss)
     filling-many e =
         record {
           firsts = column-many (λ s. s .first) o all _ _ ss rest to (r .firsts) (e .firsts-held);

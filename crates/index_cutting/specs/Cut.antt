@@ -13,8 +13,8 @@ pub record Room4 (o count : ℕ) (firsts positions numbers keys : List ℕ) : Ty
   pub numbers-room : o + count ≤ length numbers
   pub keys-room : o + count ≤ length keys
 
--- The tables hold the stretches ss from entry o on, and are else as they were; `q a` is the minimizer of the k-mer at position a. Of each table the first list is the
--- one before, the second the one after.
+-- The tables hold the stretches ss from entry o on, and are else as they were; `q a` is the minimizer of the k-mer at position a. Of each table the first list
+-- is the one before, the second the one after.
 pub record Cut (q : ℕ → ℕ) (o : ℕ) (ss : List Stretch) (firsts firsts' positions positions' numbers numbers' keys keys' : List ℕ) : Type 0 where
   pub firsts-held : firsts' ≡ put o (map (λ s. s .first) ss) firsts
   pub positions-held : positions' ≡ put o (map (λ s. s .at) ss) positions

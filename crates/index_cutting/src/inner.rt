@@ -4,6 +4,7 @@ ghost use mathlib.Core.Path.{_≡_};
 ghost use Prim.Native.Nat.{ℕ, _+_, _^_, _≤_, _<_};
 ghost use lib.ListN.{length, set};
 ghost use Rattle.lists.specs.Every.{every};
+ghost use Rattle.lists.specs.Limits.{mostLetters, mostK};
 ghost use Rattle.alphabet.specs.Letter.{isLetter};
 ghost use Rattle.collection.specs.Collection.{spelling};
 ghost use Rattle.collection.specs.Ready.{Ready};
@@ -14,7 +15,7 @@ ghost use Rattle.index_cutting.specs.Cut.{Room4, Cut};
 // How many stretches the n k-mers from position a on have, which stand in one string.
 fn count_string(k: usize, p: usize, letters: &[u8], a: usize, n: usize) -> usize
     requires { ⌜ every isLetter (now letters) ≡ true ⌝ }
-    requires { ⌜ (1 ≤ p) × (p ≤ k) × (k ≤ 31) × (1 ≤ n) × (a + n + k ≤ length (now letters) + 1) × (length (now letters) ≤ 1048576) ⌝ }
+    requires { ⌜ (1 ≤ p) × (p ≤ k) × (k ≤ mostK) × (1 ≤ n) × (a + n + k ≤ length (now letters) + 1) × (length (now letters) ≤ mostLetters) ⌝ }
     ensures { λ r. ⌜ ((h : ℕ) → r ≡ length (ofString (minimizerAt k p (now (letters .entry))) h a n)) ⌝ }
 {
     let mut c = words::inner::word_code(&letters[a..a + k]);
@@ -65,8 +66,11 @@ fn store(
     number: usize,
     key: u64,
 )
-    requires { ⌜ (o < length (now firsts)) × (o < length (now positions)) × (o < length (now numbers)) × (o < length (now keys)) × (first < 2 ^ 32) × (at < 2 ^ 32) × (number < 2 ^ 32) × (key < 2 ^ 32) ⌝ }
-    ensures { λ _. ⌜ (now (firsts .exit) ≡ set (now (firsts .entry)) o first) × (now (positions .exit) ≡ set (now (positions .entry)) o at) × (now (numbers .exit) ≡ set (now (numbers .entry)) o number) × (now (keys .exit) ≡ set (now (keys .entry)) o key) ⌝ }
+    requires { ⌜ (o < length (now firsts)) × (o < length (now positions)) × (o < length (now numbers)) × (o < length (now keys)) × (first < 2 ^ 32)
+        × (at < 2 ^ 32) × (number < 2 ^ 32) × (key < 2 ^ 32) ⌝ }
+    ensures { λ _.
+        ⌜ (now (firsts .exit) ≡ set (now (firsts .entry)) o first) × (now (positions .exit) ≡ set (now (positions .entry)) o at)
+        × (now (numbers .exit) ≡ set (now (numbers .entry)) o number) × (now (keys .exit) ≡ set (now (keys .entry)) o key) ⌝ }
 {
     firsts[o] = first as u32;
     positions[o] = at as u32;
@@ -74,8 +78,8 @@ fn store(
     keys[o] = key as u32;
 }
 
-// Stores the stretches of the n k-mers from position a on, which stand in one string and the first of which has handle h, at the places from o on; the next free
-// place is given back.
+// Stores the stretches of the n k-mers from position a on, which stand in one string and the first of which has handle h, at the places from o on; the next
+// free place is given back.
 fn cut_string(
     k: usize,
     p: usize,
@@ -90,10 +94,13 @@ fn cut_string(
     keys: &mut [u32],
 ) -> usize
     requires { ⌜ every isLetter (now letters) ≡ true ⌝ }
-    requires { ⌜ (1 ≤ p) × (p ≤ 8) × (p ≤ k) × (k ≤ 31) × (1 ≤ n) × (a + n + k ≤ length (now letters) + 1) × (length (now letters) ≤ 1048576) × (h ≤ 1048576) × (o ≤ 1048576) ⌝ }
+    requires { ⌜ (1 ≤ p) × (p ≤ 8) × (p ≤ k) × (k ≤ mostK) × (1 ≤ n) × (a + n + k ≤ length (now letters) + 1) × (length (now letters) ≤ mostLetters)
+        × (h ≤ mostLetters) × (o ≤ mostLetters) ⌝ }
     requires { ⌜ Room4 o (length (ofString (minimizerAt k p (now letters)) h a n)) (now firsts) (now positions) (now numbers) (now keys) ⌝ }
     ensures { λ r. ⌜ r ≡ o + length (ofString (minimizerAt k p (now (letters .entry))) h a n) ⌝ }
-    ensures { λ _. ⌜ Cut (minimizerAt k p (now (letters .entry))) o (ofString (minimizerAt k p (now (letters .entry))) h a n) (now (firsts .entry)) (now (firsts .exit)) (now (positions .entry)) (now (positions .exit)) (now (numbers .entry)) (now (numbers .exit)) (now (keys .entry)) (now (keys .exit)) ⌝ }
+    ensures { λ _.
+        ⌜ Cut (minimizerAt k p (now (letters .entry))) o (ofString (minimizerAt k p (now (letters .entry))) h a n) (now (firsts .entry)) (now (firsts .exit))
+        (now (positions .entry)) (now (positions .exit)) (now (numbers .entry)) (now (numbers .exit)) (now (keys .entry)) (now (keys .exit)) ⌝ }
 {
     let mut c = words::inner::word_code(&letters[a..a + k]);
     let mut v = index_minimizers::inner::find(p, k - p, c);
@@ -132,7 +139,10 @@ pub fn cut_all(
     requires { ⌜ Ready (spelling k (now letters) (now ends)) ⌝ }
     requires { ⌜ (1 ≤ p) × (p ≤ 8) × (p ≤ k) ⌝ }
     requires { ⌜ Room4 0 (length (stretches (minimizerAt k p (now letters)) k (now ends))) (now firsts) (now positions) (now numbers) (now keys) ⌝ }
-    ensures { λ _. ⌜ Cut (minimizerAt k p (now (letters .entry))) 0 (stretches (minimizerAt k p (now (letters .entry))) k (now (ends .entry))) (now (firsts .entry)) (now (firsts .exit)) (now (positions .entry)) (now (positions .exit)) (now (numbers .entry)) (now (numbers .exit)) (now (keys .entry)) (now (keys .exit)) ⌝ }
+    ensures { λ _.
+        ⌜ Cut (minimizerAt k p (now (letters .entry))) 0 (stretches (minimizerAt k p (now (letters .entry))) k (now (ends .entry))) (now (firsts .entry))
+        (now (firsts .exit)) (now (positions .entry)) (now (positions .exit)) (now (numbers .entry)) (now (numbers .exit)) (now (keys .entry))
+        (now (keys .exit)) ⌝ }
 {
     let mut at: usize = 0;
     let mut h: usize = 1;

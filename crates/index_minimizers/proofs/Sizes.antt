@@ -5,6 +5,7 @@ use Prim.Native.Nat.{ℕ, _^_, _≤_}
 use native.Mathlib.Nat.{pow-le-pow-right}
 use borrow.Author.Tests.{leb-true}
 use lib.Dec.{leb, lit<}
+use Rattle.lists.specs.Limits.{leastK, mostK}
 use Rattle.lists.proofs.Every.{and-left, and-right}
 use Rattle.collection.specs.declared.Verdict.the-variants.{Good}
 use Rattle.collection.specs.Judge.{kVerdict}
@@ -14,8 +15,8 @@ use Rattle.index_minimizers.specs.Minimizer.{sizesVerdict}
 
 -- k and p are in their ranges
 pub record Sizes (k p : ℕ) : Type 0 where
-  pub k-low : 3 ≤ k
-  pub k-high : k ≤ 31
+  pub k-low : leastK ≤ k
+  pub k-high : k ≤ mostK
   pub p-low : 1 ≤ p
   pub p-high : p ≤ 8
   pub p-fits : p ≤ k

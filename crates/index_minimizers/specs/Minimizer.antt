@@ -1,4 +1,5 @@
 -- Minimizers: the smallest code among the words of p letters of a k-mer.
+-- Specification: 6.1.
 use mathlib.Core.Bool.{_&&_}
 use mathlib.Core.List.{List}
 use Prim.Native.Nat.{ℕ, zero, suc, _-_, min}

@@ -1,17 +1,10 @@
-// How many minimizers there are; and the minimizer of a k-mer from its code: looked for, or carried on from the k-mer before. n + p letters of the code count, so that
+// The minimizer of a k-mer from its code: looked for, or carried on from the k-mer before. n + p letters of the code count, so that
 // it has n + 1 pieces of p letters.
 ghost use mathlib.Core.Path.{_≡_};
 ghost use Prim.Native.Nat.{_+_, _/_, _%_, _^_, _≤_, _<_, min};
+ghost use Rattle.lists.specs.Limits.{mostK};
 ghost use Rattle.words.specs.Turned.{rolled};
 ghost use Rattle.index_minimizers.specs.Least.{least};
-
-// How many words of p letters there are. Minimizers are the numbers below.
-pub fn word_count(p: usize) -> usize
-    requires { ⌜ p ≤ 8 ⌝ }
-    ensures { λ r. ⌜ r ≡ 4 ^ p ⌝ }
-{
-    1 << (2 * p)
-}
 
 // The smaller of two codes.
 fn smaller(a: u64, b: u64) -> u64
@@ -22,7 +15,7 @@ fn smaller(a: u64, b: u64) -> u64
 
 // The p letters of the code c that stand before its last j.
 fn piece(p: usize, c: u64, j: usize) -> u64
-    requires { ⌜ (p ≤ 31) × (j ≤ 31) ⌝ }
+    requires { ⌜ (p ≤ mostK) × (j ≤ mostK) ⌝ }
     ensures { λ r. ⌜ r ≡ c / 4 ^ j % 4 ^ p ⌝ }
 {
     (c >> (2 * j)) & ((1 << (2 * p)) - 1)
@@ -30,7 +23,7 @@ fn piece(p: usize, c: u64, j: usize) -> u64
 
 // The minimizer of the last n + p letters of the code c.
 pub fn find(p: usize, n: usize, c: u64) -> u64
-    requires { ⌜ n + p ≤ 31 ⌝ }
+    requires { ⌜ n + p ≤ mostK ⌝ }
     ensures { λ r. ⌜ r ≡ least p n c ⌝ }
 {
     let mut best = piece(p, c, 0);
@@ -44,7 +37,7 @@ pub fn find(p: usize, n: usize, c: u64) -> u64
 
 // The minimizer of the next k-mer d, v being that of the k-mer c. It is looked for only where the smallest piece has left.
 pub fn slide(p: usize, n: usize, v: u64, c: u64, d: u64, x: u64) -> u64
-    requires { ⌜ (n + p ≤ 31) × (v ≡ least p n c) × (x < 4) × (d ≡ rolled (n + p) c x) ⌝ }
+    requires { ⌜ (n + p ≤ mostK) × (v ≡ least p n c) × (x < 4) × (d ≡ rolled (n + p) c x) ⌝ }
     ensures { λ r. ⌜ r ≡ least p n d ⌝ }
 {
     let new = piece(p, d, 0);

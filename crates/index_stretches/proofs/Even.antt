@@ -1,5 +1,5 @@
--- The k-mers of a stretch have one minimizer, and each stretch has a k-mer; so there are no more stretches than k-mers. By induction on the k-mers still to come, then
--- on the strings. Assumes nothing.
+-- The k-mers of a stretch have one minimizer, and each stretch has a k-mer; so there are no more stretches than k-mers. By induction on the k-mers still to
+-- come, then on the strings. Assumes nothing.
 use mathlib.Core.Path.{_≡_, refl, ap, _∙_}
 use mathlib.Core.Bool.{Bool, true, false}
 use mathlib.Core.List.{List, [], _∷_}

@@ -11,6 +11,7 @@ use Rattle.lists.specs.Choose.{choose}
 use Rattle.lists.specs.Count.{countFrom}
 use Rattle.lists.specs.Every.{All, every}
 use Rattle.lists.specs.Pick.{pick}
+use Rattle.lists.specs.Limits.{mostLetters}
 use Rattle.lists.proofs.Count.{length-count}
 use Rattle.lists.proofs.Every.{and-both, all-append, all-map, all-every}
 use Rattle.lists.proofs.Picks.{all-pick, length-upTo-suc, length-upTo-le, length-upTo-mono}
@@ -38,7 +39,8 @@ module _ (q : ℕ → ℕ) (k N : ℕ) where
   unfolding openFrom
   open-lies h a n zero n1 h1 ha r = (record { some = n1; first-low = h1; first-high = ha; inside = omega arith }, tt)
   open-lies h a n (suc left) n1 h1 ha r =
-      go (open-lies h a (suc n) left (omega arith) h1 ha (omega arith)) (open-lies (h + n) (a + n) 1 left (omega arith) (omega arith) (omega arith) (omega arith))
+      go (open-lies h a (suc n) left (omega arith) h1 ha (omega arith))
+      (open-lies (h + n) (a + n) 1 left (omega arith) (omega arith) (omega arith) (omega arith))
       (eqb (q (a + n)) (q a))
     where
       go : All (Lies k N) (openFrom q h a (suc n) left) → All (Lies k N) (openFrom q (h + n) (a + n) 1 left)
@@ -51,7 +53,8 @@ module _ (q : ℕ → ℕ) (k N : ℕ) where
   string-lies h a zero h1 ha r = tt
   string-lies h a (suc n) h1 ha r = open-lies h a 1 n (omega arith) h1 ha (omega arith)
 
-  lie-from : (i h before : ℕ) (ends : List ℕ) → 1 ≤ k → 1 ≤ h → h ≤ before + 1 → firstShort k i before ends ≡ 0 → lastEnd before ends ≡ N → All (Lies k N) (stretchesFrom q k h before ends)
+  lie-from : (i h before : ℕ) (ends : List ℕ) → 1 ≤ k → 1 ≤ h → h ≤ before + 1 → firstShort k i before ends ≡ 0 → lastEnd before ends ≡ N
+      → All (Lies k N) (stretchesFrom q k h before ends)
   unfolding stretchesFrom lastEnd
   lie-from i h before [] k1 h1 hb s l = tt
   lie-from i h before (e ∷ ends) k1 h1 hb s l =
@@ -62,16 +65,18 @@ module _ (q : ℕ → ℕ) (k N : ℕ) where
       (lie-from (suc i) (h + n) e ends k1 (omega arith) (omega arith) (a .1) l)
 
 -- the first k-mer of each stretch lies among the letters
-pub stretches-inside : (q : ℕ → ℕ) (k N : ℕ) (ends : List ℕ) → 1 ≤ k → firstShort k 0 0 ends ≡ 0 → lastEnd 0 ends ≡ N → All (λ s. s .at + k ≤ N) (stretches q k ends)
+pub stretches-inside : (q : ℕ → ℕ) (k N : ℕ) (ends : List ℕ) → 1 ≤ k → firstShort k 0 0 ends ≡ 0 → lastEnd 0 ends ≡ N
+    → All (λ s. s .at + k ≤ N) (stretches q k ends)
 stretches-inside q k N ends k1 long last =
-    all-map (λ (s : Stretch) (l : Lies k N s). omega (arith, l .some, l .inside)) (stretches q k ends) (lie-from q k N 0 1 0 ends k1 (omega arith) (omega arith) long last)
+    all-map (λ (s : Stretch) (l : Lies k N s). omega (arith, l .some, l .inside)) (stretches q k ends)
+    (lie-from q k N 0 1 0 ends k1 (omega arith) (omega arith) long last)
 
-lies-fits : (k N : ℕ) → 1 ≤ k → N ≤ 1048576 → (s : Stretch) → Lies k N s → stretchFits k N s ≡ true
+lies-fits : (k N : ℕ) → 1 ≤ k → N ≤ mostLetters → (s : Stretch) → Lies k N s → stretchFits k N s ≡ true
 unfolding stretchFits
 lies-fits k N k1 few s l =
     and-both (le-leb 1 (s .first) (l .first-low))
     (and-both (le-leb 1 (s .number) (l .some))
-    (and-both (le-leb (s .first + s .number) 1048577 (omega (arith, l .first-high, l .inside))) (le-leb (s .at + s .number + k) (N + 1) (l .inside))))
+    (and-both (le-leb (s .first + s .number) (mostLetters + 1) (omega (arith, l .first-high, l .inside))) (le-leb (s .at + s .number + k) (N + 1) (l .inside))))
 
 -- ─── the index fits ──────────────────────────────────────────────────────────
 
@@ -95,10 +100,11 @@ module _ (q : ℕ → ℕ) (d : ℕ) {t : Spelling} (s : Shape t) where
   tables-fit =
       let all : List Stretch = arranged q d ss in
       let n = length-map all (λ x. x .first) in
-      and-both (eq-eqb (length (map (λ i. length (arranged q i ss)) (countFrom 0 (d + 1)))) (d + 1) (length-map (countFrom 0 (d + 1)) (λ i. length (arranged q i ss)) ∙ length-count 0 (d + 1)))
+      and-both (eq-eqb (length (map (λ i. length (arranged q i ss)) (countFrom 0 (d + 1)))) (d + 1)
+      (length-map (countFrom 0 (d + 1)) (λ i. length (arranged q i ss)) ∙ length-count 0 (d + 1)))
       (and-both (eq-eqb (length (map (λ x. x .at) all)) (length (map (λ x. x .first) all)) (length-map all (λ x. x .at) ∙ sym n))
       (and-both (eq-eqb (length (map (λ x. x .number) all)) (length (map (λ x. x .first) all)) (length-map all (λ x. x .number) ∙ sym n))
-      (le-leb (length (map (λ x. x .first) all)) 1048576
+      (le-leb (length (map (λ x. x .first) all)) mostLetters
       (omega (arith, n, length-upTo-le key d ss, stretches-few q t.k t.ends, kmers-counted s, s .N-high)))))
 
   length-firsts : length (indexed q d t.k t.ends .firsts) ≡ length (arranged q d ss)
@@ -109,12 +115,13 @@ module _ (q : ℕ → ℕ) (d : ℕ) {t : Spelling} (s : Shape t) where
   pub row-fits : (v : ℕ) → v < d → rowFits t.k (length t.letters) (indexed q d t.k t.ends) v ≡ true
   unfolding rowFits
   row-fits v h =
-      let t₁ : Index = indexed q d t.k t.ends in
+      let index : Index = indexed q d t.k t.ends in
       let a = start-of-built q d ss v (omega arith) in
       let b = start-of-built q d ss (suc v) h in
       let n = length-upTo-suc key v ss in
       let m = length-upTo-mono key v d ss h in
-      and-both (le-leb (start t₁ v) (start t₁ (suc v)) (omega (arith, a, b, n)))
-      (and-both (le-leb (start t₁ (suc v)) (length (t₁ .firsts)) (omega (arith, b, n, m, length-firsts)))
+      and-both (le-leb (start index v) (start index (suc v)) (omega (arith, a, b, n)))
+      (and-both (le-leb (start index (suc v)) (length (index .firsts)) (omega (arith, b, n, m, length-firsts)))
       (ap (every (stretchFits t.k (length t.letters))) (row-of-built q d ss v h)
-      ∙ all-every (stretchFits t.k (length t.letters)) (pick key v ss) (all-pick key (λ x. stretchFits t.k (length t.letters) x ≡ true) v ss (stretches-fit q s))))
+      ∙ all-every (stretchFits t.k (length t.letters)) (pick key v ss)
+      (all-pick key (λ x. stretchFits t.k (length t.letters) x ≡ true) v ss (stretches-fit q s))))

@@ -25,7 +25,8 @@ module _ (q : ℕ → ℕ) where
   open-ends s h a n zero e d = (e, d)
   open-ends s h a n (suc left) e d = go (eqb (q (a + n)) (q a)) (open-ends s h a (suc n) left e d)
     where
-      go : (t : Bool) → Ends s (openFrom q h a (suc n) left) → Ends s (choose t (openFrom q h a (suc n) left) (stretch h a n ∷ openFrom q (h + n) (a + n) 1 left))
+      go : (t : Bool) → Ends s (openFrom q h a (suc n) left)
+          → Ends s (choose t (openFrom q h a (suc n) left) (stretch h a n ∷ openFrom q (h + n) (a + n) 1 left))
       go true more = more
       go false more = (e, d)
 

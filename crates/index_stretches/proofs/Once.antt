@@ -66,5 +66,6 @@ stands-once q d k ends handle l h v =
     let one = numbered-once 1 (handle - 1) (kmers k ends) (omega arith) in
     ap (pick (λ x. x .handle) handle) (arranged-walks q d k ends)
     ∙ (pick-upTo (λ (x : Kmer). x .handle) (λ (x : Kmer). q (x .at)) handle d (numbered 1 (kmers k ends))
-    ∙ (ap (upTo (λ x. q (x .at)) d) (subst (λ (n : ℕ). pick (λ x. x .handle) n (numbered 1 (kmers k ends)) ≡ record { handle = n; at = positionOf k ends handle } ∷ []) e one)
+    ∙ (ap (upTo (λ x. q (x .at)) d)
+    (subst (λ (n : ℕ). pick (λ x. x .handle) n (numbered 1 (kmers k ends)) ≡ record { handle = n; at = positionOf k ends handle } ∷ []) e one)
     ∙ upTo-one (λ x. q (x .at)) d (record { handle = handle; at = positionOf k ends handle }) v))

@@ -109,7 +109,8 @@ module _ (q : ℕ → ℕ) (d : ℕ) (ss : List Stretch) where
       ∙ (entries-of-built (length (arranged q v ss)) (length (pick f v ss)) (length-upTo-mono f v d ss h) ∙ group-at f v d ss h)
 
 -- the row of a minimizer walks exactly the k-mers of that minimizer, in the order of the handles
-pub row-walks : (q : ℕ → ℕ) (d k : ℕ) (ends : List ℕ) (v : ℕ) → v < d → walk (rowOf (indexed q d k ends) v) ≡ pick (λ x. q (x .at)) v (numbered 1 (kmers k ends))
+pub row-walks : (q : ℕ → ℕ) (d k : ℕ) (ends : List ℕ) (v : ℕ) → v < d
+    → walk (rowOf (indexed q d k ends) v) ≡ pick (λ x. q (x .at)) v (numbered 1 (kmers k ends))
 row-walks q d k ends v h =
     ap walk (row-of-built q d (stretches q k ends) v h)
     ∙ (walk-pick q v (stretches q k ends) (stretches-even q k ends) ∙ ap (pick (λ x. q (x .at)) v) (walk-stretches q k ends))

@@ -52,7 +52,8 @@ unfolding walk openFrom
 walk-open q h a n zero = let e : n ≡ n + 0 = omega arith in append-nil (kmersOf (stretch h a n)) ∙ ap (λ (m : ℕ). kmersOf (stretch h a m)) e
 walk-open q h a n (suc left) = go (walk-open q h a (suc n) left) (walk-open q (h + n) (a + n) 1 left) (eqb (q (a + n)) (q a))
   where
-    go : walk (openFrom q h a (suc n) left) ≡ kmersOf (stretch h a (suc n + left)) → walk (openFrom q (h + n) (a + n) 1 left) ≡ kmersOf (stretch (h + n) (a + n) (1 + left))
+    go : walk (openFrom q h a (suc n) left) ≡ kmersOf (stretch h a (suc n + left))
+        → walk (openFrom q (h + n) (a + n) 1 left) ≡ kmersOf (stretch (h + n) (a + n) (1 + left))
         → (t : Bool) → walk (choose t (openFrom q h a (suc n) left) (stretch h a n ∷ openFrom q (h + n) (a + n) 1 left)) ≡ kmersOf (stretch h a (n + suc left))
     go more next true = let e : suc n + left ≡ n + suc left = omega arith in more ∙ ap (λ (m : ℕ). kmersOf (stretch h a m)) e
     go more next false =

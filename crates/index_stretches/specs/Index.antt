@@ -1,4 +1,5 @@
 -- The index: four tables, the rows that they hold, and when they do not fit (10). Minimizers are the numbers below d.
+-- Specification: 6.3, 6.4.
 use mathlib.Core.Bool.{Bool, _&&_}
 use mathlib.Core.List.{List, [], _∷_, map}
 use Prim.Native.Nat.{ℕ, zero, suc, _+_, _-_}
@@ -7,6 +8,7 @@ use lib.ListN.{length, getD}
 use Rattle.lists.specs.Count.{countFrom}
 use Rattle.lists.specs.Every.{every}
 use Rattle.lists.specs.Pick.{upTo}
+use Rattle.lists.specs.Limits.{mostLetters}
 use Rattle.index_stretches.specs.Stretches.{Stretch, stretch, stretches}
 
 -- Per stretch its first handle, the position of its first letter and its number of k-mers; and how many stretches stand before each minimizer, last the total.
@@ -56,10 +58,10 @@ rowOf t v = entries t (start t v) (start t (suc v) - start t v)
 
 -- ─── 10 ──────────────────────────────────────────────────────────────────────
 
--- A stretch fits N letters: no handle 0, no number 0, no last handle above 1,048,576, no letters beyond N. The last handle is first + number - 1, and the last letter
--- is letter at + number + k - 1.
+-- A stretch fits N letters: no handle 0, no number 0, no last handle above 1,048,576, no letters beyond N. The last handle is first + number - 1, and the last
+-- letter is letter at + number + k - 1.
 unfoldable pub stretchFits : ℕ → ℕ → Stretch → Bool
-stretchFits k N s = leb 1 (s .first) && (leb 1 (s .number) && (leb (s .first + s .number) 1048577 && leb (s .at + s .number + k) (N + 1)))
+stretchFits k N s = leb 1 (s .first) && (leb 1 (s .number) && (leb (s .first + s .number) (mostLetters + 1) && leb (s .at + s .number + k) (N + 1)))
 
 -- a row fits: its start does not exceed its end, nor its end the tables, and each of its stretches fits
 unfoldable pub rowFits : ℕ → ℕ → Index → ℕ → Bool
@@ -68,4 +70,5 @@ rowFits k N t v = leb (start t v) (start t (suc v)) && (leb (start t (suc v)) (l
 -- the fourth table is d + 1 long, and the other three are equally long, 1,048,576 at most
 unfoldable pub tablesFit : ℕ → Index → Bool
 tablesFit d t =
-    eqb (length (t .before)) (d + 1) && (eqb (length (t .positions)) (length (t .firsts)) && (eqb (length (t .numbers)) (length (t .firsts)) && leb (length (t .firsts)) 1048576))
+    eqb (length (t .before)) (d + 1) &&
+    (eqb (length (t .positions)) (length (t .firsts)) && (eqb (length (t .numbers)) (length (t .firsts)) && leb (length (t .firsts)) mostLetters))

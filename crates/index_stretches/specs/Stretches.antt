@@ -1,4 +1,5 @@
 -- Stretches: maximal rows of k-mers in one string with equal minimizers. `q a` is the minimizer of the k-mer at position a; nothing here asks how it is chosen.
+-- Specification: 6.2.
 use mathlib.Core.List.{List, [], _∷_, _++_}
 use Prim.Native.Nat.{ℕ, zero, suc, _+_}
 use lib.Dec.{eqb}
@@ -38,14 +39,14 @@ walk (s ∷ ss) = kmersOf s ++ walk ss
 
 -- ─── the stretches of a collection ───────────────────────────────────────────
 
--- The stretch that starts with handle h at position a has n k-mers so far, and `left` k-mers of the string are still to come: the next one belongs to it, or starts
--- a stretch of its own.
+-- The stretch that starts with handle h at position a has n k-mers so far, and `left` k-mers of the string are still to come: the next one belongs to it, or
+-- starts a stretch of its own.
 unfoldable pub openFrom : (ℕ → ℕ) → ℕ → ℕ → ℕ → ℕ → List Stretch
 openFrom q h a n zero = stretch h a n ∷ []
 openFrom q h a n (suc left) = choose (eqb (q (a + n)) (q a)) (openFrom q h a (suc n) left) (stretch h a n ∷ openFrom q (h + n) (a + n) 1 left)
 
--- The stretches of a string of n k-mers, the first of which has handle h and stands at position a. Each is of one minimizer (`stretches-even`), and none can go on
--- (`string-maximal`).
+-- The stretches of a string of n k-mers, the first of which has handle h and stands at position a. Each is of one minimizer (`stretches-even`), and none can go
+-- on (`string-maximal`).
 unfoldable pub ofString : (ℕ → ℕ) → ℕ → ℕ → ℕ → List Stretch
 ofString q h a zero = []
 ofString q h a (suc n) = openFrom q h a 1 n

@@ -1,6 +1,6 @@
 -- Laws of `All`, `every` and `same`. Assumes nothing.
 use mathlib.Core.Path.{_≡_, refl, sym, ap, ap₂, _∙_, subst}
-use mathlib.Core.Bool.{Bool, true, false, _&&_, false≢true}
+use mathlib.Core.Bool.{Bool, true, false, _&&_}
 use mathlib.Core.List.{List, [], _∷_, _++_}
 use Prim.Native.Nat.{ℕ, zero, suc, _+_, _<_, _≤_}
 use native.Mathlib.Nat.{not-suc-le-zero, le-of-suc-le-suc}
@@ -10,6 +10,7 @@ use lib.Dec.{eqb}
 use borrow.Author.Tests.{eqb-true, eq-eqb}
 use Rattle.lists.specs.Every.{All, every, same}
 use Rattle.lists.proofs.Storing.{drop-next}
+use Rattle.lists.proofs.Refuted.{never}
 
 -- ─── tests joined by `&&` ────────────────────────────────────────────────────
 
@@ -19,7 +20,7 @@ and-left false t e = e
 
 pub and-right : (s t : Bool) → (s && t) ≡ true → t ≡ true
 and-right true t e = e
-and-right false t e = absurd (false≢true e)
+and-right false t e = never e
 
 pub and-both : {s t : Bool} → s ≡ true → t ≡ true → (s && t) ≡ true
 and-both e f = ap₂ (λ (a b : Bool). a && b) e f
@@ -89,18 +90,33 @@ module _ {A : Type 0} where
   all-every test [] h = refl
   all-every test (x ∷ xs) h = and-both (h .0) (all-every test xs (h .1))
 
--- a loop that tests one element after the other: `good` is the test of those that passed
-module _ {A : Type 0} (test : A → Bool) (xs : List A) (i : ℕ) (d : A) (good : Bool) where
-  pub every-next : i < length xs → (t : Bool) → t ≡ test (getD xs i d) → every test xs ≡ (good && every test (drop i xs)) → every test xs ≡ ((good && t) && every test (drop (i + 1) xs))
-  unfolding every
-  every-next l t e q =
-      q
-      ∙ (ap (λ (ys : List A). good && every test ys) (drop-next xs i d l)
-      ∙ (and-assoc good (test (getD xs i d)) (every test (drop (i + 1) xs)) ∙ ap (λ (b : Bool). (good && b) && every test (drop (i + 1) xs)) (sym e)))
+-- A loop tests one element after the other: `good` is the test of the first i.
+pub record Tested {A : Type 0} (test : A → Bool) (xs : List A) (good : Bool) (i : ℕ) : Type 0 where
+  pub inside : i ≤ length xs
+  pub whole : every test xs ≡ (good && every test (drop i xs))
 
-  pub every-end : length xs ≤ i → every test xs ≡ (good && every test (drop i xs)) → good ≡ every test xs
+module _ {A : Type 0} (test : A → Bool) (xs : List A) where
+  -- none is tested yet
+  pub tested-none : Tested test xs true 0
+  tested-none = record { inside = omega arith; whole = refl }
+
+module _ {A : Type 0} {test : A → Bool} {xs : List A} {good : Bool} {i : ℕ} (s : Tested test xs good i) where
+  -- one more is
+  pub tested-next : (d : A) → i < length xs → {t : Bool} → t ≡ test (getD xs i d) → Tested test xs (good && t) (i + 1)
   unfolding every
-  every-end l q = sym (q ∙ (ap (λ (ys : List A). good && every test ys) (drop-of-length-le xs l) ∙ and-true good))
+  tested-next d l e =
+      record {
+        inside = omega arith;
+        whole =
+            s .whole
+            ∙ (ap (λ (ys : List A). good && every test ys) (drop-next xs i d l)
+            ∙ (and-assoc good (test (getD xs i d)) (every test (drop (i + 1) xs)) ∙ ap (λ (b : Bool). (good && b) && every test (drop (i + 1) xs)) (sym e)));
+      }
+
+  -- all are
+  pub tested-all : length xs ≤ i → good ≡ every test xs
+  unfolding every
+  tested-all l = sym (s .whole ∙ (ap (λ (ys : List A). good && every test ys) (drop-of-length-le xs l) ∙ and-true good))
 
 -- ─── equal lists of numbers ──────────────────────────────────────────────────
 
@@ -108,8 +124,8 @@ module _ {A : Type 0} (test : A → Bool) (xs : List A) (i : ℕ) (d : A) (good 
 pub same-is : (xs ys : List ℕ) → same xs ys ≡ true → xs ≡ ys
 unfolding same
 same-is [] [] e = refl
-same-is [] (y ∷ ys) e = absurd (false≢true e)
-same-is (x ∷ xs) [] e = absurd (false≢true e)
+same-is [] (y ∷ ys) e = never e
+same-is (x ∷ xs) [] e = never e
 same-is (x ∷ xs) (y ∷ ys) e =
     ap₂ (λ (n : ℕ) (l : List ℕ). n ∷ l) (eqb-true x y (and-left (eqb x y) (same xs ys) e)) (same-is xs ys (and-right (eqb x y) (same xs ys) e))
 

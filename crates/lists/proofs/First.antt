@@ -31,13 +31,18 @@ module _ {A : Type 0} (test : A → Bool) where
 
   -- ─── one element more behind ───────────────────────────────────────────────
 
-  first-snoc-from : (i : ℕ) (xs : List A) (x : A) → firstFrom test i (xs ++ (x ∷ [])) ≡ choose (eqb (firstFrom test i xs) 0) (choose (test x) (suc (i + length xs)) 0) (firstFrom test i xs)
+  first-snoc-from : (i : ℕ) (xs : List A) (x : A)
+      → firstFrom test i (xs ++ (x ∷ [])) ≡ choose (eqb (firstFrom test i xs) 0) (choose (test x) (suc (i + length xs)) 0) (firstFrom test i xs)
   unfolding firstFrom
   first-snoc-from i [] x = let q : suc i ≡ suc (i + 0) = omega arith in ap (λ (n : ℕ). choose (test x) n 0) q
   first-snoc-from i (y ∷ xs) x = go (test y) (first-snoc-from (suc i) xs x)
     where
-      go : (t : Bool) → firstFrom test (suc i) (xs ++ (x ∷ [])) ≡ choose (eqb (firstFrom test (suc i) xs) 0) (choose (test x) (suc (suc i + length xs)) 0) (firstFrom test (suc i) xs)
-          → choose t (suc i) (firstFrom test (suc i) (xs ++ (x ∷ []))) ≡ choose (eqb (choose t (suc i) (firstFrom test (suc i) xs)) 0) (choose (test x) (suc (i + suc (length xs))) 0) (choose t (suc i) (firstFrom test (suc i) xs))
+      go : (t : Bool)
+          → firstFrom test (suc i) (xs ++ (x ∷ []))
+          ≡ choose (eqb (firstFrom test (suc i) xs) 0) (choose (test x) (suc (suc i + length xs)) 0) (firstFrom test (suc i) xs)
+          → choose t (suc i) (firstFrom test (suc i) (xs ++ (x ∷ [])))
+          ≡ choose (eqb (choose t (suc i) (firstFrom test (suc i) xs)) 0) (choose (test x) (suc (i + suc (length xs))) 0)
+          (choose t (suc i) (firstFrom test (suc i) xs))
       go true ih = sym (ap (λ (b : Bool). choose b (choose (test x) (suc (i + suc (length xs))) 0) (suc i)) (ne-eqb (suc i) 0 (λ q. omega arith)))
       go false ih =
           let q : suc (suc i + length xs) ≡ suc (i + suc (length xs)) = omega arith in
@@ -48,7 +53,8 @@ module _ {A : Type 0} (test : A → Bool) where
   first-snoc-none xs x e =
       let q : suc (0 + length xs) ≡ length xs + 1 = omega arith in
       first-snoc-from 0 xs x
-      ∙ (ap (λ (b : Bool). choose b (choose (test x) (suc (0 + length xs)) 0) (firstThat test xs)) (eq-eqb (firstThat test xs) 0 e) ∙ ap (λ (n : ℕ). choose (test x) n 0) q)
+      ∙ (ap (λ (b : Bool). choose b (choose (test x) (suc (0 + length xs)) 0) (firstThat test xs)) (eq-eqb (firstThat test xs) 0 e)
+      ∙ ap (λ (n : ℕ). choose (test x) n 0) q)
 
   -- an element that does not meet the test changes nothing
   pub first-snoc-other : (xs : List A) (x : A) → test x ≡ false → firstThat test (xs ++ (x ∷ [])) ≡ firstThat test xs
@@ -65,7 +71,8 @@ module _ {A : Type 0} (test : A → Bool) where
   first-none-from i [] e = tt
   first-none-from i (x ∷ xs) e = go (test x) refl e (first-none-from (suc i) xs)
     where
-      go : (t : Bool) → test x ≡ t → choose t (suc i) (firstFrom test (suc i) xs) ≡ 0 → (firstFrom test (suc i) xs ≡ 0 → All (λ x. test x ≡ false) xs) → All (λ x. test x ≡ false) (x ∷ xs)
+      go : (t : Bool) → test x ≡ t → choose t (suc i) (firstFrom test (suc i) xs) ≡ 0 → (firstFrom test (suc i) xs ≡ 0 → All (λ x. test x ≡ false) xs)
+          → All (λ x. test x ≡ false) (x ∷ xs)
       go true q r ih = absurd (omega arith)
       go false q r ih = (q, ih r)
 
@@ -93,7 +100,8 @@ module _ {A : Type 0} (test : A → Bool) where
   first-found-from i [] p e = absurd (omega arith)
   first-found-from i (x ∷ xs) p e = go (test x) refl e (first-found-from (suc i) xs p)
     where
-      go : (t : Bool) → test x ≡ t → choose t (suc i) (firstFrom test (suc i) xs) ≡ suc p → (firstFrom test (suc i) xs ≡ suc p → FoundFrom (suc i) xs (suc p)) → FoundFrom i (x ∷ xs) (suc p)
+      go : (t : Bool) → test x ≡ t → choose t (suc i) (firstFrom test (suc i) xs) ≡ suc p → (firstFrom test (suc i) xs ≡ suc p → FoundFrom (suc i) xs (suc p))
+          → FoundFrom i (x ∷ xs) (suc p)
       go true q r ih =
           record {
             low = omega arith;

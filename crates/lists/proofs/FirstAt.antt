@@ -9,7 +9,8 @@ use lib.ListN.{length, getD}
 use Rattle.lists.specs.First.{firstFrom, firstThat}
 
 module _ {A : Type 0} (test : A → Bool) (d : A) where
-  first-at-from : (b : ℕ) (xs : List A) (i : ℕ) → i < length xs → test (getD xs i d) ≡ true → ((j : ℕ) → j < i → test (getD xs j d) ≡ false) → firstFrom test b xs ≡ suc (b + i)
+  first-at-from : (b : ℕ) (xs : List A) (i : ℕ) → i < length xs → test (getD xs i d) ≡ true → ((j : ℕ) → j < i → test (getD xs j d) ≡ false)
+      → firstFrom test b xs ≡ suc (b + i)
   unfolding firstFrom
   first-at-from b [] i l e h = absurd (not-suc-le-zero l)
   first-at-from b (x ∷ xs) zero l e h = rw e (omega arith)

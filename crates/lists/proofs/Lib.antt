@@ -1,8 +1,10 @@
 -- The laws of `specs/`, one file a topic.
+pub mod Refuted
 pub mod First
 pub mod FirstAt
 pub mod Every
 pub mod Storing
+pub mod Copying
 pub mod Count
 pub mod Agree
 pub mod Table

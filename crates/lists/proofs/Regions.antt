@@ -6,7 +6,24 @@ use mathlib.Core.List.{List, [], _∷_, _++_}
 use Prim.Native.Nat.{ℕ, zero, suc, _+_, _-_, _<_, _≤_}
 use native.Mathlib.Omega.{arith}
 use lib.ListN.{length, getD, take, drop, set, length-drop, length-set}
-use lib.Seq.{length-take-le, take-at, drop-at, take-take, take-all, take-add, drop-drop, getD-take, getD-drop, getD-set-other, drop-set-add, drop-set-lt, take-set-lt, take-set-le, ext-getD}
+use lib.Seq.{
+  take-suc-set,
+  length-take-le,
+  take-at,
+  drop-at,
+  take-take,
+  take-all,
+  take-add,
+  drop-drop,
+  getD-take,
+  getD-drop,
+  getD-set-other,
+  drop-set-add,
+  drop-set-lt,
+  take-set-lt,
+  take-set-le,
+  ext-getD,
+}
 use borrow.Rule.Slice.PartMut.{putMid, postOf, same-len-mid, mid-len, take-put, drop-put}
 use Rattle.lists.specs.Regions.{part, Apart, Off, Clear, Among, Only}
 
@@ -105,6 +122,11 @@ module _ {A : Type 0} where
   pub part-set : (b n : ℕ) (w : List A) (i : ℕ) (x : A) → i < n → part b n (set w (b + i) x) ≡ set (part b n w) i x
   unfolding part
   part-set b n w i x h = rw (drop-set-add b w i x) (take-set-lt n (drop b w) i x h)
+
+  -- one entry more behind a part
+  pub part-grows : (w : List A) (b n : ℕ) (x : A) → b + n < length w → part b (suc n) (set w (b + n) x) ≡ part b n w ++ (x ∷ [])
+  unfolding part
+  part-grows w b n x l = rw (drop-set-add b w n x) (take-suc-set (drop b w) n x (simp length-drop (omega arith)))
 
   -- an entry stored outside it
   pub part-set-off : (b n : ℕ) (w : List A) (i : ℕ) (x : A) → (i < b) ⊎ (b + n ≤ i) → part b n (set w i x) ≡ part b n w

@@ -40,7 +40,8 @@ module _ {A : Type 0} where
   fill-again xs old between n e q = ap (λ (l : List A). xs ++ l) (ap (λ (m : ℕ). drop m between) e ∙ (q ∙ ap (λ (m : ℕ). drop m old) (sym e)))
 
   -- a part from `at` to the end was lent and filled: what that makes of the whole
-  pub put-lent : (at : ℕ) (xs old : List A) {part : List A} → part ≡ fill xs (take (length old - at) (drop at old)) → take at old ++ (part ++ drop (length old - at) (drop at old)) ≡ put at xs old
+  pub put-lent : (at : ℕ) (xs old : List A) {part : List A} → part ≡ fill xs (take (length old - at) (drop at old))
+      → take at old ++ (part ++ drop (length old - at) (drop at old)) ≡ put at xs old
   put-lent at xs old q =
       let l : length (drop at old) ≤ length old - at = rw length-drop (omega arith) in
       rw (q, take-all (length old - at) (drop at old) l, drop-of-length-le (drop at old) l, append-nil, drop-drop)
@@ -88,12 +89,19 @@ module _ {A : Type 0} where
       ∙ ap (λ (l : List A). take at table ++ l) (sym (append-assoc xs rest (drop (at + length (xs ++ rest)) table))))
 
   -- several entries stored at once
-  pub store-many : {size at : ℕ} {table target rest : List A} (xs : List A) → Storing size table target (xs ++ rest) at → Storing size (put at xs table) target rest (at + length xs)
+  pub store-many : {size at : ℕ} {table target rest : List A} (xs : List A) → Storing size table target (xs ++ rest) at
+      → Storing size (put at xs table) target rest (at + length xs)
   store-many {at = at} {table = table} {rest = rest} xs s =
       let l = length-append xs rest in
       let kept : length (put at xs table) ≡ length table =
       length-append (take at table) (xs ++ drop (at + length xs) table)
-      ∙ (omega (arith, s .room, length-take-le at table (omega (arith, s .room)), length-append xs (drop (at + length xs) table), length-drop (at + length xs) table)) in
+      ∙ (omega (
+        arith,
+        s .room,
+        length-take-le at table (omega (arith, s .room)),
+        length-append xs (drop (at + length xs) table),
+        length-drop (at + length xs) table,
+      )) in
       record {
         size-kept = kept ∙ s .size-kept;
         room = omega (arith, s .room);

@@ -1,4 +1,5 @@
 -- What a call leaves in a lent table.
+-- Specification: 8.5.
 use mathlib.Core.List.{List, _++_}
 use Prim.Native.Nat.{ℕ, _+_}
 use lib.ListN.{length, take, drop}

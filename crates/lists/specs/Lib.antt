@@ -7,3 +7,4 @@ pub mod Count
 pub mod Pairs
 pub mod Pick
 pub mod Regions
+pub mod Limits

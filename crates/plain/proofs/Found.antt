@@ -33,7 +33,8 @@ module _ (t : Spelling) where
   lowest-none w e handle s =
       true≢false
       (sym (is-same (s .word))
-      ∙ all-at (λ a. same (wordAt t.k t.letters a) w ≡ mathlib.Core.Bool.false) (kmers t.k t.ends) (first-none (λ a. same (wordAt t.k t.letters a) w) (kmers t.k t.ends) e) (handle - 1) 0 (omega (arith, s .low, s .high)))
+      ∙ all-at (λ a. same (wordAt t.k t.letters a) w ≡ mathlib.Core.Bool.false) (kmers t.k t.ends)
+      (first-none (λ a. same (wordAt t.k t.letters a) w) (kmers t.k t.ends) e) (handle - 1) 0 (omega (arith, s .low, s .high)))
 
   -- PLAIN's answer says what is so
   pub plain-says : (w : List ℕ) → Says t w (plainFound t w)
@@ -59,7 +60,8 @@ module _ (t : Spelling) where
           let q : suc (handle - 1) ≡ handle = omega arith in
           let a : other - 1 + 1 ≡ other = omega (arith, w .low) in
           let b : handle - 1 + 1 ≡ handle = omega arith in
-          let e : other - 1 ≡ handle - 1 = d (other - 1) (handle - 1) (omega (arith, w .low, w .high)) (omega arith) (inl (ap (wordOf t) a ∙ (w .word ∙ ap (wordOf t) (sym b)))) in
+          let e : other - 1 ≡ handle - 1 =
+          d (other - 1) (handle - 1) (omega (arith, w .low, w .high)) (omega arith) (inl (ap (wordOf t) a ∙ (w .word ∙ ap (wordOf t) (sym b)))) in
           ap (λ (n : ℕ). Found n Asked) (sym a ∙ (ap (λ (n : ℕ). n + 1) e ∙ b))
       go (as-turned other none s) = absurd (none handle own)
       go (absent none none') = absurd (none handle own)

@@ -1,4 +1,5 @@
 -- PLAIN: the handle of an asked word, by a scan of the collection.
+-- Specification: 9.10.
 use mathlib.Core.List.{List}
 use Prim.Native.Nat.{ℕ, zero, suc}
 use Rattle.lists.specs.Every.{same}

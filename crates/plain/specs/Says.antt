@@ -1,4 +1,5 @@
 -- What it means that a word stands in a collection, and what each answer of PLAIN says.
+-- Specification: 9.10, 12.2.
 use mathlib.Core.Path.{_≡_}
 use mathlib.Core.List.{List}
 use Prim.Native.Nat.{ℕ, _<_, _≤_}

@@ -10,6 +10,7 @@ ghost use lib.ListN.{length};
 ghost use Rattle.lists.specs.Choose.{choose};
 ghost use Rattle.lists.specs.Count.{countFrom};
 ghost use Rattle.lists.specs.Every.{every};
+ghost use Rattle.lists.specs.Limits.{mostLetters, mostK};
 ghost use Rattle.alphabet.specs.Letter.{isLetter};
 ghost use Rattle.words.specs.Word.{code, wordAt, spell};
 ghost use Rattle.collection.specs.Collection.{spelling};
@@ -37,8 +38,10 @@ fn scan_string(
     seen: usize,
 ) -> Seen
     requires { ⌜ every isLetter (now letters) ≡ true ⌝ }
-    requires { ⌜ (1 ≤ k) × (k ≤ 31) × (at + number + k ≤ length (now letters) + 1) × (passed + number ≤ 1048576) ⌝ }
-    ensures { λ r. ⌜ r ≡ scanFrom (λ a. eqb (code (wordAt k (now (letters .entry)) a)) asked) (λ a. eqb (code (wordAt k (now (letters .entry)) a)) turned) passed seen (countFrom at number) ⌝ }
+    requires { ⌜ (1 ≤ k) × (k ≤ mostK) × (at + number + k ≤ length (now letters) + 1) × (passed + number ≤ mostLetters) ⌝ }
+    ensures { λ r.
+        ⌜ r ≡ scanFrom (λ a. eqb (code (wordAt k (now (letters .entry)) a)) asked) (λ a. eqb (code (wordAt k (now (letters .entry)) a)) turned) passed seen
+        (countFrom at number) ⌝ }
 {
     let before = at + (k - 1);
     let mut c = words::inner::word_code(&letters[at..before]);
@@ -58,7 +61,9 @@ fn scan_string(
 // The pass over the k-mers of all strings.
 fn scan(k: usize, letters: &[u8], ends: &[u32], asked: u64, turned: u64) -> Seen
     requires { ⌜ Ready (spelling k (now letters) (now ends)) ⌝ }
-    ensures { λ r. ⌜ r ≡ scanFrom (λ a. eqb (code (wordAt k (now (letters .entry)) a)) asked) (λ a. eqb (code (wordAt k (now (letters .entry)) a)) turned) 0 0 (kmers k (now (ends .entry))) ⌝ }
+    ensures { λ r.
+        ⌜ r ≡ scanFrom (λ a. eqb (code (wordAt k (now (letters .entry)) a)) asked) (λ a. eqb (code (wordAt k (now (letters .entry)) a)) turned) 0 0
+        (kmers k (now (ends .entry))) ⌝ }
 {
     let mut at: usize = 0;
     let mut passed: usize = 0;

@@ -17,7 +17,8 @@ use Rattle.quick.specs.Asking.{turnedOf, askedOf}
 module _ (k : ℕ) (letters : List ℕ) (index : Index) (q : Question) where
   -- the second walk
   module _ (c : ℕ) where
-    pub turned-hit : (m : Met) (handle compared : ℕ) → m ≡ seek (isWord k letters (spelled k (q .turned))) c (walk (rowOf index (q .other))) → m ≡ Hit handle compared
+    pub turned-hit : (m : Met) (handle compared : ℕ) → m ≡ seek (isWord k letters (spelled k (q .turned))) c (walk (rowOf index (q .other)))
+        → m ≡ Hit handle compared
         → Found handle Turned compared ≡ turnedOf k letters index q c
     unfolding turnedOf metOr
     turned-hit m handle compared e f = ap (λ (x : Met). metOr Turned x Absent) (sym f ∙ e)

@@ -9,6 +9,7 @@ use lib.Dec.{eqb}
 use lib.ListN.{length, length-map}
 use Rattle.lists.specs.Choose.{choose}
 use Rattle.lists.specs.Every.{every}
+use Rattle.lists.specs.Limits.{mostLetters}
 use Rattle.lists.proofs.Every.{and-left, and-right, every-all}
 use Rattle.alphabet.specs.Letter.{letter, isLetter, twoBits}
 use Rattle.words.specs.Word.{Letters, code, spell, turn}
@@ -39,7 +40,7 @@ use Rattle.quick.specs.Judged.{Askable}
 -- what 2, 3 and 9 leave
 pub record Asking (k p : ℕ) (word : List ℕ) (N : ℕ) : Type 0 where
   pub sizes : Sizes k p
-  pub few : N ≤ 1048576
+  pub few : N ≤ mostLetters
   pub long : length word ≡ k
   pub letters : every isLetter word ≡ true
 
@@ -66,7 +67,8 @@ module _ {k p : ℕ} (word : List ℕ) (fits : p ≤ k) (long : length word ≡ 
   size-turned = length-turn w ∙ size
 
   -- what the machine finds for a word is its question
-  pub question-is : (asked turned row other : ℕ) → asked ≡ code (map twoBits word) → turned ≡ turnedCode k asked → row ≡ least p (k - p) asked → other ≡ least p (k - p) turned
+  pub question-is : (asked turned row other : ℕ) → asked ≡ code (map twoBits word) → turned ≡ turnedCode k asked → row ≡ least p (k - p) asked
+      → other ≡ least p (k - p) turned
       → question asked turned row other ≡ questionOf p w
   question-is asked turned row other e f g h =
       let c : asked ≡ code w = e ∙ ap code (spell-bits word (every-all isLetter word (letters))) in
@@ -113,7 +115,8 @@ module _ {k p : ℕ} {word : List ℕ} {N : ℕ} (a : Asking k p word N) where
   unfolding askedOf turnedOf quickFound
   asked-quick letters index =
       let s : spelled k (code asks) ≡ asks = ap (λ (n : ℕ). spelled n (code asks)) (sym many) ∙ spelled-code asks good in
-      let t : spelled k (code (turn asks)) ≡ turn asks = ap (λ (n : ℕ). spelled n (code (turn asks))) (sym many-turned) ∙ spelled-code (turn asks) (letters-turn asks good) in
+      let t : spelled k (code (turn asks)) ≡ turn asks =
+      ap (λ (n : ℕ). spelled n (code (turn asks))) (sym many-turned) ∙ spelled-code (turn asks) (letters-turn asks good) in
       ap₂
       (λ (u v : List ℕ).
       metOr Asked (seek (isWord k letters u) 0 (walk (rowOf index (minimizer p asks))))
@@ -132,7 +135,7 @@ tables-good d t e =
       record {
         positions-long = eqb-true (length (t .positions)) (length (t .firsts)) (and-left (eqb (length (t .positions)) (length (t .firsts))) _ f);
         numbers-long = eqb-true (length (t .numbers)) (length (t .firsts)) (and-left (eqb (length (t .numbers)) (length (t .firsts))) _ g);
-        few = leb-true (length (t .firsts)) 1048576 (and-right (eqb (length (t .numbers)) (length (t .firsts))) _ g);
+        few = leb-true (length (t .firsts)) mostLetters (and-right (eqb (length (t .numbers)) (length (t .firsts))) _ g);
       },
     )
 
@@ -157,6 +160,8 @@ module _ (d k N : ℕ) (t : Index) (row other : ℕ) where
   unfolding rowsVerdict
   row-wrong e f = sym (ap₂ (λ (a b : Bool). choose (a && (b && rowFits k N t other)) Good (Bad 10 0)) e f)
 
-  pub other-decides : (b : Bool) → tablesFit d t ≡ true → rowFits k N t row ≡ true → rowFits k N t other ≡ b → choose b Good (Bad 10 0) ≡ rowsVerdict d k N t row other
+  pub other-decides : (b : Bool) → tablesFit d t ≡ true → rowFits k N t row ≡ true → rowFits k N t other ≡ b
+      → choose b Good (Bad 10 0) ≡ rowsVerdict d k N t row other
   unfolding rowsVerdict
-  other-decides b e f g = sym (ap₂ (λ (x y : Bool). choose (x && (y && rowFits k N t other)) Good (Bad 10 0)) e f ∙ ap (λ (x : Bool). choose x Good (Bad 10 0)) g)
+  other-decides b e f g =
+      sym (ap₂ (λ (x y : Bool). choose (x && (y && rowFits k N t other)) Good (Bad 10 0)) e f ∙ ap (λ (x : Bool). choose x Good (Bad 10 0)) g)

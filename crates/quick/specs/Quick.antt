@@ -1,4 +1,5 @@
 -- QUICK: the handle of an asked word, by its row of the index and the row of its reverse complement.
+-- Specification: 9.8.
 use mathlib.Core.Bool.{_&&_}
 use mathlib.Core.List.{List}
 use Prim.Native.Nat.{ℕ, _^_}
@@ -27,8 +28,8 @@ unfoldable pub metOr : Side → Met → (ℕ → QuickAnswer) → QuickAnswer
 metOr side (Hit handle compared) next = Found handle side compared
 metOr side (Miss compared) next = next compared
 
--- The row of the word's minimizer is walked for the word, then the row of its reverse complement's for the turned word, also where the two are one. `z` gives a word
--- its minimizer.
+-- The row of the word's minimizer is walked for the word, then the row of its reverse complement's for the turned word, also where the two are one. `z` gives a
+-- word its minimizer.
 unfoldable pub quickFound : (List ℕ → ℕ) → ℕ → List ℕ → Index → List ℕ → QuickAnswer
 quickFound z k letters index w =
     metOr Asked (seek (isWord k letters w) 0 (walk (rowOf index (z w))))

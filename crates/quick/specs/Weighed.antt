@@ -1,4 +1,5 @@
 -- The weight of an asked word: QUICK, and then WEIGHT of the handle that it found.
+-- Specification: 9.9.
 use mathlib.Core.List.{List}
 use Prim.Native.Nat.{ℕ}
 use Rattle.weight.specs.declared.WeightAnswer.{WeightAnswer}

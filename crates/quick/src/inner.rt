@@ -9,6 +9,7 @@ ghost use mathlib.Core.Path.{_≡_};
 ghost use Prim.Native.Nat.{_^_, _≤_, _<_};
 ghost use lib.ListN.{length};
 ghost use Rattle.lists.specs.Every.{every};
+ghost use Rattle.lists.specs.Limits.{mostLetters, mostK};
 ghost use Rattle.alphabet.specs.Letter.{isLetter};
 ghost use Rattle.words.specs.Word.{spell};
 ghost use Rattle.index_stretches.specs.Index.{tables};
@@ -19,7 +20,7 @@ ghost use Rattle.quick.specs.Asking.{questionOf, askedOf, turnedOf};
 
 // The question for a judged word.
 pub fn question(k: usize, p: usize, word: &[u8]) -> Question
-    requires { ⌜ (1 ≤ p) × (p ≤ k) × (k ≤ 31) ⌝ }
+    requires { ⌜ (1 ≤ p) × (p ≤ k) × (k ≤ mostK) ⌝ }
     requires { ⌜ (length (now word) ≡ k) × (every isLetter (now word) ≡ true) ⌝ }
     ensures { λ r. ⌜ r ≡ questionOf p (spell (now (word .entry))) ⌝ }
 {
@@ -46,14 +47,16 @@ pub fn judge_index(
     numbers: &[u32],
     before: &[u32],
 ) -> Verdict
-    requires { ⌜ (k ≤ 31) × (p ≤ 8) × (n ≤ 1048576) × (q .row < 4 ^ p) × (q .other < 4 ^ p) ⌝ }
-    ensures { λ r. ⌜ r ≡ rowsVerdict (4 ^ p) k n (tables (now (firsts .entry)) (now (positions .entry)) (now (numbers .entry)) (now (before .entry))) (q .row) (q .other) ⌝ }
+    requires { ⌜ (k ≤ mostK) × (p ≤ 8) × (n ≤ mostLetters) × (q .row < 4 ^ p) × (q .other < 4 ^ p) ⌝ }
+    ensures { λ r.
+        ⌜ r ≡ rowsVerdict (4 ^ p) k n (tables (now (firsts .entry)) (now (positions .entry)) (now (numbers .entry)) (now (before .entry)))
+        (q .row) (q .other) ⌝ }
 {
     let bad = Verdict::Bad {
         number: 10,
         place: 0,
     };
-    let count = index_minimizers::inner::word_count(p);
+    let count = words::inner::word_count(p);
     if !quick_walks::inner::tables_fit(count, firsts, positions, numbers, before) {
         return bad;
     }
@@ -79,7 +82,9 @@ fn ask_turned(
 ) -> QuickAnswer
     requires { ⌜ Askable k (now letters) q × (compared ≤ 2 ^ 41) ⌝ }
     requires { ⌜ Row k (length (now letters)) (tables (now firsts) (now positions) (now numbers) (now before)) (q .other) ⌝ }
-    ensures { λ r. ⌜ r ≡ turnedOf k (now (letters .entry)) (tables (now (firsts .entry)) (now (positions .entry)) (now (numbers .entry)) (now (before .entry))) q compared ⌝ }
+    ensures { λ r.
+        ⌜ r ≡ turnedOf k (now (letters .entry))
+        (tables (now (firsts .entry)) (now (positions .entry)) (now (numbers .entry)) (now (before .entry))) q compared ⌝ }
 {
     let met = quick_walks::inner::walk_row(
         k,
@@ -115,7 +120,8 @@ pub fn ask(
     requires { ⌜ Askable k (now letters) q ⌝ }
     requires { ⌜ Row k (length (now letters)) (tables (now firsts) (now positions) (now numbers) (now before)) (q .row) ⌝ }
     requires { ⌜ Row k (length (now letters)) (tables (now firsts) (now positions) (now numbers) (now before)) (q .other) ⌝ }
-    ensures { λ r. ⌜ r ≡ askedOf k (now (letters .entry)) (tables (now (firsts .entry)) (now (positions .entry)) (now (numbers .entry)) (now (before .entry))) q ⌝ }
+    ensures { λ r.
+        ⌜ r ≡ askedOf k (now (letters .entry)) (tables (now (firsts .entry)) (now (positions .entry)) (now (numbers .entry)) (now (before .entry))) q ⌝ }
 {
     let met = quick_walks::inner::walk_row(
         k,

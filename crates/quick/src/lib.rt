@@ -32,7 +32,8 @@ pub enum WordAnswer {
     Refused { number: u32, place: usize },
 }
 
-// A word to be asked for, by its code and its reverse complement's, and the minimizers under which they are looked for: `row` for the word, `other` for the turned one.
+// A word to be asked for, by its code and its reverse complement's, and the minimizers under which they are looked for: `row` for the word, `other` for the
+// turned one.
 pub struct Question {
     pub asked: u64,
     pub turned: u64,
@@ -66,7 +67,9 @@ pub fn quick(
     numbers: &[u32],
     before: &[u32],
 ) -> QuickAnswer
-    ensures { λ r. ⌜ r ≡ quickOf k p (now (word .entry)) (now (letters .entry)) (tables (now (firsts .entry)) (now (positions .entry)) (now (numbers .entry)) (now (before .entry))) ⌝ }
+    ensures { λ r.
+        ⌜ r ≡ quickOf k p (now (word .entry)) (now (letters .entry))
+        (tables (now (firsts .entry)) (now (positions .entry)) (now (numbers .entry)) (now (before .entry))) ⌝ }
 {
     let a = judge_asked(k, p, word, letters.len());
     if let Verdict::Bad { number, place } = a {
@@ -109,7 +112,11 @@ pub fn weigh(
     run_firsts: &[u32],
     n: usize,
 ) -> WordAnswer
-    ensures { λ r. ⌜ r ≡ weighedOf (quickOf k p (now (word .entry)) (now (letters .entry)) (tables (now (firsts .entry)) (now (positions .entry)) (now (numbers .entry)) (now (before .entry)))) (now («run_weights» .entry)) (now («run_firsts» .entry)) n ⌝ }
+    ensures { λ r.
+        ⌜ r ≡ weighedOf
+        (quickOf k p (now (word .entry)) (now (letters .entry))
+        (tables (now (firsts .entry)) (now (positions .entry)) (now (numbers .entry)) (now (before .entry)))) (now («run_weights» .entry))
+        (now («run_firsts» .entry)) n ⌝ }
 {
     let answer = quick(k, p, word, letters, firsts, positions, numbers, before);
     let QuickAnswer::Found {

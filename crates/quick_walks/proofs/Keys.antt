@@ -51,7 +51,8 @@ stands-found h letters at n r finds i l e = finds i l (stands-meets h letters (a
 
 module _ (places key letters : List ℕ) where
   -- a pass over positions that looks at one more
-  pub finds-more : (at i : ℕ) (any here : Bool) → Finds places key letters at i any → (Meets places key letters (at + i) → here ≡ true) → Finds places key letters at (i + 1) (any || here)
+  pub finds-more : (at i : ℕ) (any here : Bool) → Finds places key letters at i any → (Meets places key letters (at + i) → here ≡ true)
+      → Finds places key letters at (i + 1) (any || here)
   finds-more at i any here all one =
       below-more (λ j. Meets places key letters (at + j) → (any || here) ≡ true) i (λ j l m. before any (all j l m)) (λ m. behind any (one m))
     where
@@ -79,9 +80,11 @@ module _ (places key letters : List ℕ) where
           true≢false (sym (finds (j - i) (omega arith) (subst (λ (a : ℕ). Meets places key letters a) p m)) ∙ e)
 
 -- a pass that stores what stands at each place
-pub holds-more : (f : ℕ → ℕ) (key : List ℕ) (t x : ℕ) → t < length key → ((u : ℕ) → u < t → f u ≡ getD key u 0) → x ≡ f t → (u : ℕ) → u < t + 1 → f u ≡ getD (set key t x) u 0
+pub holds-more : (f : ℕ → ℕ) (key : List ℕ) (t x : ℕ) → t < length key → ((u : ℕ) → u < t → f u ≡ getD key u 0) → x ≡ f t → (u : ℕ) → u < t + 1
+    → f u ≡ getD (set key t x) u 0
 holds-more f key t x l all e =
-    below-more (λ u. f u ≡ getD (set key t x) u 0) t (λ u b. all u b ∙ sym (getD-set-other key t u x 0 (λ q. omega arith))) (sym e ∙ sym (getD-set-same key t x 0 l))
+    below-more (λ u. f u ≡ getD (set key t x) u 0) t (λ u b. all u b ∙ sym (getD-set-other key t u x 0 (λ q. omega arith)))
+    (sym e ∙ sym (getD-set-same key t x 0 l))
 
 -- ─── words ───────────────────────────────────────────────────────────────────
 
@@ -99,7 +102,8 @@ word-stands k letters w a g e =
     sym (capitals bytes (subst Letters (sym q) g)) ∙ ap (map capital) q
 
 -- a word does not stand where its key is not found
-pub not-found : (k w : ℕ) (places key letters : List ℕ) (at n : ℕ) (r : Bool) → KeyOf (map capital (spelled k w)) places key → Finds places key letters at n r → r ≡ false
+pub not-found : (k w : ℕ) (places key letters : List ℕ) (at n : ℕ) (r : Bool) → KeyOf (map capital (spelled k w)) places key → Finds places key letters at n r
+    → r ≡ false
     → (i : ℕ) → i < n → isWord k letters (spelled k w) (at + i) ≡ false
 not-found k w places key letters at n r h finds e i l = go (isWord k letters (spelled k w) (at + i)) refl
   where

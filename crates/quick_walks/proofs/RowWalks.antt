@@ -6,6 +6,7 @@ use Prim.Native.Nat.{ℕ, zero, suc, _+_, _-_, _*_, _<_, _≤_}
 use native.Mathlib.Omega.{arith}
 use lib.ListN.{length, length-append}
 use Rattle.lists.specs.Every.{every}
+use Rattle.lists.specs.Limits.{mostLetters}
 use Rattle.lists.proofs.Every.{and-left, and-right}
 use Rattle.index_stretches.specs.Stretches.{Stretch, kmersOf, walk}
 use Rattle.index_stretches.proofs.Walks.{length-stretch}
@@ -18,13 +19,18 @@ use Rattle.quick_walks.proofs.Walks.{seek-on, seek-met, seek-none, miss
 
 -- ─── no row is too long to count ─────────────────────────────────────────────
 
-walk-long : (k N : ℕ) (ss : List Stretch) → every (stretchFits k N) ss ≡ true → length (walk ss) ≤ length ss * 1048576
+walk-long : (k N : ℕ) (ss : List Stretch) → every (stretchFits k N) ss ≡ true → length (walk ss) ≤ length ss * mostLetters
 unfolding every walk
 walk-long k N [] h = omega arith
 walk-long k N (s ∷ ss) h =
     let here = and-left (stretchFits k N s) (every (stretchFits k N) ss) h in
-    omega
-    (arith, length-append (kmersOf s) (walk ss), length-stretch s, room-few (room k N s here), walk-long k N ss (and-right (stretchFits k N s) (every (stretchFits k N) ss) h))
+    omega (
+      arith,
+      length-append (kmersOf s) (walk ss),
+      length-stretch s,
+      room-few (room k N s here),
+      walk-long k N ss (and-right (stretchFits k N s) (every (stretchFits k N) ss) h),
+    )
 
 length-entries : (t : Index) (i n : ℕ) → length (entries t i n) ≡ n
 unfolding entries
@@ -32,7 +38,7 @@ length-entries t i zero = refl
 length-entries t i (suc n) = ap suc (length-entries t (suc i) n)
 
 -- a row that fits has at most 2^40 k-mers
-pub row-short : (k N : ℕ) (t : Index) (v : ℕ) → rowFits k N t v ≡ true → length (t .firsts) ≤ 1048576 → length (walk (rowOf t v)) ≤ 1099511627776
+pub row-short : (k N : ℕ) (t : Index) (v : ℕ) → rowFits k N t v ≡ true → length (t .firsts) ≤ mostLetters → length (walk (rowOf t v)) ≤ 1099511627776
 row-short k N t v e few =
     let f = row-good t k N v e in
     let b = start t v in
@@ -41,12 +47,12 @@ row-short k N t v e few =
 
 -- ─── the loop ────────────────────────────────────────────────────────────────
 
--- `count` k-mers have been compared when the walk comes to stretch i, and the walk from there on gives the answer. At most 2^41 were compared before the row, and
--- at most 2^20 in each stretch.
+-- `count` k-mers have been compared when the walk comes to stretch i, and the walk from there on gives the answer. At most 2^41 were compared before the row,
+-- and at most 2^20 in each stretch.
 pub record Walking (test : ℕ → Bool) (k N : ℕ) (t : Index) (answer : Met) (e count i : ℕ) : Type 0 where
   pub inside : e ≤ length (t .firsts)
   pub fits : every (stretchFits k N) (entries t i (e - i)) ≡ true
-  pub few : count ≤ 2199023255552 + i * 1048576
+  pub few : count ≤ 2199023255552 + i * mostLetters
   pub rest : answer ≡ seek test count (walk (entries t i (e - i)))
 
 -- no stretch has been walked

@@ -9,6 +9,7 @@ use borrow.Author.Tests.{leb-true, le-leb}
 use lib.Dec.{leb}
 use lib.ListN.{length}
 use Rattle.lists.specs.Every.{every}
+use Rattle.lists.specs.Limits.{mostLetters}
 use Rattle.lists.proofs.Every.{and-left, and-right, and-assoc, and-true}
 use Rattle.index_stretches.specs.Stretches.{Stretch, kmersOf, walk}
 use Rattle.index_stretches.specs.Index.{Index, entry, entries, start, rowOf, stretchFits, rowFits}
@@ -52,7 +53,8 @@ module _ (t : Index) where
       go false p = refl
 
   -- one in its place fits exactly if each of its stretches does
-  pub row-each : (k N v : ℕ) → start t v ≤ start t (v + 1) → start t (v + 1) ≤ length (t .firsts) → rowFits k N t v ≡ every (stretchFits k N) (entries t (start t v) (start t (v + 1) - start t v))
+  pub row-each : (k N v : ℕ) → start t v ≤ start t (v + 1) → start t (v + 1) ≤ length (t .firsts)
+      → rowFits k N t v ≡ every (stretchFits k N) (entries t (start t v) (start t (v + 1) - start t v))
   unfolding rowFits rowOf
   row-each k N v p q =
       let n : suc v ≡ v + 1 = omega arith in
@@ -106,7 +108,7 @@ module _ (t : Index) where
 pub record Room (k N : ℕ) (s : Stretch) : Type 0 where
   pub low : 1 ≤ s .first
   pub some : 1 ≤ s .number
-  pub handles : s .first + s .number ≤ 1048577
+  pub handles : s .first + s .number ≤ mostLetters + 1
   pub letters : s .at + s .number + k ≤ N + 1
 
 pub room : (k N : ℕ) (s : Stretch) → stretchFits k N s ≡ true → Room k N s
@@ -117,10 +119,10 @@ room k N s e =
     record {
       low = leb-true 1 (s .first) (and-left (leb 1 (s .first)) _ e);
       some = leb-true 1 (s .number) (and-left (leb 1 (s .number)) _ b);
-      handles = leb-true (s .first + s .number) 1048577 (and-left (leb (s .first + s .number) 1048577) _ c);
-      letters = leb-true (s .at + s .number + k) (N + 1) (and-right (leb (s .first + s .number) 1048577) _ c);
+      handles = leb-true (s .first + s .number) (mostLetters + 1) (and-left (leb (s .first + s .number) (mostLetters + 1)) _ c);
+      letters = leb-true (s .at + s .number + k) (N + 1) (and-right (leb (s .first + s .number) (mostLetters + 1)) _ c);
     }
 
 -- a stretch that fits has no more than 1,048,576 k-mers
-pub room-few : {k N : ℕ} {s : Stretch} → Room k N s → s .number ≤ 1048576
+pub room-few : {k N : ℕ} {s : Stretch} → Room k N s → s .number ≤ mostLetters
 room-few r = omega (arith, r .low, r .handles)

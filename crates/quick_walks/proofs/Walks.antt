@@ -1,6 +1,6 @@
 -- Walks: k-mer by k-mer along a stretch, and stretch by stretch along a row. Assumes nothing.
 use mathlib.Core.Path.{_≡_, refl, sym, ap, ap₂, _∙_}
-use mathlib.Core.Bool.{Bool, true, false, true≢false, false≢true}
+use mathlib.Core.Bool.{Bool, true, false, true≢false}
 use mathlib.Core.List.{List, [], _∷_, _++_}
 use Prim.Native.Nat.{ℕ, zero, suc, _+_, _-_, _<_, _≤_}
 use native.Mathlib.Omega.{arith}
@@ -9,6 +9,7 @@ use lib.ListN.{length}
 use Rattle.lists.specs.Choose.{choose}
 use Rattle.lists.specs.Count.{countFrom}
 use Rattle.lists.proofs.Count.{count-start, count-next, count-end}
+use Rattle.lists.proofs.Refuted.{never}
 use Rattle.index_stretches.specs.Stretches.{Kmer, numbered, stretch, kmersOf}
 use Rattle.quick_walks.specs.declared.Met.{Met}
 use Rattle.quick_walks.specs.declared.Met.the-variants.{Hit, Miss}
@@ -78,9 +79,10 @@ unfolding seek countOf isMiss
 seek-on test c n [] ys e = ap (λ (m : Met). seek test (countOf m) ys) e
 seek-on test c n (x ∷ xs) ys e = go (test (x .at)) e (seek-on test (suc c) n xs ys)
   where
-    go : (b : Bool) → choose b (Hit (x .handle) (suc c)) (seek test (suc c) xs) ≡ Miss n → (seek test (suc c) xs ≡ Miss n → seek test (suc c) (xs ++ ys) ≡ seek test n ys)
+    go : (b : Bool) → choose b (Hit (x .handle) (suc c)) (seek test (suc c) xs) ≡ Miss n
+        → (seek test (suc c) xs ≡ Miss n → seek test (suc c) (xs ++ ys) ≡ seek test n ys)
         → choose b (Hit (x .handle) (suc c)) (seek test (suc c) (xs ++ ys)) ≡ seek test n ys
-    go true q ih = absurd (false≢true (ap isMiss q))
+    go true q ih = never (ap isMiss q)
     go false q ih = ih q
 
 -- one that met it is over
@@ -89,7 +91,8 @@ unfolding seek isMiss
 seek-met test c h n [] ys e = absurd (true≢false (ap isMiss e))
 seek-met test c h n (x ∷ xs) ys e = go (test (x .at)) e (seek-met test (suc c) h n xs ys)
   where
-    go : (b : Bool) → choose b (Hit (x .handle) (suc c)) (seek test (suc c) xs) ≡ Hit h n → (seek test (suc c) xs ≡ Hit h n → seek test (suc c) (xs ++ ys) ≡ Hit h n)
+    go : (b : Bool) → choose b (Hit (x .handle) (suc c)) (seek test (suc c) xs) ≡ Hit h n
+        → (seek test (suc c) xs ≡ Hit h n → seek test (suc c) (xs ++ ys) ≡ Hit h n)
         → choose b (Hit (x .handle) (suc c)) (seek test (suc c) (xs ++ ys)) ≡ Hit h n
     go true q ih = q
     go false q ih = ih q
@@ -100,8 +103,9 @@ unfolding seek countOf isMiss
 miss-counts test c n [] e = sym (ap countOf e) ∙ sym (add-zero c)
 miss-counts test c n (x ∷ xs) e = go (test (x .at)) e (miss-counts test (suc c) n xs)
   where
-    go : (b : Bool) → choose b (Hit (x .handle) (suc c)) (seek test (suc c) xs) ≡ Miss n → (seek test (suc c) xs ≡ Miss n → n ≡ suc c + length xs) → n ≡ c + suc (length xs)
-    go true q ih = absurd (false≢true (ap isMiss q))
+    go : (b : Bool) → choose b (Hit (x .handle) (suc c)) (seek test (suc c) xs) ≡ Miss n → (seek test (suc c) xs ≡ Miss n → n ≡ suc c + length xs)
+        → n ≡ c + suc (length xs)
+    go true q ih = never (ap isMiss q)
     go false q ih = omega (arith, ih q)
 
 -- no k-mers

@@ -31,12 +31,14 @@ bytes-test bytes w g l = go (every isLetter bytes) refl
         let good = every-all isLetter bytes e in
         sym
         (and-true (eqb (code (map twoBits bytes)) (code w))
-        ∙ (ap (λ (u : List ℕ). eqb (code u) (code w)) (spell-bits bytes good) ∙ code-test (spell bytes) w (code w) (length-map bytes letter ∙ l) (spell-letters bytes good) g refl))
+        ∙ (ap (λ (u : List ℕ). eqb (code u) (code w)) (spell-bits bytes good)
+        ∙ code-test (spell bytes) w (code w) (length-map bytes letter ∙ l) (spell-letters bytes good) g refl))
     go false e =
         not-same (spell bytes) w (λ q. true≢false (sym (letters-every bytes (subst Letters (sym q) g)) ∙ e))
         ∙ sym (and-no (eqb (code (map twoBits bytes)) (code w)) refl)
 
-module _ (k : ℕ) (letters : List ℕ) (a w c : ℕ) (small : w < 4 ^ k) (room : a + k ≤ length letters) (is : c ≡ code (map twoBits (take k (drop a letters)))) where
+module _ (k : ℕ) (letters : List ℕ) (a w c : ℕ) (small : w < 4 ^ k) (room : a + k ≤ length letters)
+    (is : c ≡ code (map twoBits (take k (drop a letters)))) where
   -- the k bytes from position a on are the word of code w
   pub word-test : isWord k letters (spelled k w) a ≡ (eqb c w && every isLetter (take k (drop a letters)))
   unfolding isWord

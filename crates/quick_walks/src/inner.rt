@@ -1,11 +1,12 @@
-// Rows of an index: whether they fit (10), and the walk of one: where eight letters of the word stand nowhere in a stretch, the stretch is passed; else a code rolls
-// along it, one step a k-mer, whatever k is.
+// Rows of an index: whether they fit (10), and the walk of one: where eight letters of the word stand nowhere in a stretch, the stretch is passed; else a code
+// rolls along it, one step a k-mer, whatever k is.
 use crate::Met;
 ghost use mathlib.Core.Bool.{true};
 ghost use mathlib.Core.List.{map};
 ghost use mathlib.Core.Path.{_≡_};
 ghost use Prim.Native.Nat.{_+_, _≤_, _<_, _^_};
 ghost use lib.ListN.{length, getD, take, drop};
+ghost use Rattle.lists.specs.Limits.{mostLetters, mostK};
 ghost use Rattle.index_stretches.specs.Stretches.{stretch, kmersOf, walk};
 ghost use Rattle.index_stretches.specs.Index.{tables, stretchFits, rowFits, tablesFit, rowOf};
 ghost use Rattle.quick_walks.specs.Judged.{Alike, Row};
@@ -33,7 +34,7 @@ pub fn tables_fit(
 
 // Whether a stretch fits n letters.
 fn stretch_fits(k: usize, n: usize, first: u32, at: u32, number: u32) -> bool
-    requires { ⌜ (k ≤ 31) × (n ≤ 1048576) ⌝ }
+    requires { ⌜ (k ≤ mostK) × (n ≤ mostLetters) ⌝ }
     ensures { λ r. ⌜ r ≡ stretchFits k n (stretch first at number) ⌝ }
 {
     (1 <= first)
@@ -52,7 +53,7 @@ pub fn row_fits(
     before: &[u32],
     v: usize,
 ) -> bool
-    requires { ⌜ (k ≤ 31) × (n ≤ 1048576) × (v + 1 < length (now before)) ⌝ }
+    requires { ⌜ (k ≤ mostK) × (n ≤ mostLetters) × (v + 1 < length (now before)) ⌝ }
     requires { ⌜ Alike (tables (now firsts) (now positions) (now numbers) (now before)) ⌝ }
     ensures { λ r. ⌜ r ≡ rowFits k n (tables (now (firsts .entry)) (now (positions .entry)) (now (numbers .entry)) (now (before .entry))) v ⌝ }
 {
@@ -73,10 +74,10 @@ pub fn row_fits(
     good
 }
 
-// Whether the k bytes from position a on, of code c, are the word of code w. Bytes that are no letters have codes too, so that equal codes need a second look; few
-// k-mers come so far.
+// Whether the k bytes from position a on, of code c, are the word of code w. Bytes that are no letters have codes too, so that equal codes need a second look;
+// few k-mers come so far.
 fn is_word(k: usize, letters: &[u8], a: usize, c: u64, w: u64) -> bool
-    requires { ⌜ (w < 4 ^ k) × (a + k ≤ length (now letters)) × (length (now letters) ≤ 1048576) × (k ≤ 31) ⌝ }
+    requires { ⌜ (w < 4 ^ k) × (a + k ≤ length (now letters)) × (length (now letters) ≤ mostLetters) × (k ≤ mostK) ⌝ }
     requires { ⌜ c ≡ code (map twoBits (take k (drop a (now letters)))) ⌝ }
     ensures { λ r. ⌜ r ≡ isWord k (now (letters .entry)) (spelled k w) a ⌝ }
 {
@@ -90,7 +91,7 @@ fn is_word(k: usize, letters: &[u8], a: usize, c: u64, w: u64) -> bool
 
 // The places of eight letters spread over n: the first, the last, and six between.
 pub fn spread(n: usize) -> [usize; 8]
-    requires { ⌜ (1 ≤ n) × (n ≤ 1048576) ⌝ }
+    requires { ⌜ (1 ≤ n) × (n ≤ mostLetters) ⌝ }
     ensures { λ r. ⌜ Within n r ⌝ }
 {
     let last = n - 1;
@@ -108,7 +109,7 @@ pub fn spread(n: usize) -> [usize; 8]
 
 // The letter at place i of the word of code w.
 fn letter_at(k: usize, w: u64, i: usize) -> u8
-    requires { ⌜ (i < k) × (k ≤ 31) ⌝ }
+    requires { ⌜ (i < k) × (k ≤ mostK) ⌝ }
     ensures { λ r. ⌜ r ≡ getD (map capital (spelled k w)) i 0 ⌝ }
 {
     alphabet::capital_of((w >> (2 * (k - 1 - i))) & 3)
@@ -116,7 +117,7 @@ fn letter_at(k: usize, w: u64, i: usize) -> u8
 
 // The key of the word of code w: its letters at the eight places.
 pub fn key_of(k: usize, w: u64, places: &[usize; 8]) -> [u8; 8]
-    requires { ⌜ (k ≤ 31) × Within k (now places) ⌝ }
+    requires { ⌜ (k ≤ mostK) × Within k (now places) ⌝ }
     ensures { λ r. ⌜ KeyOf (map capital (spelled k w)) (now (places .entry)) r ⌝ }
 {
     let mut key: [u8; 8] = [0; 8];
@@ -130,7 +131,7 @@ pub fn key_of(k: usize, w: u64, places: &[usize; 8]) -> [u8; 8]
 
 // Whether the key's letters stand from position a on. No branch, so that a loop over positions becomes vector code.
 fn meets(letters: &[u8], a: usize, places: &[usize; 8], key: &[u8; 8]) -> bool
-    requires { ⌜ (length (now letters) ≤ 1048576) × Inside (now places) (now letters) a ⌝ }
+    requires { ⌜ (length (now letters) ≤ mostLetters) × Inside (now places) (now letters) a ⌝ }
     ensures { λ r. ⌜ (Meets (now (places .entry)) (now (key .entry)) (now (letters .entry)) a → r ≡ true) ⌝ }
 {
     let mut good = true;
@@ -144,7 +145,7 @@ fn meets(letters: &[u8], a: usize, places: &[usize; 8], key: &[u8; 8]) -> bool
 
 // Whether they stand from one of the 16 positions from a on: one vector of positions.
 fn any_meets(letters: &[u8], a: usize, places: &[usize; 8], key: &[u8; 8]) -> bool
-    requires { ⌜ (length (now letters) ≤ 1048576) × Inside (now places) (now letters) (a + 15) ⌝ }
+    requires { ⌜ (length (now letters) ≤ mostLetters) × Inside (now places) (now letters) (a + 15) ⌝ }
     ensures { λ r. ⌜ Finds (now (places .entry)) (now (key .entry)) (now (letters .entry)) a 16 r ⌝ }
 {
     let mut any = false;
@@ -156,8 +157,8 @@ fn any_meets(letters: &[u8], a: usize, places: &[usize; 8], key: &[u8; 8]) -> bo
     any
 }
 
-// Whether what the key is of, n letters, may stand from one of so many positions from `at` on. False is sure. It looks at 16 positions at once, some of them behind
-// the last, and says true where these reach beyond the letters.
+// Whether what the key is of, n letters, may stand from one of so many positions from `at` on. False is sure. It looks at 16 positions at once, some of them
+// behind the last, and says true where these reach beyond the letters.
 pub fn may_stand(
     letters: &[u8],
     at: usize,
@@ -166,7 +167,7 @@ pub fn may_stand(
     places: &[usize; 8],
     key: &[u8; 8],
 ) -> bool
-    requires { ⌜ (at + count ≤ 1048577) × (n ≤ 1048576) × (length (now letters) ≤ 1048576) × Within n (now places) ⌝ }
+    requires { ⌜ (at + count ≤ mostLetters + 1) × (n ≤ mostLetters) × (length (now letters) ≤ mostLetters) × Within n (now places) ⌝ }
     ensures { λ r. ⌜ Finds (now (places .entry)) (now (key .entry)) (now (letters .entry)) at count r ⌝ }
 {
     let mut i = 0;
@@ -192,8 +193,8 @@ fn walk_stretch(
     number: usize,
     compared: u64,
 ) -> Met
-    requires { ⌜ (1 ≤ k) × (k ≤ 31) × (w < 4 ^ k) × (length (now letters) ≤ 1048576) ⌝ }
-    requires { ⌜ (at + number + k ≤ length (now letters) + 1) × (first ≤ 1048576) × (compared ≤ 2 ^ 42) ⌝ }
+    requires { ⌜ (1 ≤ k) × (k ≤ mostK) × (w < 4 ^ k) × (length (now letters) ≤ mostLetters) ⌝ }
+    requires { ⌜ (at + number + k ≤ length (now letters) + 1) × (first ≤ mostLetters) × (compared ≤ 2 ^ 42) ⌝ }
     ensures { λ r. ⌜ r ≡ seek (isWord k (now (letters .entry)) (spelled k w)) compared (kmersOf (stretch first at number)) ⌝ }
 {
     let before = at + (k - 1);
@@ -226,8 +227,8 @@ fn stretch_by_key(
     number: usize,
     compared: u64,
 ) -> Met
-    requires { ⌜ (1 ≤ k) × (k ≤ 31) × (w < 4 ^ k) × (length (now letters) ≤ 1048576) ⌝ }
-    requires { ⌜ (at + number + k ≤ length (now letters) + 1) × (first ≤ 1048576) × (compared ≤ 2 ^ 42) ⌝ }
+    requires { ⌜ (1 ≤ k) × (k ≤ mostK) × (w < 4 ^ k) × (length (now letters) ≤ mostLetters) ⌝ }
+    requires { ⌜ (at + number + k ≤ length (now letters) + 1) × (first ≤ mostLetters) × (compared ≤ 2 ^ 42) ⌝ }
     requires { ⌜ KeyOf (map capital (spelled k w)) (now places) (now key) ⌝ }
     ensures { λ r. ⌜ r ≡ seek (isWord k (now (letters .entry)) (spelled k w)) compared (kmersOf (stretch first at number)) ⌝ }
 {
@@ -253,10 +254,12 @@ fn row_by_key(
     v: usize,
     compared: u64,
 ) -> Met
-    requires { ⌜ (1 ≤ k) × (k ≤ 31) × (w < 4 ^ k) × (length (now letters) ≤ 1048576) × (compared ≤ 2 ^ 41) ⌝ }
+    requires { ⌜ (1 ≤ k) × (k ≤ mostK) × (w < 4 ^ k) × (length (now letters) ≤ mostLetters) × (compared ≤ 2 ^ 41) ⌝ }
     requires { ⌜ Row k (length (now letters)) (tables (now firsts) (now positions) (now numbers) (now before)) v ⌝ }
     requires { ⌜ KeyOf (map capital (spelled k w)) (now places) (now key) ⌝ }
-    ensures { λ r. ⌜ r ≡ seek (isWord k (now (letters .entry)) (spelled k w)) compared (walk (rowOf (tables (now (firsts .entry)) (now (positions .entry)) (now (numbers .entry)) (now (before .entry))) v)) ⌝ }
+    ensures { λ r.
+        ⌜ r ≡ seek (isWord k (now (letters .entry)) (spelled k w)) compared
+        (walk (rowOf (tables (now (firsts .entry)) (now (positions .entry)) (now (numbers .entry)) (now (before .entry))) v)) ⌝ }
 {
     let end = before[v + 1] as usize;
     let mut count = compared;
@@ -287,9 +290,11 @@ pub fn walk_row(
     v: usize,
     compared: u64,
 ) -> Met
-    requires { ⌜ (1 ≤ k) × (k ≤ 31) × (w < 4 ^ k) × (length (now letters) ≤ 1048576) × (compared ≤ 2 ^ 41) ⌝ }
+    requires { ⌜ (1 ≤ k) × (k ≤ mostK) × (w < 4 ^ k) × (length (now letters) ≤ mostLetters) × (compared ≤ 2 ^ 41) ⌝ }
     requires { ⌜ Row k (length (now letters)) (tables (now firsts) (now positions) (now numbers) (now before)) v ⌝ }
-    ensures { λ r. ⌜ r ≡ seek (isWord k (now (letters .entry)) (spelled k w)) compared (walk (rowOf (tables (now (firsts .entry)) (now (positions .entry)) (now (numbers .entry)) (now (before .entry))) v)) ⌝ }
+    ensures { λ r.
+        ⌜ r ≡ seek (isWord k (now (letters .entry)) (spelled k w)) compared
+        (walk (rowOf (tables (now (firsts .entry)) (now (positions .entry)) (now (numbers .entry)) (now (before .entry))) v)) ⌝ }
 {
     let places = spread(k);
     let key = key_of(k, w, &places);

@@ -1,5 +1,5 @@
--- What the table holds after the sort, from what its steps leave: codes, then the numbers of the k-mers, then the sieve, then the sort by code. Each step leaves what the
--- others wrote. Assumes nothing.
+-- What the table holds after the sort, from what its steps leave: codes, then the numbers of the k-mers, then the sieve, then the sort by code. Each step
+-- leaves what the others wrote. Assumes nothing.
 use mathlib.Core.Path.{_≡_, sym, ap, ap₂, subst, _∙_}
 use mathlib.Core.Logic.{inl, inr, ⊎-elim}
 use mathlib.Core.List.{List, [], _∷_}
@@ -8,6 +8,7 @@ use native.Mathlib.Nat.{zero-add}
 use native.Mathlib.Omega.{arith}
 use lib.ListN.{length, getD}
 use Rattle.lists.specs.Regions.{part, Off, Only}
+use Rattle.lists.specs.Limits.{mostLetters}
 use Rattle.lists.proofs.Every.{all-at}
 use Rattle.lists.proofs.Regions.{part-at, part-length, among-part, among-trans, among-wider}
 use Rattle.words.specs.Word.{wordAt}
@@ -25,7 +26,7 @@ use Rattle.repeats_canonical.specs.Codes.{canonical, heldAt, Coded}
 use Rattle.repeats.specs.Order.{idAt, PlaceOf, Ordered}
 
 -- few k-mers: no more than letters
-pub few-kmers : {t : Spelling} → Ready t → length (kmers t.k t.ends) ≤ 1048576
+pub few-kmers : {t : Spelling} → Ready t → length (kmers t.k t.ends) ≤ mostLetters
 few-kmers {t} r =
     omega (arith, kmers-length t.k 0 0 t.ends (r .ends-long .k-low) (r .ends-long .long), r .ends-last, r .few-letters)
 
@@ -118,7 +119,8 @@ module _ (k : ℕ) (letters positions : List ℕ) (n m : ℕ) (w u t s v : List 
                 subst (λ (x : ℕ). x ≤ heldAt n v (idAt n v j)) a (subst (λ (y : ℕ). key (idAt n v i) ≤ y) b d);
             rise =
                 λ i j h g e.
-                sorted-rise key o fits (l .sieved .rises) i j h g (key-held (idAt n v i) (inside i (omega arith)) ∙ (e ∙ sym (key-held (idAt n v j) (inside j g))));
+                sorted-rise key o fits (l .sieved .rises) i j h g
+                (key-held (idAt n v i) (inside i (omega arith)) ∙ (e ∙ sym (key-held (idAt n v j) (inside j g))));
             place = places;
             rest =
                 among-trans _ w u v (among-wider _ _ w u (c .rest) (λ i q. let b = behind i q in (inr (omega arith), (inr (omega arith), tt))))

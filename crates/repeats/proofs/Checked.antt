@@ -3,26 +3,22 @@
 use mathlib.Core.Path.{_≡_, refl, sym, ap, _∙_}
 use mathlib.Core.List.{List}
 use Prim.Native.Nat.{ℕ, _*_, _≤_}
-use native.Mathlib.Omega.{arith}
 use lib.ListN.{length}
+use Rattle.lists.proofs.Refuted.{refuted}
 use Rattle.collection.specs.Collection.{Collection, spellingOf}
 use Rattle.collection.specs.declared.Verdict.the-variants.{Good}
 use Rattle.collection.specs.Judge.{kmersIn, collectionVerdict, Passes}
 use Rattle.collection.specs.Kmers.{kmers}
 use Rattle.collection.specs.Verdict.{atPlace}
 use Rattle.collection.proofs.Judged.{collection-good}
-use Rattle.collection.proofs.Kmers.{kmers-counted}
 use Rattle.collection.proofs.Verdicts.{both-good, room-good, good-room, then-good, settled, place-none, place-good, done-by}
 use Rattle.collection.specs.Ready.{Ready}
 use Rattle.collection.proofs.Ready.{judged-ready}
+use Rattle.collection.proofs.Strung.{each-weighed}
 use Rattle.repeats.specs.declared.CheckAnswer.{CheckAnswer}
 use Rattle.repeats.specs.declared.CheckAnswer.the-variants.{Checked, Refused}
 use Rattle.repeats.specs.Check.{checkVerdict, checkOf, outcome, Outcome, firstRepeat, Accepted}
 use Rattle.repeats.proofs.Repeats.{none-distinct, distinct-none}
-
--- no refusal is an answer of success
-never : {number place m : ℕ} → Refused number place ≡ Checked m → ⊥
-never e = let z : _≡_ {A = ℕ} 0 1 = cc in omega arith
 
 module _ (c : Collection) where
   abbrev n : ℕ
@@ -48,7 +44,7 @@ module _ (c : Collection) where
         passes = a .0;
         enough = room-good room _ (a .1);
         counted = j .counted;
-        each = j .counted ∙ sym (kmers-counted (j .shape));
+        each = each-weighed j;
         ready = judged-ready j;
       }
 
@@ -66,8 +62,9 @@ module _ (c : Collection) where
     pub check-distinct : (m : ℕ) → checkOf c work .answer ≡ Checked m → Accepted c (length work) × (m ≡ n)
     unfolding checkOf
     check-distinct m e =
-        let a = done-by (λ (o : Outcome). o .answer) (checkVerdict c (length work)) _ _ (Checked m) (λ number place q. never q) e in
-        let b = done-by (λ (r : CheckAnswer). r) (atPlace 7 (firstRepeat (spellingOf c))) Refused (Checked n) (Checked m) (λ number place q. never q) (a .2) in
+        let a = done-by (λ (o : Outcome). o .answer) (checkVerdict c (length work)) _ _ (Checked m) (λ number place q. refuted (cc)) e in
+        let b = done-by (λ (r : CheckAnswer). r) (atPlace 7 (firstRepeat (spellingOf c))) Refused (Checked n) (Checked m) (λ number place q. refuted (cc))
+        (a .2) in
         let s = check-started (length work) (a .0) in
         (record { passes = s .passes; enough = s .enough; distinct = none-distinct (spellingOf c) (s .ready) (place-good 7 _ (b .0)) }, same-count (b .2))
 

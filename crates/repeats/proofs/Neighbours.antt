@@ -1,5 +1,5 @@
--- The least that stands behind a neighbour of its own key: how a loop over the places finds it, and that in an order by keys it is the least that has the key of
--- a smaller one. Between two of one key all have that key, so the later one has such a neighbour before it. Assumes nothing.
+-- The least that stands behind a neighbour of its own key: how a loop over the places finds it, and that in an order by keys it is the least that has the key
+-- of a smaller one. Between two of one key all have that key, so the later one has such a neighbour before it. Assumes nothing.
 use mathlib.Core.Path.{_≡_, refl, sym, ap, subst, _∙_}
 use mathlib.Core.Bool.{Bool, true, false, _&&_}
 use mathlib.Core.Logic.{_⊎_, inl, inr, ⊎-elim}
@@ -34,7 +34,8 @@ module _ (key order : ℕ → ℕ) (n m : ℕ) where
         let a : order i < r = ltb-true (order i) r (and-left (ltb (order i) r) _ e) in
         let q : i - 1 + 1 ≡ i = omega arith in
         record {
-          lowest = λ j h e'. ⊎-elim (λ (x : j + 1 < i). omega (arith, s .lowest j x e')) (λ (x : i ≤ j + 1). let z : j + 1 ≡ i = omega arith in rw z (omega arith)) (lt-or-le (j + 1) i);
+          lowest = λ j h e'. ⊎-elim (λ (x : j + 1 < i). omega (arith, s .lowest j x e'))
+              (λ (x : i ≤ j + 1). let z : j + 1 ≡ i = omega arith in rw z (omega arith)) (lt-or-le (j + 1) i);
           found = inr (i - 1, omega arith, eqb-true _ _ (and-right (ltb (order i) r) _ e) ∙ ap (λ (t : ℕ). key (order t)) (sym q), ap order q);
         }
 
@@ -84,11 +85,13 @@ module _ (key order : ℕ → ℕ) (n m r : ℕ)
             ⊎-elim
             (λ (a : p .0 < q .0).
             let z : q .0 - 1 + 1 ≡ q .0 = omega arith in
-            let f : key (order (q .0 - 1)) ≡ key (order (q .0)) = omega (arith, sorted (p .0) (q .0 - 1) (omega arith) (omega (arith, q .1)), sorted (q .0 - 1) (q .0) (omega arith) (q .1)) in
+            let f : key (order (q .0 - 1)) ≡ key (order (q .0)) =
+            omega (arith, sorted (p .0) (q .0 - 1) (omega arith) (omega (arith, q .1)), sorted (q .0 - 1) (q .0) (omega arith) (q .1)) in
             let g : r ≤ order (q .0 - 1 + 1) = s .lowest (q .0 - 1) (omega (arith, q .1)) (f ∙ ap (λ (t : ℕ). key (order t)) (sym z)) in
             omega (arith, ap order z, q .2))
             (λ (a : q .0 ≤ p .0).
             ⊎-elim (λ (b : p .0 ≡ q .0). absurd (let w : ⊥ = omega (arith, ap order b, p .2, q .2, t .1) in w))
-            (λ (b : p .0 ≡ q .0 → ⊥). absurd (let v : q .0 < p .0 = omega arith in let w : ⊥ = omega (arith, rise (q .0) (p .0) v (p .1) (sym e), p .2, q .2, t .1) in w))
+            (λ (b : p .0 ≡ q .0 → ⊥). absurd
+            (let v : q .0 < p .0 = omega arith in let w : ⊥ = omega (arith, rise (q .0) (p .0) v (p .1) (sym e), p .2, q .2, t .1) in w))
             (eq-or-ne (p .0) (q .0)))
             (lt-or-le (p .0) (q .0))

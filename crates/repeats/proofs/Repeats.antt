@@ -135,15 +135,17 @@ module _ (t : Spelling) where
 
     -- and equal canonical codes are equal words, turned or not
     twin-again : (key : ℕ → ℕ) → ((x : ℕ) → x < n → key x ≡ canonical (word x)) → (x : ℕ) → x < n → Twin key x → Again x
-    twin-again key h x l t₁ =
-        let g : t₁ .0 < n = omega (arith, t₁ .1) in (
-          t₁ .0,
-          t₁ .1,
-          canonical-alike (word x) (word (t₁ .0)) (word-length r _ (fits x l) ∙ sym (word-length r _ (fits (t₁ .0) g))) (spelt x) (spelt (t₁ .0)) (sym (h x l) ∙ (sym (t₁ .2) ∙ h (t₁ .0) g)),
+    twin-again key h x l twin =
+        let g : twin .0 < n = omega (arith, twin .1) in (
+          twin .0,
+          twin .1,
+          canonical-alike (word x) (word (twin .0)) (word-length r _ (fits x l) ∙ sym (word-length r _ (fits (twin .0) g))) (spelt x) (spelt (twin .0))
+              (sym (h x l) ∙ (sym (twin .2) ∙ h (twin .0) g)),
         )
 
     -- The least that stands behind a neighbour of its own code, in the order of codes, is the first repeat.
-    module _ (m : ℕ) (all : m ≡ n) (p : ℕ) (w v : List ℕ) (o : Ordered t.k t.letters (kmers t.k t.ends) m p w v) (least : ℕ) (s : Least (heldAt m v) (idAt m v) m p p least) where
+    module _ (m : ℕ) (all : m ≡ n) (p : ℕ) (w v : List ℕ) (o : Ordered t.k t.letters (kmers t.k t.ends) m p w v) (least : ℕ)
+        (s : Least (heldAt m v) (idAt m v) m p p least) where
       held : (x : ℕ) → x < n → heldAt m v x ≡ canonical (word x)
       held x l = o .held x (omega arith)
 

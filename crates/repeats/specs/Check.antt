@@ -1,4 +1,5 @@
 -- CHECK: the collection is judged, and no word in it may repeat, turned or not.
+-- Specification: 3.4, 9.3.
 use mathlib.Core.Bool.{Bool, false, _||_}
 use mathlib.Core.List.{List, [], _∷_}
 use Prim.Native.Nat.{ℕ, _-_, _*_, _≤_}

@@ -1,5 +1,5 @@
--- Inner: the order in which CHECK looks at the k-mers, which its promise does not cite. Of the 4n entries of work the first 2n hold their codes, the next n the k-mers that a sieve leaves, in a new order, and the last n are
--- counters and a buffer. K-mers are counted from 0 here.
+-- Inner: the order in which CHECK looks at the k-mers, which its promise does not cite. Of the 4n entries of work the first 2n hold their codes, the next n the
+-- k-mers that a sieve leaves, in a new order, and the last n are counters and a buffer. K-mers are counted from 0 here.
 use mathlib.Core.Path.{_≡_}
 use mathlib.Core.Logic.{_⊎_}
 use mathlib.Core.List.{List}
@@ -17,8 +17,8 @@ idAt n w i = getD w (n + n + i) 0
 abbrev pub PlaceOf : ℕ → ℕ → List ℕ → ℕ → Type 0
 PlaceOf n m v x = (i : ℕ) × (i < m) × (idAt n v i ≡ x)
 
--- The table w before and v after: v holds the canonical codes of the k-mers at these positions, and m of the n k-mers stand in the order of their codes, those of
--- one code in their own order. Any two of one code are among them. Nothing behind the first 4n entries is written.
+-- The table w before and v after: v holds the canonical codes of the k-mers at these positions, and m of the n k-mers stand in the order of their codes, those
+-- of one code in their own order. Any two of one code are among them. Nothing behind the first 4n entries is written.
 pub record Ordered (k : ℕ) (letters positions : List ℕ) (n m : ℕ) (w v : List ℕ) : Type 0 where
   pub few : m ≤ n
   pub held : (x : ℕ) → x < n → heldAt n v x ≡ canonical (wordAt k letters (getD positions x 0))

@@ -39,7 +39,8 @@ fn answer(repeat: usize, n: usize) -> CheckAnswer
     }
 }
 
-// CHECK: 2 to 6, 1, then 7, at the lowest handle whose word or its reverse complement stands earlier. After 7 and after success the first 4n entries of work are 0.
+// CHECK: 2 to 6, 1, then 7, at the lowest handle whose word or its reverse complement stands earlier. After 7 and after success the first 4n entries of work
+// are 0.
 pub fn check(
     k: usize,
     letters: &[u8],
@@ -47,7 +48,8 @@ pub fn check(
     weights: &[u32],
     work: &mut [u32],
 ) -> CheckAnswer
-    ensures { λ r. ⌜ outcome r (now (work .exit)) ≡ checkOf (collection k (now (letters .entry)) (now (ends .entry)) (now (weights .entry))) (now (work .entry)) ⌝ }
+    ensures { λ r.
+        ⌜ outcome r (now (work .exit)) ≡ checkOf (collection k (now (letters .entry)) (now (ends .entry)) (now (weights .entry))) (now (work .entry)) ⌝ }
 {
     let v = judge_check(k, letters, ends, weights, work.len());
     if let Verdict::Bad { number, place } = v {

@@ -47,6 +47,7 @@ canonical-alike u v l g h e =
     (λ (q : canonical v ≡ code (turn v)).
     inl
     (sym (turn-turn u g)
-    ∙ (ap turn (code-injective (turn u) (turn v) (length-turn u ∙ (l ∙ sym (length-turn v))) (letters-turn u g) (letters-turn v h) (sym p ∙ (e ∙ q))) ∙ turn-turn v h)))
+    ∙ (ap turn (code-injective (turn u) (turn v) (length-turn u ∙ (l ∙ sym (length-turn v))) (letters-turn u g) (letters-turn v h) (sym p ∙ (e ∙ q)))
+    ∙ turn-turn v h)))
     (least-cases (code v) (code (turn v))))
     (least-cases (code u) (code (turn u)))

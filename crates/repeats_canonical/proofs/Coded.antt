@@ -52,13 +52,15 @@ module _ (k : ℕ) (letters : List ℕ) (n : ℕ) where
           ∙ getD-set-other w p i h d (λ z. ⊎-elim (λ (g : i < p). omega arith) (λ (g : p + 1 ≤ i). omega arith) o)
 
   -- two rows one after the other
-  pub coded-append : (p : ℕ) (xs ys u v w : List ℕ) → p + length xs + length ys ≤ n → Coded k letters n p xs u v → Coded k letters n (p + length xs) ys v w → Coded k letters n p (xs ++ ys) u w
+  pub coded-append : (p : ℕ) (xs ys u v w : List ℕ) → p + length xs + length ys ≤ n → Coded k letters n p xs u v → Coded k letters n (p + length xs) ys v w
+      → Coded k letters n p (xs ++ ys) u w
   coded-append p xs ys u v w l s t =
       record {
         held = λ j h. ⊎-elim (λ (g : j < length xs). old j g) (λ (g : length xs ≤ j). new j g (omega (arith, len))) (lt-or-le j (length xs));
         rest =
             among-trans _ u v w (among-wider _ _ u v (s .rest) (λ i o. (left i (o .0) (omega (arith, len)), (left i (o .1 .0) (omega (arith, len)), tt))))
-            (among-wider _ _ v w (t .rest) (λ i o. (right i p (p + length xs) refl (o .0), (right i (n + p) (n + (p + length xs)) (omega arith) (o .1 .0), tt))));
+            (among-wider _ _ v w (t .rest)
+            (λ i o. (right i p (p + length xs) refl (o .0), (right i (n + p) (n + (p + length xs)) (omega arith) (o .1 .0), tt))));
       }
     where
       len : length (xs ++ ys) ≡ length xs + length ys
@@ -85,7 +87,8 @@ module _ (k : ℕ) (letters : List ℕ) (n : ℕ) where
           ∙ ap (λ (a : ℕ). canonical (wordAt k letters a)) (sym (ap (λ (i : ℕ). getD (xs ++ ys) i 0) f ∙ getD-append-add xs ys (j - length xs) 0)))
 
   -- one k-mer more of a string, as a loop's index counts
-  pub coded-next : (at p i c h l : ℕ) (u v : List ℕ) → p + i < n → n + n ≤ length v → c ≡ canonical (wordAt k letters (at + i)) → h ≡ c / 4294967296 → l ≡ c % 4294967296
+  pub coded-next : (at p i c h l : ℕ) (u v : List ℕ) → p + i < n → n + n ≤ length v → c ≡ canonical (wordAt k letters (at + i)) → h ≡ c / 4294967296
+      → l ≡ c % 4294967296
       → Coded k letters n p (countFrom at i) u v → Coded k letters n p (countFrom at (i + 1)) u (set (set v (p + i) h) (n + (p + i)) l)
   unfolding countFrom
   coded-next at p i c h l u v g f e x y s =

@@ -49,8 +49,9 @@ module _ (t : Spelling) (n : ℕ) (u : List ℕ) where
       coding-room = omega (arith, size, length-append (s .done ++ row) (kmersFrom t.k (getD t.ends i 0) (drop (i + 1) t.ends)), ap length longer)
 
       -- and are stored behind those before
-      pub coding-on : {w : List ℕ} → Coded t.k t.letters n passed row v w → Coding t n (i + 1) (getD t.ends i 0) (passed + within t.k before (getD t.ends i 0)) u w
-      coding-on {w} t₁ =
+      pub coding-on : {w : List ℕ} → Coded t.k t.letters n passed row v w
+          → Coding t n (i + 1) (getD t.ends i 0) (passed + within t.k before (getD t.ends i 0)) u w
+      coding-on {w} coded =
           let p : passed ≡ 0 + length (s .done) = omega (arith, s .counted) in
           record {
             done = s .done ++ row;
@@ -58,5 +59,5 @@ module _ (t : Spelling) (n : ℕ) (u : List ℕ) where
             split = longer;
             coded =
                 coded-append t.k t.letters n 0 (s .done) row u v w (omega (arith, size, coding-room, length-append (s .done) row)) (s .coded)
-                (subst (λ (m : ℕ). Coded t.k t.letters n m row v w) p t₁);
+                (subst (λ (m : ℕ). Coded t.k t.letters n m row v w) p coded);
           }

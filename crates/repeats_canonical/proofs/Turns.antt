@@ -10,6 +10,7 @@ use lib.Dec.{lit<, lit≤}
 use lib.ListN.{length, getD, take, drop, length-map, length-drop}
 use lib.Seq.{take-suc, drop-cons, getD-drop}
 use Rattle.lists.specs.Every.{All}
+use Rattle.lists.specs.Limits.{mostK}
 use Rattle.lists.proofs.Every.{all-take, all-drop, all-at}
 use Rattle.lists.proofs.Mapped.{map-at-below}
 use Rattle.alphabet.specs.Letter.{letter, isLetter, twoBits, paired}
@@ -28,7 +29,7 @@ pub record Turns (k : ℕ) (letters : List ℕ) (a c t : ℕ) : Type 0 where
   pub high : t / 4 ≡ code (turn (take (k - 1) (drop a (spell letters))))
   pub small : t < 4 ^ k
 
-module _ (k : ℕ) (letters : List ℕ) (k-low : 1 ≤ k) (k-high : k ≤ 31) (good : All (λ b. isLetter b ≡ true) letters) where
+module _ (k : ℕ) (letters : List ℕ) (k-low : 1 ≤ k) (k-high : k ≤ mostK) (good : All (λ b. isLetter b ≡ true) letters) where
   spelt : Letters (spell letters)
   spelt = spell-letters letters good
 
@@ -67,7 +68,7 @@ module _ (k : ℕ) (letters : List ℕ) (k-low : 1 ≤ k) (k-high : k ≤ 31) (g
 
     -- it fits 64 bits
     pub first-fits : turnedCode (k - 1) c * 4 < 18446744073709551616
-    first-fits = lt-of-lt-of-le (lt-of-lt-of-le first-small (pow-le-pow-right (lit< tt) k-high)) (lit≤ {m = 4 ^ 31} {n = 18446744073709551616} tt)
+    first-fits = lt-of-lt-of-le (lt-of-lt-of-le first-small (pow-le-pow-right (lit< tt) k-high)) (lit≤ {m = 4 ^ mostK} {n = 18446744073709551616} tt)
 
     -- before the first k-mer
     pub turns-begin : (t : ℕ) → t ≡ turnedCode (k - 1) c * 4 → Turns k letters (at + 0) c t
@@ -82,12 +83,14 @@ module _ (k : ℕ) (letters : List ℕ) (k-low : 1 ≤ k) (k-high : k ≤ 31) (g
 
   -- ─── the k-mer at a position ───────────────────────────────────────────────
 
-  turned-code-at : (a t x : ℕ) → a + k ≤ length letters → t / 4 ≡ code (turn (row (k - 1) a)) → x ≡ twoBits (getD letters (a + (k - 1)) 0) → rolledTurned k t x ≡ code (turn (wordAt k letters a))
+  turned-code-at : (a t x : ℕ) → a + k ≤ length letters → t / 4 ≡ code (turn (row (k - 1) a)) → x ≡ twoBits (getD letters (a + (k - 1)) 0)
+      → rolledTurned k t x ≡ code (turn (wordAt k letters a))
   turned-code-at a t x l h e =
       let q : suc (k - 1) ≡ k = omega arith in
       let i : a + (k - 1) < length letters = omega arith in
       let y : x ≡ getD (spell letters) (a + (k - 1)) 0 =
-      e ∙ (letter-bits (getD letters (a + (k - 1)) 0) (all-at (λ b. isLetter b ≡ true) letters good (a + (k - 1)) 0 i) ∙ sym (map-at-below letter 0 0 letters (a + (k - 1)) i)) in
+      e ∙ (letter-bits (getD letters (a + (k - 1)) 0) (all-at (λ b. isLetter b ≡ true) letters good (a + (k - 1)) 0 i)
+      ∙ sym (map-at-below letter 0 0 letters (a + (k - 1)) i)) in
       let w : List ℕ = row (k - 1) a in
       let n : length (turn w) ≡ k - 1 = length-turn w ∙ length-at (spell letters) (k - 1) a (omega (arith, size)) in
       let m : row k a ≡ w ++ (x ∷ []) =
@@ -109,7 +112,8 @@ module _ (k : ℕ) (letters : List ℕ) (k-low : 1 ≤ k) (k-high : k ≤ 31) (g
         turned-code-at (at + i) t x l (s .high) (e ∙ ap (λ (j : ℕ). twoBits (getD letters j 0)) q)
 
   -- and with them the pass goes on
-  pub turns-on : (at i c t : ℕ) → at + i + k ≤ length letters → c ≡ code (wordAt k letters (at + i)) → t ≡ code (turn (wordAt k letters (at + i))) → Turns k letters (at + (i + 1)) c t
+  pub turns-on : (at i c t : ℕ) → at + i + k ≤ length letters → c ≡ code (wordAt k letters (at + i)) → t ≡ code (turn (wordAt k letters (at + i)))
+      → Turns k letters (at + (i + 1)) c t
   turns-on at i c t l e h =
       let q : k ≡ suc (k - 1) = omega arith in
       let p : suc (at + i) ≡ at + (i + 1) = omega arith in

@@ -5,6 +5,7 @@ ghost use Prim.Native.Nat.{_+_, _/_, _%_, _≤_, min};
 ghost use lib.ListN.{length};
 ghost use Rattle.lists.specs.Count.{countFrom};
 ghost use Rattle.lists.specs.Every.{every};
+ghost use Rattle.lists.specs.Limits.{mostK};
 ghost use Rattle.alphabet.specs.Letter.{isLetter};
 ghost use Rattle.collection.specs.Collection.{spelling};
 ghost use Rattle.collection.specs.Kmers.{kmers};
@@ -44,7 +45,7 @@ fn code_string(
     passed: usize,
 )
     requires { ⌜ every isLetter (now letters) ≡ true ⌝ }
-    requires { ⌜ (1 ≤ k) × (k ≤ 31) × (at + number + k ≤ length (now letters) + 1) ⌝ }
+    requires { ⌜ (1 ≤ k) × (k ≤ mostK) × (at + number + k ≤ length (now letters) + 1) ⌝ }
     requires { ⌜ (passed + number ≤ n) × (n + n ≤ length (now work)) ⌝ }
     ensures { λ _. ⌜ Coded k (now (letters .entry)) n passed (countFrom at number) (now (work .entry)) (now (work .exit)) ⌝ }
 {

@@ -13,10 +13,9 @@ use Rattle.lists.specs.Pairs.{Pairs}
 use Rattle.lists.specs.Pick.{pick}
 use Rattle.lists.proofs.Compare.{lt-or-le, eq-or-ne}
 use Rattle.lists.proofs.Count.{count-at, length-count, all-count}
-use Rattle.lists.proofs.Every.{all-at}
 use Rattle.lists.proofs.Pairs.{count-rises}
 use Rattle.lists.proofs.Picks.{pick-nil, pick-here, pick-other, all-pick, length-pick-le}
-use Rattle.repeats_sieving.specs.Kept.{toTwo, toldOf, kept, Stands, Twin, TwinIn, Sieved}
+use Rattle.repeats_sieving.specs.Kept.{toTwo, toldOf, kept, Stands, Sieved}
 
 -- ─── up to 2 ─────────────────────────────────────────────────────────────────
 
@@ -151,22 +150,3 @@ sieved-kept {key} {n} {xs} f same s =
         (subst (λ (z : ℕ). Stands z (kept f xs)) (p .2) (k .0), subst (λ (z : ℕ). Stands z (kept f xs)) (q .2) (k .1)))
         (eq-or-ne (p .0) (q .0)))
         (lt-or-le (q .0) (p .0))
-
--- ─── the lowest that has the key of a smaller one ────────────────────────────
-
-module _ {key : ℕ → ℕ} {n : ℕ} {xs : List ℕ} (s : Sieved key n xs) where
-  -- an id has the key of a smaller one exactly if it has so among those that are left
-  pub twin-in : (x : ℕ) → x < n → Twin key x → TwinIn key xs x
-  twin-in x l t = let p = s .twins x (t .0) (t .1) l (t .2) in (p .0, (t .0, t .1, t .2, p .1))
-
-  pub in-twin : (x : ℕ) → TwinIn key xs x → (x < n) × Twin key x
-  in-twin x t =
-      (subst (λ (z : ℕ). z < n) (t .0 .2) (all-at (λ z. z < n) xs (s .inside) (t .0 .0) 0 (t .0 .1)), (t .1 .0, t .1 .1, t .1 .2))
-
-  -- so the lowest among those that are left is the lowest of all
-  pub lowest-in : (r : ℕ) → TwinIn key xs r → ((x : ℕ) → TwinIn key xs x → r ≤ x) → (r < n) × Twin key r × ((x : ℕ) → x < n → Twin key x → r ≤ x)
-  lowest-in r t low = (in-twin r t .0, in-twin r t .1, λ x l u. low x (twin-in x l u))
-
-  -- and where there is none among them, there is none
-  pub none-in : ((x : ℕ) → TwinIn key xs x → ⊥) → (x : ℕ) → x < n → Twin key x → ⊥
-  none-in h x l t = h x (twin-in x l t)

@@ -7,13 +7,13 @@ use Prim.Native.Nat.{ℕ, suc, _+_, _-_, _*_, _/_, _%_, _^_, _<_, _≤_}
 use native.Mathlib.Nat.{zero-div, mul-le-mul-right, suc-mul, div-lt-iff-lt-mul}
 use native.Mathlib.Numerals.{add-one}
 use native.Mathlib.Omega.{arith}
-use lib.ListN.{length, getD, take, drop, set, length-append, length-drop}
-use lib.Seq.{getD-set-same, getD-set-other, drop-set-add, take-suc-set, take-length}
+use lib.ListN.{length, getD, take, set, length-append}
+use lib.Seq.{getD-set-same, getD-set-other, take-length}
 use Rattle.lists.specs.Pick.{pick}
 use Rattle.lists.specs.Regions.{part, Only}
 use Rattle.lists.proofs.Compare.{lt-or-le, eq-or-ne}
 use Rattle.lists.proofs.Picks.{pick-nil, pick-take-here, pick-take-other}
-use Rattle.lists.proofs.Regions.{part-is, part-length, part-set-off, among-refl, only-set}
+use Rattle.lists.proofs.Regions.{part-is, part-length, part-set-off, among-refl, only-set, part-grows}
 use Rattle.repeats_sieving.specs.Kept.{toTwo, toldOf, kept}
 use Rattle.repeats_sieving.specs.Slots.{twoBits, bitOf, counterOf, Told, Grown, slotOf}
 use Rattle.repeats_sieving.proofs.Kept.{to-two-none, to-two-le, to-two-many, to-two-more, told-is, kept-is}
@@ -84,7 +84,10 @@ module _ (f : ℕ → ℕ) (entries : ℕ) (xs table : List ℕ) (i s r : ℕ) (
         ∙ (ap (λ (ys : List ℕ). toTwo (length ys)) (pick-take-other f i xs 0 h d (λ q. n (sym q ∙ e))) ∙ sym (told-is f (take i xs) d))
 
     beside : (d : ℕ) → (d ≡ s → ⊥) → d / 16 ≡ s / 16 → (bitOf s + 2 ≤ bitOf d) ⊎ (bitOf d + 2 ≤ bitOf s)
-    beside d n q = ⊎-elim (λ (a : s % 16 < d % 16). inl (omega arith)) (λ (a : d % 16 ≤ s % 16). ⊎-elim (λ (b : d % 16 < s % 16). inr (omega arith)) (λ (b : s % 16 ≤ d % 16). absurd (n (omega arith))) (lt-or-le (d % 16) (s % 16))) (lt-or-le (s % 16) (d % 16))
+    beside d n q =
+        ⊎-elim (λ (a : s % 16 < d % 16). inl (omega arith))
+        (λ (a : d % 16 ≤ s % 16). ⊎-elim (λ (b : d % 16 < s % 16). inr (omega arith)) (λ (b : s % 16 ≤ d % 16). absurd (n (omega arith)))
+        (lt-or-le (d % 16) (s % 16))) (lt-or-le (s % 16) (d % 16))
 
     entry : getD (set table (s / 16) r) (s / 16) 0 ≡ r
     entry = getD-set-same table (s / 16) r 0 (omega arith)
@@ -107,11 +110,6 @@ module _ (f : ℕ → ℕ) (entries : ℕ) (xs table : List ℕ) (i s r : ℕ) (
         (eq-or-ne d s)
 
 -- ─── keeping ─────────────────────────────────────────────────────────────────
-
--- one entry more behind a part
-part-grows : (out : List ℕ) (b n x : ℕ) → b + n < length out → part b (suc n) (set out (b + n) x) ≡ part b n out ++ (x ∷ [])
-unfolding part
-part-grows out b n x l = rw (drop-set-add b out n x) (take-suc-set (drop b out) n x (simp length-drop (omega arith)))
 
 -- Of the m ids xs at b of the table w the first i were looked at, and o of them are kept, in front in the table v.
 pub record Keeping (f : ℕ → ℕ) (b m : ℕ) (xs w v : List ℕ) (i o : ℕ) : Type 0 where
@@ -173,9 +171,11 @@ module _ (f : ℕ → ℕ) (b m : ℕ) (xs w : List ℕ) where
           }
 
   -- once all were looked at
-  pub keeping-all : (v : List ℕ) (i o : ℕ) → Keeping f b m xs w v i o → m ≤ i → length xs ≡ m → b + m ≤ length v → (o ≡ length (kept f xs)) × (part b o v ≡ kept f xs)
+  pub keeping-all : (v : List ℕ) (i o : ℕ) → Keeping f b m xs w v i o → m ≤ i → length xs ≡ m → b + m ≤ length v
+      → (o ≡ length (kept f xs)) × (part b o v ≡ kept f xs)
   keeping-all v i o k h size room =
       let z : i ≡ length xs = omega (arith, k .inside) in
       let p : part b o v ≡ kept f xs =
-      k .front ∙ (ap (λ (n : ℕ). pick (λ x. toldOf f xs (f x)) 2 (take n xs)) z ∙ (ap (pick (λ x. toldOf f xs (f x)) 2) (take-length xs) ∙ sym (kept-is f xs))) in
+      k .front ∙ (ap (λ (n : ℕ). pick (λ x. toldOf f xs (f x)) 2 (take n xs)) z ∙ (ap (pick (λ x. toldOf f xs (f x)) 2) (take-length xs) ∙ sym (kept-is f xs)))
+      in
       (sym (part-length b o v (omega (arith, k .below, k .inside))) ∙ ap length p, p)

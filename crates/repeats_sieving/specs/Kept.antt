@@ -1,4 +1,4 @@
--- A sieve of ids: those are kept whose slot has another id. A slot is any number that a function f gives an id.
+-- Inner: a sieve of ids: those are kept whose slot has another id. A slot is any number that a function f gives an id.
 use mathlib.Core.Path.{_≡_}
 use mathlib.Core.List.{List}
 use Prim.Native.Nat.{ℕ, zero, suc, _<_}
@@ -30,10 +30,6 @@ Stands x xs = (i : ℕ) × (i < length xs) × (getD xs i 0 ≡ x)
 -- x has the key of a smaller one
 abbrev pub Twin : (ℕ → ℕ) → ℕ → Type 0
 Twin key x = (y : ℕ) × (y < x) × (key y ≡ key x)
-
--- x and a smaller one of its key stand in the list
-abbrev pub TwinIn : (ℕ → ℕ) → List ℕ → ℕ → Type 0
-TwinIn key xs x = Stands x xs × ((y : ℕ) × (y < x) × (key y ≡ key x) × Stands y xs)
 
 -- Of the ids below n, those of xs, in rising order, are left: with any two of one key both.
 pub record Sieved (key : ℕ → ℕ) (n : ℕ) (xs : List ℕ) : Type 0 where

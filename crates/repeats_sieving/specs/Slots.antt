@@ -1,4 +1,4 @@
--- A table of counters of two bits, sixteen to an entry, and the slot of a code.
+-- Inner: a table of counters of two bits, sixteen to an entry, and the slot of a code.
 use mathlib.Core.Path.{_≡_}
 use mathlib.Core.Logic.{_⊎_}
 use mathlib.Core.List.{List}

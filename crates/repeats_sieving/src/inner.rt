@@ -46,23 +46,14 @@ fn slot_of(work: &[u32], n: usize, x: usize, slots: usize, a: u64, c: u64) -> us
     slot(work[x], work[n + x], slots, a, c)
 }
 
-// Sets all entries to 0.
-fn zero(table: &mut [u32])
-    ensures { λ _. ⌜ ((i : ℕ) → i < length (now (table .entry)) → getD (now (table .exit)) i 0 ≡ 0) ⌝ }
-{
-    let mut i = 0;
-    while i < table.len() {
-        table[i] = 0;
-        i += 1;
-    }
-}
-
 // Counts the m ids of each slot, up to 2, by counters that are 0.
 fn tell(work: &mut [u32], n: usize, m: usize, entries: usize, a: u64, c: u64)
     requires { ⌜ Sifting (length (now work)) n m entries a c ⌝ }
     requires { ⌜ All (λ x. x < n) (part (n + n) m (now work)) ⌝ }
     requires { ⌜ ((i : ℕ) → i < entries → getD (part (n + n + n) entries (now work)) i 0 ≡ 0) ⌝ }
-    ensures { λ _. ⌜ Told (slotIn n (now (work .entry)) (16 * entries) a c) (16 * entries) (part (n + n) m (now (work .entry))) (part (n + n + n) entries (now (work .exit))) × Only (n + n + n) entries (now (work .entry)) (now (work .exit)) ⌝ }
+    ensures { λ _.
+        ⌜ Told (slotIn n (now (work .entry)) (16 * entries) a c) (16 * entries) (part (n + n) m (now (work .entry)))
+        (part (n + n + n) entries (now (work .exit))) × Only (n + n + n) entries (now (work .entry)) (now (work .exit)) ⌝ }
 {
     let ids = n + n;
     let tab = ids + n;
@@ -100,15 +91,17 @@ fn keep(work: &mut [u32], n: usize, m: usize, entries: usize, a: u64, c: u64) ->
     o
 }
 
-// Of the m ids those stay, in front and in their order, whose slot another of them has; how many they are. Counters are written over what the fourth region held.
+// Of the m ids those stay, in front and in their order, whose slot another of them has; how many they are. Counters are written over what the fourth region
+// held.
 pub fn sift(work: &mut [u32], n: usize, m: usize, entries: usize, a: u64, c: u64) -> usize
     requires { ⌜ Sifting (length (now work)) n m entries a c ⌝ }
     requires { ⌜ All (λ x. x < n) (part (n + n) m (now work)) ⌝ }
-    ensures { λ r. ⌜ Kept (slotIn n (now (work .entry)) (16 * entries) a c) n m ((n + n, m) ∷ (n + n + n, entries) ∷ []) (now (work .entry)) (now (work .exit)) r ⌝ }
+    ensures { λ r.
+        ⌜ Kept (slotIn n (now (work .entry)) (16 * entries) a c) n m ((n + n, m) ∷ (n + n + n, entries) ∷ []) (now (work .entry)) (now (work .exit)) r ⌝ }
 {
     let tab = n + n + n;
     let end = tab + entries;
-    zero(&mut work[tab..end]);
+    sorting::inner::clear(&mut work[tab..end], entries);
     tell(work, n, m, entries, a, c);
     keep(work, n, m, entries, a, c)
 }

@@ -18,7 +18,8 @@ later-count : (h i w : ℕ) (ws : List ℕ) → length (laterRuns h w ws) ≡ le
 later-count h i w [] = ap length (later-nil h w ∙ sym (later-nil i w))
 later-count h i w (v ∷ ws) = go (ℕ-discrete v w) (later-count (suc h) (suc i) w ws) (later-count (suc h) (suc i) v ws)
   where
-    go : Dec (v ≡ w) → length (laterRuns (suc h) w ws) ≡ length (laterRuns (suc i) w ws) → length (laterRuns (suc h) v ws) ≡ length (laterRuns (suc i) v ws) → length (laterRuns h w (v ∷ ws)) ≡ length (laterRuns i w (v ∷ ws))
+    go : Dec (v ≡ w) → length (laterRuns (suc h) w ws) ≡ length (laterRuns (suc i) w ws) → length (laterRuns (suc h) v ws) ≡ length (laterRuns (suc i) v ws)
+        → length (laterRuns h w (v ∷ ws)) ≡ length (laterRuns i w (v ∷ ws))
     go (yes e) a b = ap length (later-equal h w v ws e) ∙ (a ∙ ap length (sym (later-equal i w v ws e)))
     go (no e) a b = ap length (later-other h w v ws e) ∙ (ap suc b ∙ ap length (sym (later-other i w v ws e)))
 
@@ -48,7 +49,8 @@ runs-some (w ∷ (v ∷ ws)) h = omega (arith, count-cons w v ws, agree-le w v, 
 -- ─── two rows ────────────────────────────────────────────────────────────────
 
 -- the runs of a concatenation: the sum, less one where the neighbours' end weights are equal
-pub count-append : (w : ℕ) (ws : List ℕ) (v : ℕ) (vs : List ℕ) → runCount ((w ∷ ws) ++ (v ∷ vs)) + agree (lastWeight w ws) v ≡ runCount (w ∷ ws) + runCount (v ∷ vs)
+pub count-append : (w : ℕ) (ws : List ℕ) (v : ℕ) (vs : List ℕ)
+    → runCount ((w ∷ ws) ++ (v ∷ vs)) + agree (lastWeight w ws) v ≡ runCount (w ∷ ws) + runCount (v ∷ vs)
 unfolding lastWeight
 count-append w [] v vs = omega (arith, count-cons w v vs, count-one w)
 count-append w (x ∷ ws) v vs = omega (arith, count-append x ws v vs, count-cons w x (ws ++ (v ∷ vs)), count-cons w x ws)
@@ -77,4 +79,13 @@ count-reverse (w ∷ (v ∷ ws)) = go (reverse ws) refl (count-reverse (v ∷ ws
     go (u ∷ us) e ih =
         let a : reverse (v ∷ ws) ≡ u ∷ (us ++ (v ∷ [])) = reverse-cons v ws ∙ ap (λ (l : List ℕ). l ++ (v ∷ [])) e in
         let b : reverse (w ∷ (v ∷ ws)) ≡ (u ∷ (us ++ (v ∷ []))) ++ (w ∷ []) = reverse-cons w (v ∷ ws) ∙ ap (λ (l : List ℕ). l ++ (w ∷ [])) a in
-        omega (arith, ap runCount b, ap runCount a, ih, count-snoc u (us ++ (v ∷ [])) w, ap (λ (x : ℕ). agree x w) (last-snoc u us v), count-cons w v ws, agree-turned w v)
+        omega (
+          arith,
+          ap runCount b,
+          ap runCount a,
+          ih,
+          count-snoc u (us ++ (v ∷ [])) w,
+          ap (λ (x : ℕ). agree x w) (last-snoc u us v),
+          count-cons w v ws,
+          agree-turned w v,
+        )

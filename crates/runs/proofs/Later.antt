@@ -32,6 +32,10 @@ later-above h w (v ∷ ws) = go (ℕ-discrete v w) (later-above (suc h) w ws) (l
     up : (gs : List ℕ) → All (λ g. suc h < g) gs → All (λ g. h < g) gs
     up gs = all-map (λ g l. let z : h < g = omega arith in z) gs
 
-    go : Dec (v ≡ w) → All (λ g. suc h < g) (map (λ r. r .1) (laterRuns (suc h) w ws)) → All (λ g. suc h < g) (map (λ r. r .1) (laterRuns (suc h) v ws)) → All (λ g. h < g) (map (λ r. r .1) (laterRuns h w (v ∷ ws)))
-    go (yes e) a b = subst (λ (rs : List Run). All (λ g. h < g) (map (λ r. r .1) rs)) (sym (later-equal h w v ws e)) (up (map (λ r. r .1) (laterRuns (suc h) w ws)) a)
-    go (no e) a b = subst (λ (rs : List Run). All (λ g. h < g) (map (λ r. r .1) rs)) (sym (later-other h w v ws e)) (omega arith, up (map (λ r. r .1) (laterRuns (suc h) v ws)) b)
+    go : Dec (v ≡ w) → All (λ g. suc h < g) (map (λ r. r .1) (laterRuns (suc h) w ws)) → All (λ g. suc h < g) (map (λ r. r .1) (laterRuns (suc h) v ws))
+        → All (λ g. h < g) (map (λ r. r .1) (laterRuns h w (v ∷ ws)))
+    go (yes e) a b =
+        subst (λ (rs : List Run). All (λ g. h < g) (map (λ r. r .1) rs)) (sym (later-equal h w v ws e)) (up (map (λ r. r .1) (laterRuns (suc h) w ws)) a)
+    go (no e) a b =
+        subst (λ (rs : List Run). All (λ g. h < g) (map (λ r. r .1) rs)) (sym (later-other h w v ws e))
+        (omega arith, up (map (λ r. r .1) (laterRuns (suc h) v ws)) b)

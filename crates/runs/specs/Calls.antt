@@ -1,4 +1,5 @@
 -- What RUNS answers and leaves in its two tables.
+-- Specification: 9.6.
 use mathlib.Core.List.{List}
 use Prim.Native.Nat.{ℕ}
 use lib.ListN.{length}

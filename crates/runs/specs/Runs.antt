@@ -1,5 +1,6 @@
 -- Runs: maximal stretches of equal neighbours in the weights of all k-mers, across strings. No weight stands for 'none', so that a column of
 -- weights may hold any number.
+-- Specification: 4.1, 4.2.
 use mathlib.Core.List.{List, [], _∷_, map}
 use Prim.Native.Nat.{ℕ, suc}
 use lib.Dec.{eqb}

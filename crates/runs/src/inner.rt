@@ -3,6 +3,7 @@ ghost use mathlib.Core.Path.{_≡_};
 ghost use Prim.Native.Nat.{_≤_};
 ghost use lib.ListN.{length};
 ghost use Rattle.lists.specs.Fill.{fill};
+ghost use Rattle.lists.specs.Limits.{mostLetters};
 ghost use Rattle.runs.specs.Runs.{runCount, runWeights, runFirsts};
 
 // How many runs.
@@ -28,9 +29,11 @@ pub fn count_runs(weights: &[u32]) -> usize
 
 // The run list in the first entries of two tables.
 pub fn fill_runs(weights: &[u32], run_weights: &mut [u32], run_firsts: &mut [u32])
-    requires { ⌜ length (now weights) ≤ 1048576 ⌝ }
+    requires { ⌜ length (now weights) ≤ mostLetters ⌝ }
     requires { ⌜ (runCount (now weights) ≤ length (now «run_weights»)) × (runCount (now weights) ≤ length (now «run_firsts»)) ⌝ }
-    ensures { λ _. ⌜ (now («run_weights» .exit) ≡ fill (runWeights (now (weights .entry))) (now («run_weights» .entry))) × (now («run_firsts» .exit) ≡ fill (runFirsts (now (weights .entry))) (now («run_firsts» .entry))) ⌝ }
+    ensures { λ _.
+        ⌜ (now («run_weights» .exit) ≡ fill (runWeights (now (weights .entry))) (now («run_weights» .entry)))
+        × (now («run_firsts» .exit) ≡ fill (runFirsts (now (weights .entry))) (now («run_firsts» .entry))) ⌝ }
 {
     if weights.len() == 0 {
         return;

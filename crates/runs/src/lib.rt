@@ -21,7 +21,9 @@ pub fn runs(
     run_weights: &mut [u32],
     run_firsts: &mut [u32],
 ) -> RunsAnswer
-    ensures { λ r. ⌜ outcome r (now («run_weights» .exit)) (now («run_firsts» .exit)) ≡ runsOf (collection k (now (letters .entry)) (now (ends .entry)) (now (weights .entry))) (now («run_weights» .entry)) (now («run_firsts» .entry)) ⌝ }
+    ensures { λ r.
+        ⌜ outcome r (now («run_weights» .exit)) (now («run_firsts» .exit))
+        ≡ runsOf (collection k (now (letters .entry)) (now (ends .entry)) (now (weights .entry))) (now («run_weights» .entry)) (now («run_firsts» .entry)) ⌝ }
 {
     let a = collection::judge_collection(k, letters, ends, weights);
     if let Verdict::Bad { number, place } = a {

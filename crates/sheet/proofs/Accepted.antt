@@ -16,12 +16,29 @@ use Rattle.collection.proofs.Strings.{Whole}
 use Rattle.collection.proofs.Verdicts.{both-good, place-good, test-good}
 use Rattle.lists.specs.Every.{All, every}
 use Rattle.lists.proofs.Every.{and-both}
+use Rattle.lists.proofs.Refuted.{never}
 use Rattle.text.specs.Numbers.{isNumber, value, digits}
 use Rattle.text.specs.Parts.{upTo, later, tab, feed}
 use Rattle.collection.specs.Strings.{Str}
-use Rattle.sheet.specs.Sheet.{isMark, isK, isKLine, isWeightField, isString, isStringLine, stringOf, stringsOf, firstWrong, kOf, sheetK, sheetStrings, isHead, sheetVerdict, Accepted}
+use Rattle.sheet.specs.Sheet.{
+  isMark,
+  isK,
+  isKLine,
+  isWeightField,
+  isString,
+  isStringLine,
+  stringOf,
+  stringsOf,
+  firstWrong,
+  kOf,
+  sheetK,
+  sheetStrings,
+  isHead,
+  sheetVerdict,
+  Accepted,
+}
 use Rattle.sheet.specs.Text.{weightsText, stringText, linesText, sheetText}
-use Rattle.text.proofs.Tests.{both, never, empty}
+use Rattle.text.proofs.Tests.{both, empty}
 use Rattle.text.proofs.Parts.{joined, join-parts}
 use Rattle.text.proofs.Numbers.{digits-value}
 
@@ -109,7 +126,12 @@ unfolding sheetVerdict
 sheet-good bs h =
     let a = both-good _ _ h in
     let b = both-good _ _ (a .1) in
-    record { head = head-k (upTo feed bs) (later feed bs) (test-good (isHead (upTo feed bs) (later feed bs)) 11 1 Good (a .0) .0); range = b .0; lines = place-good 11 _ (b .1) }
+    record {
+      head =
+          head-k (upTo feed bs) (later feed bs) (test-good (isHead (upTo feed bs) (later feed bs)) 11 1 Good (a .0) .0);
+      range = b .0;
+      lines = place-good 11 _ (b .1);
+    }
 
 -- an accepted sheet is the text of its k and its strings
 pub accepted-text : (bs : List ℕ) → Accepted bs → sheetText (sheetK bs) (sheetStrings bs) ≡ bs

@@ -9,12 +9,14 @@ use lib.Seq.{take-at}
 use Rattle.lists.specs.Every.{All}
 use Rattle.lists.specs.Fill.{fill}
 use Rattle.lists.proofs.Every.{every-all, all-every, all-map}
+use Rattle.lists.proofs.Refuted.{refuted}
 use Rattle.alphabet.specs.Letter.{isLetter}
 use Rattle.collection.specs.Collection.{Collection, collection, spellingOf}
 use Rattle.collection.specs.declared.Verdict.the-variants.{Good}
 use Rattle.collection.specs.Judge.{kVerdict, shapeVerdict, collectionVerdict, Passes}
 use Rattle.collection_faults.specs.Faults.{isWeight}
 use Rattle.collection.specs.Strings.{Str, strings, lettersIn, weightsIn, endsIn, joined}
+use Rattle.collection.specs.Tables.{Tables, tables, filledBy, collectionIn, Rooms, roomsOf}
 use Rattle.collection.proofs.Judged.{collection-good, good-size}
 use Rattle.collection.proofs.Strings.{Whole, strings-back, strings-joined, strings-whole, each-letters, each-weights, ends-length, tables-pass}
 use Rattle.collection.proofs.Verdicts.{both-good, room-good, then-good, settled, good-room, done-by}
@@ -31,61 +33,62 @@ use Rattle.sheet.proofs.Written.{text-k, text-strings, text-accepted}
 -- ─── what a filled READ leaves ───────────────────────────────────────────────
 
 -- what READ did where it answered `Filled`
-pub record ReadDone (bs letters ends weights : List ℕ) (k a b c : ℕ) : Type 0 where
+pub record ReadDone (bs : List ℕ) (t : Tables) (k a b c : ℕ) : Type 0 where
   pub accepted : Accepted bs
-  pub within : Within bs (length letters) (length ends) (length weights)
+  pub within : Within bs (roomsOf t)
   pub k-is : k ≡ sheetK bs
-  pub letters-are : take a ((readOf bs letters ends weights) .letters) ≡ lettersIn (sheetStrings bs)
-  pub ends-are : take b ((readOf bs letters ends weights) .ends) ≡ endsIn 0 (sheetStrings bs)
-  pub weights-are : take c ((readOf bs letters ends weights) .weights) ≡ weightsIn (sheetStrings bs)
+  pub letters-are : take a ((readOf bs t) .after .letters) ≡ lettersIn (sheetStrings bs)
+  pub ends-are : take b ((readOf bs t) .after .ends) ≡ endsIn 0 (sheetStrings bs)
+  pub weights-are : take c ((readOf bs t) .after .weights) ≡ weightsIn (sheetStrings bs)
 
-module _ (bs letters ends weights : List ℕ) where
+module _ (bs : List ℕ) (t : Tables) where
   readDone : ReadOutcome
   readDone =
-      readOutcome (read.Filled (sheetK bs) (sheetN bs) (sheetM bs) (sheetWeights bs))
-      (fill (lettersIn (sheetStrings bs)) letters) (fill (endsIn 0 (sheetStrings bs)) ends) (fill (weightsIn (sheetStrings bs)) weights)
+      readOutcome (read.Filled (sheetK bs) (sheetN bs) (sheetM bs) (sheetWeights bs)) (filledBy (sheetStrings bs) t)
 
-  read-good : readVerdict bs (length letters) (length ends) (length weights) ≡ Good → readOf bs letters ends weights ≡ readDone
+  read-good : readVerdict bs (roomsOf t) ≡ Good → readOf bs t ≡ readDone
   unfolding readOf readDone
   read-good h = sym (settled _ refl h)
 
-  filled-good : (k a b c : ℕ) → (readOf bs letters ends weights) .answer ≡ read.Filled k a b c → readVerdict bs (length letters) (length ends) (length weights) ≡ Good
+  filled-good : (k a b c : ℕ) → (readOf bs t) .answer ≡ read.Filled k a b c → readVerdict bs (roomsOf t) ≡ Good
   unfolding readOf
-  filled-good k a b c e = done-by (λ (o : ReadOutcome). o .answer) _ _ _ (read.Filled k a b c) (λ number place q. let z : _≡_ {A = ℕ} 0 1 = cc in let y : ⊥ = omega arith in y) e .0
+  filled-good k a b c e = done-by (λ (o : ReadOutcome). o .answer) _ _ _ (read.Filled k a b c) (λ number place q. refuted (cc)) e .0
 
   -- where READ answers `Filled`, it took the sheet, and its tables start with what the sheet means
-  pub read-done : (k a b c : ℕ) → (readOf bs letters ends weights) .answer ≡ read.Filled k a b c → ReadDone bs letters ends weights k a b c
+  pub read-done : (k a b c : ℕ) → (readOf bs t) .answer ≡ read.Filled k a b c → ReadDone bs t k a b c
   unfolding readDone
   read-done k a b c e =
       let h = filled-good k a b c e in
       let r = read-good h in
-      let t = read-takes bs _ _ _ h in
+      let taken = read-takes bs _ h in
       let q : read.Filled (sheetK bs) (sheetN bs) (sheetM bs) (sheetWeights bs) ≡ read.Filled k a b c = sym (ap (λ (o : ReadOutcome). o .answer) r) ∙ e in
       let qa : sheetN bs ≡ a = cc in
       let qb : sheetM bs ≡ b = cc in
       let qc : sheetWeights bs ≡ c = cc in
       record {
-        accepted = t .0;
-        within = t .1;
+        accepted = taken .0;
+        within = taken .1;
         k-is = cc;
-        letters-are = ap (λ (o : ReadOutcome). take a (o .letters)) r ∙ take-at (lettersIn (sheetStrings bs)) _ a qa;
-        ends-are = ap (λ (o : ReadOutcome). take b (o .ends)) r ∙ take-at (endsIn 0 (sheetStrings bs)) _ b (ends-length 0 (sheetStrings bs) ∙ qb);
-        weights-are = ap (λ (o : ReadOutcome). take c (o .weights)) r ∙ take-at (weightsIn (sheetStrings bs)) _ c qc;
+        letters-are = ap (λ (o : ReadOutcome). take a (o .after .letters)) r ∙ take-at (lettersIn (sheetStrings bs)) _ a qa;
+        ends-are = ap (λ (o : ReadOutcome). take b (o .after .ends)) r ∙ take-at (endsIn 0 (sheetStrings bs)) _ b (ends-length 0 (sheetStrings bs) ∙ qb);
+        weights-are = ap (λ (o : ReadOutcome). take c (o .after .weights)) r ∙ take-at (weightsIn (sheetStrings bs)) _ c qc;
       }
 
 -- the tables of an accepted sheet within the limits pass 2 to 6
-accepted-passes : (bs : List ℕ) {a b c : ℕ} → Accepted bs → Within bs a b c → Passes (joined (sheetK bs) (sheetStrings bs))
+accepted-passes : (bs : List ℕ) {r : Rooms} → Accepted bs → Within bs r → Passes (joined (sheetK bs) (sheetStrings bs))
 accepted-passes bs h w =
     let ss : List Str = sheetStrings bs in
     let e = accepted-holds bs h in
     tables-pass (sheetK bs) ss (sheet-good bs h .range) (good-size (w .few-letters) (w .few-strings))
-    (all-map (λ s x. x .whole) ss e) (all-map (λ s x. every-all isLetter (s .letters) (x .letters)) ss e) (all-map (λ s x. every-all isWeight (s .weights) (x .weights)) ss e)
+    (all-map (λ s x. x .whole) ss e) (all-map (λ s x. every-all isLetter (s .letters) (x .letters)) ss e)
+    (all-map (λ s x. every-all isWeight (s .weights) (x .weights)) ss e)
 
 -- the text of the tables of an accepted sheet is the sheet
 accepted-written : (bs : List ℕ) → Accepted bs → writeText (joined (sheetK bs) (sheetStrings bs)) ≡ bs
 unfolding writeText
 accepted-written bs h =
-    ap (sheetText (sheetK bs)) (strings-back (sheetK bs) (sheetStrings bs) (all-map (λ s x. x .whole) (sheetStrings bs) (accepted-holds bs h))) ∙ accepted-text bs h
+    ap (sheetText (sheetK bs)) (strings-back (sheetK bs) (sheetStrings bs) (all-map (λ s x. x .whole) (sheetStrings bs) (accepted-holds bs h)))
+    ∙ accepted-text bs h
 
 -- WRITE of a collection that passes, into a table with room
 write-good : (c : Collection) (sheet : List ℕ) → Passes c → length (writeText c) ≤ length sheet
@@ -93,36 +96,34 @@ write-good : (c : Collection) (sheet : List ℕ) → Passes c → length (writeT
 unfolding writeOf writeVerdict
 write-good c sheet p l = sym (settled _ refl (then-good _ p (good-room l)))
 
-module _ (bs letters ends weights : List ℕ) (k a b c : ℕ) (e : (readOf bs letters ends weights) .answer ≡ read.Filled k a b c) where
-  -- the tables that READ filled
-  abbrev letters-read : List ℕ
-  letters-read = take a ((readOf bs letters ends weights) .letters)
+module _ (bs : List ℕ) (t : Tables) (k a b c : ℕ) (e : (readOf bs t) .answer ≡ read.Filled k a b c) where
+  -- the collection that READ filled in
+  abbrev collection-read : Collection
+  collection-read = collectionIn k a b c ((readOf bs t) .after)
 
-  abbrev ends-read : List ℕ
-  ends-read = take b ((readOf bs letters ends weights) .ends)
+  done : ReadDone bs t k a b c
+  done = read-done bs t k a b c e
 
-  abbrev weights-read : List ℕ
-  weights-read = take c ((readOf bs letters ends weights) .weights)
+  -- it is the sheet's
+  pub read-is : collection-read ≡ joined (sheetK bs) (sheetStrings bs)
+  read-is = λ i. collection (done .k-is i) (done .letters-are i) (done .ends-are i) (done .weights-are i)
 
   -- what READ gives passes 2 to 6
-  pub read-passes : Passes (collection k letters-read ends-read weights-read)
-  read-passes =
-      let d = read-done bs letters ends weights k a b c e in
-      (λ i. collectionVerdict (collection (d .k-is i) (d .letters-are i) (d .ends-are i) (d .weights-are i))) ∙ accepted-passes bs (d .accepted) (d .within)
+  pub read-passes : Passes collection-read
+  read-passes = ap collectionVerdict read-is ∙ accepted-passes bs (done .accepted) (done .within)
 
   -- WRITE of what READ gives is the same bytes
-  pub write-of-read : (sheet : List ℕ) → length bs ≤ length sheet → writeOf (collection k letters-read ends-read weights-read) sheet ≡ writeOutcome (write.Written (length bs)) (fill bs sheet)
+  pub write-of-read : (sheet : List ℕ) → length bs ≤ length sheet → writeOf collection-read sheet ≡ writeOutcome (write.Written (length bs)) (fill bs sheet)
   write-of-read sheet l =
-      let d = read-done bs letters ends weights k a b c e in
-      let t : writeText (collection k letters-read ends-read weights-read) ≡ bs = (λ i. writeText (collection (d .k-is i) (d .letters-are i) (d .ends-are i) (d .weights-are i))) ∙ accepted-written bs (d .accepted) in
-      write-good (collection k letters-read ends-read weights-read) sheet read-passes (omega (arith, ap length t)) ∙ ap (λ (x : List ℕ). writeOutcome (write.Written (length x)) (fill x sheet)) t
+      let t : writeText collection-read ≡ bs = ap writeText read-is ∙ accepted-written bs (done .accepted) in
+      write-good collection-read sheet read-passes (omega (arith, ap length t)) ∙ ap (λ (x : List ℕ). writeOutcome (write.Written (length x)) (fill x sheet)) t
 
 -- ─── what a WRITE leaves ─────────────────────────────────────────────────────
 
 module _ (c : Collection) (sheet : List ℕ) (n : ℕ) (e : (writeOf c sheet) .answer ≡ write.Written n) where
   written-good : writeVerdict c (length sheet) ≡ Good
   unfolding writeOf
-  written-good = done-by (λ (o : WriteOutcome). o .answer) _ _ _ (write.Written n) (λ number place q. let z : _≡_ {A = ℕ} 0 1 = cc in let y : ⊥ = omega arith in y) e .0
+  written-good = done-by (λ (o : WriteOutcome). o .answer) _ _ _ (write.Written n) (λ number place q. refuted (cc)) e .0
 
   -- what was written passes 2 to 6
   pub written-passes : Passes c
@@ -170,26 +171,41 @@ text-back c p =
       weights-are = ap weightsIn r ∙ ap (λ (x : Collection). x .weights) (strings-joined c (j .shape) (j .counted));
     }
   where
-    holds : (ss : List Str) → All (Whole c.k) ss → All (λ s. All (λ b. isLetter b ≡ true) (s .letters)) ss → All (λ s. All (λ w. isWeight w ≡ true) (s .weights)) ss → All (Holds c.k) ss
+    holds : (ss : List Str) → All (Whole c.k) ss → All (λ s. All (λ b. isLetter b ≡ true) (s .letters)) ss
+        → All (λ s. All (λ w. isWeight w ≡ true) (s .weights)) ss → All (Holds c.k) ss
     holds [] w a b = tt
-    holds (s ∷ ss) w a b = (record { whole = w .0; letters = all-every isLetter (s .letters) (a .0); weights = all-every isWeight (s .weights) (b .0) }, holds ss (w .1) (a .1) (b .1))
+    holds (s ∷ ss) w a b = (
+      record { whole = w .0; letters = all-every isLetter (s .letters) (a .0); weights = all-every isWeight (s .weights) (b .0) },
+      holds ss (w .1) (a .1) (b .1),
+    )
 
 -- READ of what WRITE gives is the same collection
 pub read-of-write : (c : Collection) (sheet : List ℕ) (n : ℕ) → (writeOf c sheet) .answer ≡ write.Written n
-    → (ls es ws : List ℕ) → length c.letters ≤ length ls → length c.ends ≤ length es → length c.weights ≤ length ws
-    → readOf (take n ((writeOf c sheet) .sheet)) ls es ws ≡ readOutcome (read.Filled c.k (length c.letters) (length c.ends) (length c.weights)) (fill c.letters ls) (fill c.ends es) (fill c.weights ws)
+    → (t : Tables) → length c.letters ≤ length t.letters → length c.ends ≤ length t.ends → length c.weights ≤ length t.weights
+    → readOf (take n ((writeOf c sheet) .sheet)) t
+    ≡ readOutcome (read.Filled c.k (length c.letters) (length c.ends) (length c.weights))
+    (tables (fill c.letters t.letters) (fill c.ends t.ends) (fill c.weights t.weights))
 unfolding readDone
-read-of-write c sheet n e ls es ws a b c₁ =
+read-of-write c sheet n e t letters-fit ends-fit weights-fit =
     let bs : List ℕ = writeText c in
     let p = written-passes c sheet n e in
-    let t = text-back c p in
+    let back = text-back c p in
     let s = collection-good c p .shape in
-    let N : sheetN bs ≡ length c.letters = ap length (t .letters-are) in
-    let m : sheetM bs ≡ length c.ends = sym (ends-length 0 (sheetStrings bs)) ∙ ap length (t .ends-are) in
-    let w : sheetWeights bs ≡ length c.weights = ap length (t .weights-are) in
-    let g : readVerdict bs (length ls) (length es) (length ws) ≡ Good =
-    takes-read bs _ _ _ (t .accepted)
-    (record { few-letters = omega (arith, s .N-high); few-strings = omega (arith, s .m-high); letters-room = omega arith; ends-room = omega arith; weights-room = omega arith }) in
-    ap (λ (x : List ℕ). readOf x ls es ws) (written-text c sheet n e)
-    ∙ (read-good bs ls es ws g
-    ∙ (λ i. readOutcome (read.Filled (t .k-is i) (N i) (m i) (w i)) (fill (t .letters-are i) ls) (fill (t .ends-are i) es) (fill (t .weights-are i) ws)))
+    let N : sheetN bs ≡ length c.letters = ap length (back .letters-are) in
+    let m : sheetM bs ≡ length c.ends = sym (ends-length 0 (sheetStrings bs)) ∙ ap length (back .ends-are) in
+    let w : sheetWeights bs ≡ length c.weights = ap length (back .weights-are) in
+    let within : Within bs (roomsOf t) =
+    record {
+      few-letters =
+          omega (arith, s .N-high);
+      few-strings = omega (arith, s .m-high);
+      letters-room = omega arith;
+      ends-room = omega arith;
+      weights-room = omega arith;
+    } in
+    let g : readVerdict bs (roomsOf t) ≡ Good = takes-read bs _ (back .accepted) within in
+    ap (λ (x : List ℕ). readOf x t) (written-text c sheet n e)
+    ∙ (read-good bs t g
+    ∙ (λ i.
+    readOutcome (read.Filled (back .k-is i) (N i) (m i) (w i))
+    (tables (fill (back .letters-are i) t.letters) (fill (back .ends-are i) t.ends) (fill (back .weights-are i) t.weights))))

@@ -15,12 +15,30 @@ use Rattle.collection.specs.Verdict.{andThen, atPlace}
 use Rattle.collection.proofs.Judged.{k-good}
 use Rattle.lists.specs.Every.{All, every}
 use Rattle.lists.proofs.Every.{and-both}
+use Rattle.lists.proofs.Refuted.{never}
 use Rattle.text.specs.Numbers.{isDigit, value, digits}
 use Rattle.text.specs.Parts.{upTo, later, tab, feed}
 use Rattle.collection.specs.Strings.{Str}
-use Rattle.sheet.specs.Sheet.{isMark, isK, isKLine, isWeightField, isString, isStringLine, string, stringOf, stringsOf, firstWrong, kOf, sheetK, sheetStrings, isHead, sheetVerdict, Accepted}
+use Rattle.sheet.specs.Sheet.{
+  isMark,
+  isK,
+  isKLine,
+  isWeightField,
+  isString,
+  isStringLine,
+  string,
+  stringOf,
+  stringsOf,
+  firstWrong,
+  kOf,
+  sheetK,
+  sheetStrings,
+  isHead,
+  sheetVerdict,
+  Accepted,
+}
 use Rattle.sheet.specs.Text.{weightsText, stringText, linesText, sheetText}
-use Rattle.text.proofs.Tests.{both, every-more, every-append, never, digit-range, unequal}
+use Rattle.text.proofs.Tests.{both, every-more, every-append, digit-range, unequal}
 use Rattle.sheet.proofs.Accepted.{Holds}
 use Rattle.text.proofs.Parts.{Free, up-last, later-last, up-first, later-first}
 use Rattle.text.proofs.Numbers.{value-digits, number-digits, all-digits}
@@ -56,7 +74,8 @@ free-none c = refl
 weights-free : (ws : List ℕ) → Free feed (weightsText ws)
 unfolding weightsText
 weights-free [] = free-none feed
-weights-free (w ∷ ws) = free-next feed tab _ (λ e. omega arith) (every-append _ (digits w) (weightsText ws) (free-digits feed w (omega arith)) (weights-free ws))
+weights-free (w ∷ ws) =
+    free-next feed tab _ (λ e. omega arith) (every-append _ (digits w) (weightsText ws) (free-digits feed w (omega arith)) (weights-free ws))
 
 -- ─── a written line ──────────────────────────────────────────────────────────
 
@@ -101,7 +120,8 @@ fields-of k s h =
 good-fields : (k : ℕ) (s : Str) → Holds k s → isString k ((s .letters) ∷ map digits (s .weights)) ≡ true
 unfolding isString
 good-fields k s h =
-    and-both (and-both (le-leb k _ (h .whole .long)) (h .letters)) (and-both (eq-eqb _ _ (length-map (s .weights) digits ∙ h .whole .counted)) (good-weights (s .weights) (h .weights)))
+    and-both (and-both (le-leb k _ (h .whole .long)) (h .letters))
+    (and-both (eq-eqb _ _ (length-map (s .weights) digits ∙ h .whole .counted)) (good-weights (s .weights) (h .weights)))
 
 -- the line is good, and means the string
 written-line : (k : ℕ) (s : Str) → Holds k s → isStringLine k (stringText s) ≡ true
@@ -115,7 +135,8 @@ written-string k s h = ap stringOf (fields-of k s h) ∙ ap (string (s .letters)
 line-free : (k : ℕ) (s : Str) → Holds k s → Free feed (stringText s)
 unfolding isLetter
 line-free k s h =
-    free-next feed 83 _ (λ e. omega arith) (free-next feed tab _ (λ e. omega arith) (every-append _ (s .letters) _ (free-letters feed (s .letters) refl (h .letters)) (weights-free (s .weights))))
+    free-next feed 83 _ (λ e. omega arith)
+    (free-next feed tab _ (λ e. omega arith) (every-append _ (s .letters) _ (free-letters feed (s .letters) refl (h .letters)) (weights-free (s .weights))))
 
 -- ─── the written lines ───────────────────────────────────────────────────────
 
@@ -197,5 +218,6 @@ module _ (k : ℕ) (ss : List Str) (range : kVerdict k ≡ Good) (each : All (Ho
   pub text-accepted : Accepted (sheetText k ss)
   unfolding sheetVerdict andThen atPlace
   text-accepted =
-      let a : firstWrong (sheetK (sheetText k ss)) 2 (later feed (sheetText k ss)) ≡ 0 = (λ i. firstWrong (text-k i) 2 (later-lines i)) ∙ none-wrong k 2 ss each in
+      let a : firstWrong (sheetK (sheetText k ss)) 2 (later feed (sheetText k ss)) ≡ 0 =
+      (λ i. firstWrong (text-k i) 2 (later-lines i)) ∙ none-wrong k 2 ss each in
       rw (head-good, a, text-k, range)

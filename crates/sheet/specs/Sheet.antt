@@ -1,4 +1,5 @@
 -- Which bytes are a sheet, the collection it means, and its first wrong line.
+-- Specification: 7.1, 7.3.
 use mathlib.Core.Bool.{Bool, false, _&&_}
 use mathlib.Core.List.{List, [], _∷_, map}
 use mathlib.Core.Path.{_≡_}

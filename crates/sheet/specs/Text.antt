@@ -1,4 +1,5 @@
 -- How a collection is written as a sheet.
+-- Specification: 7.1, 9.2.
 use mathlib.Core.List.{List, [], _∷_, _++_}
 use Prim.Native.Nat.{ℕ}
 use Rattle.collection.specs.Collection.{Collection}

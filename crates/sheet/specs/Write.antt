@@ -1,4 +1,5 @@
 -- WRITE: what it answers, and what it leaves in its table.
+-- Specification: 9.2.
 use mathlib.Core.List.{List}
 use Prim.Native.Nat.{ℕ}
 use lib.ListN.{length}

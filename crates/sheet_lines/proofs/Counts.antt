@@ -10,6 +10,7 @@ use lib.Dec.{eqb}
 use lib.ListN.{length, drop, drop-of-length-le, length-drop, length-map, length-append}
 use lib.Seq.{drop-drop}
 use Rattle.lists.specs.Choose.{choose}
+use Rattle.lists.proofs.Refuted.{refuted}
 use Rattle.text.specs.Numbers.{value}
 use Rattle.text.specs.Parts.{upTo, later, tab, feed}
 use Rattle.collection.specs.Strings.{Str, lettersIn, weightsIn}
@@ -48,16 +49,18 @@ pub record Found (k i : ℕ) (l : List ℕ) (ms : List (List ℕ)) (next a b : �
 -- where the code finds a good line, there is one
 pub found : (k i : ℕ) (l : List ℕ) (ms : List (List ℕ)) (next a b : ℕ) → lineOf k i l ms ≡ line.Good next a b → Found k i l ms next a b
 unfolding lineOf
-found k i l [] next a b h = let z : _≡_ {A = ℕ} 0 1 = cc in absurd (omega arith)
+found k i l [] next a b h = refuted (cc)
 found k i l (m ∷ ms) next a b h = go (isStringLine k l) refl h where
   go : (t : Bool) → isStringLine k l ≡ t
-      → choose t (line.Good (i + length l + 1) (length ((stringOf (later tab l)) .letters)) (length ((stringOf (later tab l)) .weights))) line.Wrong ≡ line.Good next a b
+      → choose t (line.Good (i + length l + 1) (length ((stringOf (later tab l)) .letters)) (length ((stringOf (later tab l)) .weights))) line.Wrong
+      ≡ line.Good next a b
       → Found k i l (m ∷ ms) next a b
   go true e r = record { good = e; m = m; rest = ms; more = refl; next-is = cc; letters = cc; weights = cc }
-  go false e r = let z : _≡_ {A = ℕ} 0 1 = cc in absurd (omega arith)
+  go false e r = refuted (cc)
 
 -- one good line more
-count-list : (k n m w : ℕ) (l x : List ℕ) (ms : List (List ℕ)) (a b : ℕ) → isStringLine k l ≡ true → a ≡ length ((stringOf (later tab l)) .letters) → b ≡ length ((stringOf (later tab l)) .weights)
+count-list : (k n m w : ℕ) (l x : List ℕ) (ms : List (List ℕ)) (a b : ℕ) → isStringLine k l ≡ true → a ≡ length ((stringOf (later tab l)) .letters)
+    → b ≡ length ((stringOf (later tab l)) .weights)
     → countOf k n m w (l ∷ (x ∷ ms)) ≡ countOf k (n + a) (m + 1) (w + b) (x ∷ ms)
 unfolding countOf firstWrong stringsOf lettersIn weightsIn
 count-list k n m w l x ms a b g p q =
@@ -67,11 +70,14 @@ count-list k n m w l x ms a b g p q =
     let u : n + length (e .letters ++ lettersIn r) ≡ n + a + length (lettersIn r) = omega (arith, length-append (e .letters) (lettersIn r)) in
     let v : m + suc (length r) ≡ m + 1 + length r = omega arith in
     let y : w + length (e .weights ++ weightsIn r) ≡ w + b + length (weightsIn r) = omega (arith, length-append (e .weights) (weightsIn r)) in
-    ap (λ (t : Bool). choose (eqb (choose t (firstWrong k (suc (m + 2)) (x ∷ ms)) (m + 2)) 0) (counted.Good (n + length (e .letters ++ lettersIn r)) (m + suc (length r)) (w + length (e .weights ++ weightsIn r))) (counted.Wrong (choose t (firstWrong k (suc (m + 2)) (x ∷ ms)) (m + 2)))) g
+    ap (λ (t : Bool). choose (eqb (choose t (firstWrong k (suc (m + 2)) (x ∷ ms)) (m + 2)) 0)
+    (counted.Good (n + length (e .letters ++ lettersIn r)) (m + suc (length r)) (w + length (e .weights ++ weightsIn r)))
+    (counted.Wrong (choose t (firstWrong k (suc (m + 2)) (x ∷ ms)) (m + 2)))) g
     ∙ (λ i. choose (eqb (firstWrong k (s i) (x ∷ ms)) 0) (counted.Good (u i) (v i) (y i)) (counted.Wrong (firstWrong k (s i) (x ∷ ms))))
 
 -- a wrong line, of at least one byte or with a line feed
-wrong-line : (k n m w i : ℕ) (l : List ℕ) (ms : List (List ℕ)) → lineOf k i l ms ≡ line.Wrong → 1 ≤ length l + length ms → countOf k n m w (l ∷ ms) ≡ counted.Wrong (m + 2)
+wrong-line : (k n m w i : ℕ) (l : List ℕ) (ms : List (List ℕ)) → lineOf k i l ms ≡ line.Wrong → 1 ≤ length l + length ms
+    → countOf k n m w (l ∷ ms) ≡ counted.Wrong (m + 2)
 unfolding countOf firstWrong lineOf
 wrong-line k n m w i l [] h o =
     let z : eqb (length l) 0 ≡ false = ne-eqb (length l) 0 (λ e. omega arith) in
@@ -79,9 +85,10 @@ wrong-line k n m w i l [] h o =
     rw (z, y)
 wrong-line k n m w i l (x ∷ ms) h o = go (isStringLine k l) refl h where
   go : (t : Bool) → isStringLine k l ≡ t
-      → choose t (line.Good (i + length l + 1) (length ((stringOf (later tab l)) .letters)) (length ((stringOf (later tab l)) .weights))) line.Wrong ≡ line.Wrong
+      → choose t (line.Good (i + length l + 1) (length ((stringOf (later tab l)) .letters)) (length ((stringOf (later tab l)) .weights))) line.Wrong
+      ≡ line.Wrong
       → countOf k n m w (l ∷ (x ∷ ms)) ≡ counted.Wrong (m + 2)
-  go true e r = let z : _≡_ {A = ℕ} 0 1 = cc in absurd (omega arith)
+  go true e r = refuted (cc)
   go false e r =
       let y : eqb (m + 2) 0 ≡ false = ne-eqb (m + 2) 0 (λ e. omega arith) in
       rw (e, y)
@@ -95,23 +102,25 @@ module _ (k : ℕ) (ls : List (List ℕ)) where
   unfolding countOf
   counts-good {a} {b} {c} h = go (eqb (firstWrong k 2 ls) 0) refl h where
     go : (t : Bool) → eqb (firstWrong k 2 ls) 0 ≡ t
-        → choose t (counted.Good (0 + length (lettersIn (stringsOf ls))) (0 + length (stringsOf ls)) (0 + length (weightsIn (stringsOf ls)))) (counted.Wrong (firstWrong k 2 ls)) ≡ counted.Good a b c
+        → choose t (counted.Good (0 + length (lettersIn (stringsOf ls))) (0 + length (stringsOf ls)) (0 + length (weightsIn (stringsOf ls))))
+        (counted.Wrong (firstWrong k 2 ls)) ≡ counted.Good a b c
         → (firstWrong k 2 ls ≡ 0) × (a ≡ length (lettersIn (stringsOf ls))) × (b ≡ length (stringsOf ls)) × (c ≡ length (weightsIn (stringsOf ls)))
     go true q r =
         let x : a ≡ 0 + length (lettersIn (stringsOf ls)) = cc in
         let y : b ≡ 0 + length (stringsOf ls) = cc in
         let z : c ≡ 0 + length (weightsIn (stringsOf ls)) = cc in
         (eqb-true _ _ q, omega arith, omega arith, omega arith)
-    go false q r = let z : _≡_ {A = ℕ} 0 1 = cc in absurd (omega arith)
+    go false q r = refuted (cc)
 
   -- line x is the first wrong one
   pub counts-wrong : {x : ℕ} → countOf k 0 0 0 ls ≡ counted.Wrong x → (firstWrong k 2 ls ≡ x) × (x ≡ 0 → ⊥)
   unfolding countOf
   counts-wrong {x} h = go (eqb (firstWrong k 2 ls) 0) refl h where
     go : (t : Bool) → eqb (firstWrong k 2 ls) 0 ≡ t
-        → choose t (counted.Good (0 + length (lettersIn (stringsOf ls))) (0 + length (stringsOf ls)) (0 + length (weightsIn (stringsOf ls)))) (counted.Wrong (firstWrong k 2 ls)) ≡ counted.Wrong x
+        → choose t (counted.Good (0 + length (lettersIn (stringsOf ls))) (0 + length (stringsOf ls)) (0 + length (weightsIn (stringsOf ls))))
+        (counted.Wrong (firstWrong k 2 ls)) ≡ counted.Wrong x
         → (firstWrong k 2 ls ≡ x) × (x ≡ 0 → ⊥)
-    go true q r = let z : _≡_ {A = ℕ} 0 1 = cc in absurd (omega arith)
+    go true q r = refuted (cc)
     go false q r = let e : firstWrong k 2 ls ≡ x = cc in (e, λ o. eqb-false _ _ q (e ∙ o))
 
 -- ─── the loop ────────────────────────────────────────────────────────────────
@@ -155,7 +164,8 @@ module _ {k : ℕ} {s : List ℕ} {at n m w i : ℕ} (g : Counting k s at n m w 
 
   -- a wrong line
   pub count-wrong : i < length s → lineAt k s i ≡ line.Wrong → counted.Wrong (m + 2) ≡ countOf k 0 0 0 (linesAt s at)
-  count-wrong l h = sym (g .counts ∙ wrong-line k n m w i (upTo feed (drop i s)) (later feed (drop i s)) h (some-part feed (drop i s) (omega (arith, length-drop i s))))
+  count-wrong l h =
+      sym (g .counts ∙ wrong-line k n m w i (upTo feed (drop i s)) (later feed (drop i s)) h (some-part feed (drop i s) (omega (arith, length-drop i s))))
 
   -- no line is left
   pub count-end : length s ≤ i → counted.Good n m w ≡ countOf k 0 0 0 (linesAt s at)

@@ -9,9 +9,11 @@ use lib.Dec.{eqb}
 use lib.ListN.{length, drop, take, getD, length-append, take-append-drop}
 use lib.Seq.{drop-cons, drop-drop, getD-at}
 use Rattle.lists.specs.Choose.{choose}
+use Rattle.lists.specs.Limits.{mostWeight}
 use Rattle.collection_faults.specs.Faults.{isWeight}
 use Rattle.lists.specs.Every.{every}
 use Rattle.lists.proofs.Every.{and-both}
+use Rattle.lists.proofs.Refuted.{refuted, never}
 use Rattle.text.specs.Numbers.{isDigit, isNumber, valueFrom, value}
 use Rattle.text.specs.Parts.{upTo, later, tab, feed}
 use Rattle.sheet.specs.Sheet.{isMark, isK, isKLine, isWeightField, kOf, isHead}
@@ -19,7 +21,7 @@ use Rattle.text.specs.Fields.{field, numberOf, byteIs}
 use Rattle.sheet_lines.specs.Cursor.{weightAt, headOf, headIn, headEnd}
 use Rattle.text.specs.declared.Number.the-variants as number
 use Rattle.sheet_lines.specs.declared.Head.the-variants as head
-use Rattle.text.proofs.Tests.{both, never, every-more, digit-range}
+use Rattle.text.proofs.Tests.{both, every-more, digit-range}
 use Rattle.text.proofs.Parts.{joined, Free, up-last, later-last, up-first, later-first, join-parts, up-short, up-take, take-up}
 use Rattle.text.proofs.Numbers.{number-all}
 use Rattle.sheet.proofs.Accepted.{mark-is}
@@ -68,14 +70,22 @@ record Text (s : List ℕ) : Type 0 where
   short : length f ≤ 2
   same : s ≡ (75 ∷ (tab ∷ f)) ++ (feed ∷ rest)
 
-one-field : (l : List ℕ) (fs : List (List ℕ)) → isK fs ≡ true → upTo tab l ≡ 75 ∷ [] → later tab l ≡ fs → (s m : List ℕ) (ms : List (List ℕ)) → upTo feed s ≡ l → later feed s ≡ m ∷ ms → Text s
+one-field : (l : List ℕ) (fs : List (List ℕ)) → isK fs ≡ true → upTo tab l ≡ 75 ∷ [] → later tab l ≡ fs → (s m : List ℕ) (ms : List (List ℕ)) → upTo feed s ≡ l
+    → later feed s ≡ m ∷ ms → Text s
 unfolding joined
 one-field l [] h u e s m ms p q = never h
 one-field l (f ∷ []) h u e s m ms p q =
     let t = both (isNumber f) _ h in
     let a : l ≡ 75 ∷ (tab ∷ (f ++ [])) = sym (join-parts tab l) ∙ (λ i. u i ++ joined tab (e i)) in
     let b : l ≡ 75 ∷ (tab ∷ f) = a ∙ ap (λ (x : List ℕ). 75 ∷ (tab ∷ x)) (append-nil f) in
-    record { f = f; rest = m ++ joined feed ms; is-number = t .0; short = leb-true _ _ (t .1); same = sym (join-parts feed s) ∙ (λ i. (p ∙ b) i ++ joined feed (q i)) }
+    record {
+      f = f;
+      rest =
+          m ++ joined feed ms;
+      is-number = t .0;
+      short = leb-true _ _ (t .1);
+      same = sym (join-parts feed s) ∙ (λ i. (p ∙ b) i ++ joined feed (q i));
+    }
 one-field l (f ∷ (g ∷ fs)) h u e s m ms p q = never h
 
 -- a good line 1 is such a text
@@ -90,7 +100,8 @@ head-text s (m ∷ ms) e h =
 head-no : (s : List ℕ) → (Text s → ⊥) → headIn s ≡ head.Wrong
 unfolding headOf
 head-no s h = go (isHead (upTo feed s) (later feed s)) refl where
-  go : (t : Bool) → isHead (upTo feed s) (later feed s) ≡ t → choose t (head.Good (kOf (later tab (upTo feed s))) (length (upTo feed s) + 1)) head.Wrong ≡ head.Wrong
+  go : (t : Bool) → isHead (upTo feed s) (later feed s) ≡ t
+      → choose t (head.Good (kOf (later tab (upTo feed s))) (length (upTo feed s) + 1)) head.Wrong ≡ head.Wrong
   go true e = absurd (h (head-text s (later feed s) refl e))
   go false e = refl
 
@@ -121,7 +132,8 @@ module _ (s : List ℕ) where
         drop-cons s 0 0 (a .0) ∙ ((λ i. a .1 i ∷ drop 1 s) ∙ ap (λ (x : List ℕ). 75 ∷ x) (drop-cons s 1 0 (b .0) ∙ (λ i. b .1 i ∷ drop 2 s)))
 
     -- the line feed stands behind the field f
-    found-head : (f : List ℕ) (i : ℕ) → isNumber f ≡ true → length f ≤ 2 → drop 2 s ≡ f ++ drop i s → i ≡ length f + 2 → byteIs s i feed ≡ true → headIn s ≡ head.Good (value f) (i + 1)
+    found-head : (f : List ℕ) (i : ℕ) → isNumber f ≡ true → length f ≤ 2 → drop 2 s ≡ f ++ drop i s → i ≡ length f + 2 → byteIs s i feed ≡ true
+        → headIn s ≡ head.Good (value f) (i + 1)
     found-head f i h l e n w =
         let b = byte-here s i feed w in
         let d : drop i s ≡ feed ∷ drop (suc i) s = drop-cons s i 0 (b .0) ∙ (λ x. b .1 x ∷ drop (suc i) s) in
@@ -143,7 +155,7 @@ unfolding isNumber valueFrom every
 small-value [] rest h l e = never h
 small-value (b ∷ []) rest h l e =
     let d = digit-range b h in
-    range-is 16777215 (0 * 10 + (b - 48)) (nonzero (b - 48) (λ z. e (omega arith))) (omega arith) where
+    range-is mostWeight (0 * 10 + (b - 48)) (nonzero (b - 48) (λ z. e (omega arith))) (omega arith) where
       nonzero : (x : ℕ) → (x ≡ 0 → ⊥) → 1 ≤ 0 * 10 + x
       nonzero zero z = absurd (z refl)
       nonzero (suc x) z = omega arith
@@ -152,7 +164,7 @@ small-value (b ∷ (c ∷ [])) rest h l e =
     let d = digit-range b (both (isDigit b) _ (t .0) .0) in
     let g = digit-range c (both (isDigit c) _ (t .1) .0) in
     let z = eqb-false b 48 (not-true _ (both (isDigit b) _ (t .0) .1)) in
-    range-is 16777215 ((0 * 10 + (b - 48)) * 10 + (c - 48)) (omega arith) (omega arith)
+    range-is mostWeight ((0 * 10 + (b - 48)) * 10 + (c - 48)) (omega arith) (omega arith)
 small-value (b ∷ (c ∷ (d ∷ f))) rest h l e = absurd (omega arith)
 
 zero-is : isNumber (48 ∷ []) ≡ true
@@ -163,7 +175,7 @@ zero-value : value (48 ∷ []) ≡ 0
 unfolding valueFrom
 zero-value = refl
 
-weight-yes : (i : ℕ) (f : List ℕ) → isNumber f ≡ true → isWeight (value f) ≡ true → numberOf 16777215 i f ≡ number.Good (value f) (i + length f)
+weight-yes : (i : ℕ) (f : List ℕ) → isNumber f ≡ true → isWeight (value f) ≡ true → numberOf mostWeight i f ≡ number.Good (value f) (i + length f)
 unfolding numberOf
 weight-yes i f h g = rw (h, g)
 
@@ -175,7 +187,7 @@ same-place : {v w x y : ℕ} → number.Good v x ≡ number.Good w y → x ≡ y
 same-place h = cc
 
 no-place : {v x : ℕ} → number.Good v x ≡ number.Wrong → ⊥
-no-place h = let z : _≡_ {A = ℕ} 0 1 = cc in omega arith
+no-place h = refuted (cc)
 
 -- what stands behind `K` and a tab is the field, then the rest
 front-cut : (s : List ℕ) (next : ℕ) → next ≡ 2 + length (field tab (drop 2 s)) → drop 2 s ≡ field tab (drop 2 s) ++ drop next s
@@ -199,7 +211,8 @@ module _ (s : List ℕ) (k-here : byteIs s 0 75 ≡ true) (tab-here : byteIs s 1
 
     go : (t : Bool) → byteIs s 3 feed ≡ t → choose t (head.Good 0 4) head.Wrong ≡ headIn s
     go true e =
-        sym (found-head s k-here tab-here (48 ∷ []) 3 zero-is (omega arith) (drop-cons s 2 0 (b .0) ∙ (λ i. b .1 i ∷ drop 3 s)) refl e ∙ ap (λ (x : ℕ). head.Good x 4) zero-value)
+        sym (found-head s k-here tab-here (48 ∷ []) 3 zero-is (omega arith) (drop-cons s 2 0 (b .0) ∙ (λ i. b .1 i ∷ drop 3 s)) refl e
+        ∙ ap (λ (x : ℕ). head.Good x 4) zero-value)
     go false e = sym (head-no s (λ t. let z = zero-led (t .f) (t .rest) (t .is-number) (sym (third t) ∙ b .1) in clash (feed-there s t 3 (omega arith)) e))
 
   module _ (no-zero : byteIs s 2 48 ≡ false) where
@@ -210,7 +223,7 @@ module _ (s : List ℕ) (k-here : byteIs s 0 75 ≡ true) (tab-here : byteIs s 1
         let u : upTo feed (drop 2 s) ≡ t .f = ap (upTo feed) d ∙ up-first feed (t .f) (t .rest) (number-free feed (t .f) (omega arith) (t .is-number)) in
         let w : upTo tab (upTo feed (drop 2 s)) ≡ t .f = ap (upTo tab) u ∙ up-last tab (t .f) (number-free tab (t .f) (omega arith) (t .is-number)) in
         let l : 2 < length s = omega (arith, size s t) in
-        ap (numberOf 16777215 2) w
+        ap (numberOf mostWeight 2) w
         ∙ weight-yes 2 (t .f) (t .is-number) (small-value (t .f) (t .rest) (t .is-number) (t .short) (λ e. byte-other s 2 48 no-zero l (third t ∙ e)))
 
     -- no weight, so no number
@@ -237,5 +250,6 @@ module _ (s : List ℕ) (k-here : byteIs s 0 75 ≡ true) (tab-here : byteIs s 1
         go : (t : Bool) → byteIs s next feed ≡ t → choose t (head.Good v (next + 1)) head.Wrong ≡ headIn s
         go true e =
             let n = g .1 in
-            sym (found-head s k-here tab-here f next (weight-number f (g .0)) (omega arith) cut (omega arith) e ∙ ap (λ (x : ℕ). head.Good x (next + 1)) (sym (g .2)))
+            sym (found-head s k-here tab-here f next (weight-number f (g .0)) (omega arith) cut (omega arith) e
+            ∙ ap (λ (x : ℕ). head.Good x (next + 1)) (sym (g .2)))
         go false e = sym (head-no s (λ t. let p = same-place (sym (text-weight t) ∙ w) in clash (feed-there s t next (omega arith)) e))

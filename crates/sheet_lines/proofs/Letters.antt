@@ -11,10 +11,10 @@ use lib.ListN.{length, drop, getD, drop-of-length-le, length-drop}
 use lib.Seq.{drop-cons}
 use Rattle.lists.specs.Choose.{choose}
 use Rattle.lists.specs.Every.{every}
+use Rattle.lists.proofs.Refuted.{never}
 use Rattle.alphabet.specs.Letter.{isLetter}
 use Rattle.text.specs.Parts.{upTo, tab, feed}
 use Rattle.sheet_lines.specs.Cursor.{span, isEmpty}
-use Rattle.text.proofs.Tests.{never}
 use Rattle.text.proofs.Parts.{inside-part}
 
 -- ─── byte by byte, as a loop's index counts ──────────────────────────────────

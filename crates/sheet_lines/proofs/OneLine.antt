@@ -10,6 +10,7 @@ use lib.ListN.{length, drop, getD, length-drop, length-map}
 use lib.Seq.{drop-cons, drop-drop}
 use Rattle.lists.specs.Choose.{choose}
 use Rattle.lists.specs.Every.{every}
+use Rattle.lists.proofs.Refuted.{never}
 use Rattle.alphabet.specs.Letter.{isLetter}
 use Rattle.text.specs.Numbers.{value}
 use Rattle.text.specs.Parts.{upTo, later, tab, feed}
@@ -19,7 +20,7 @@ use Rattle.sheet_lines.specs.declared.Tail.{Tail}
 use Rattle.sheet_lines.specs.declared.Tail.the-variants as tail
 use Rattle.sheet_lines.specs.declared.Line.{Line}
 use Rattle.sheet_lines.specs.declared.Line.the-variants as line
-use Rattle.text.proofs.Tests.{both, never}
+use Rattle.text.proofs.Tests.{both}
 use Rattle.text.proofs.Parts.{inside-part, up-short}
 use Rattle.sheet_lines.proofs.Letters.{tab-other, feed-other, span-up, letters-all, letters-length}
 
@@ -38,14 +39,16 @@ both-wrong false = refl
 same-answer : (k n w p p' q : ℕ) (x : Bool) → p ≡ p' → (x ≡ true → q ≡ w)
     → choose ((leb k n && true) && x) (line.Good p n q) line.Wrong ≡ choose (ltb n k) line.Wrong (lineWith n w (choose x (tail.Good p') tail.Wrong))
 same-answer k n w p p' q x e f = go (ltb n k) refl x refl where
-  go : (t : Bool) → ltb n k ≡ t → (u : Bool) → x ≡ u → choose ((leb k n && true) && x) (line.Good p n q) line.Wrong ≡ choose (ltb n k) line.Wrong (lineWith n w (choose x (tail.Good p') tail.Wrong))
+  go : (t : Bool) → ltb n k ≡ t → (u : Bool) → x ≡ u
+      → choose ((leb k n && true) && x) (line.Good p n q) line.Wrong ≡ choose (ltb n k) line.Wrong (lineWith n w (choose x (tail.Good p') tail.Wrong))
   go true g u h = rw (lt-leb k n (ltb-true _ _ g), g)
   go false g true h = rw (le-leb k n (ltb-false _ _ g), g, h) (λ i. line.Good (e i) n (f h i))
   go false g false h = rw (le-leb k n (ltb-false _ _ g), g, h)
 
 -- a marked line is found by its letters and what stands behind them
 line-list : (k i : ℕ) (l : List ℕ) (ms : List (List ℕ))
-    → lineOf k i (83 ∷ (tab ∷ l)) ms ≡ choose (ltb (span l) k) line.Wrong (lineWith (span l) (span l + 1 - k) (tailOf (span l + 1 - k) (i + 2 + span l) (drop (span l) l) ms))
+    → lineOf k i (83 ∷ (tab ∷ l)) ms
+    ≡ choose (ltb (span l) k) line.Wrong (lineWith (span l) (span l + 1 - k) (tailOf (span l + 1 - k) (i + 2 + span l) (drop (span l) l) ms))
 unfolding lineOf tailOf isStringLine isString upTo later
 line-list k i l [] = both-wrong (ltb (span l) k)
 line-list k i l (m ∷ ms) = go (isEmpty (upTo tab (drop (span l) l))) refl where
@@ -82,7 +85,8 @@ marked-up (b ∷ []) = go (eqb b feed) where
   go true = refl
   go false = refl
 marked-up (b ∷ (c ∷ r)) = go (eqb b feed) refl (eqb c feed) refl where
-  go : (t : Bool) → eqb b feed ≡ t → (u : Bool) → eqb c feed ≡ u → marked (choose t [] (b ∷ choose u [] (c ∷ upTo feed r))) ≡ choose (eqb b 83) (eqb c tab) false
+  go : (t : Bool) → eqb b feed ≡ t → (u : Bool) → eqb c feed ≡ u
+      → marked (choose t [] (b ∷ choose u [] (c ∷ upTo feed r))) ≡ choose (eqb b 83) (eqb c tab) false
   go true e u g = sym (ap (λ (x : ℕ). choose (eqb x 83) (eqb c tab) false) (eqb-true b feed e))
   go false e true g = sym (ap (λ (x : ℕ). choose (eqb b 83) (eqb x tab) false) (eqb-true c feed g) ∙ pick-same (eqb b 83))
   go false e false g = refl
@@ -96,7 +100,8 @@ marked-line k (b ∷ []) h = go (eqb b tab) h where
   go true g = g
   go false g = both (eqb b 83) _ g .1
 marked-line k (b ∷ (c ∷ l)) h = go (eqb b tab) (eqb c tab) refl _ h where
-  go : (t : Bool) (u : Bool) → eqb c tab ≡ u → (x : Bool) → (isMark 83 (choose t [] (b ∷ choose u [] (c ∷ upTo tab l))) && x) ≡ true → choose (eqb b 83) (eqb c tab) false ≡ true
+  go : (t : Bool) (u : Bool) → eqb c tab ≡ u → (x : Bool) → (isMark 83 (choose t [] (b ∷ choose u [] (c ∷ upTo tab l))) && x) ≡ true
+      → choose (eqb b 83) (eqb c tab) false ≡ true
   go true u e x g = never g
   go false true e x g = rw (both (eqb b 83) x g .0, e)
   go false false e x g = never g
@@ -146,7 +151,8 @@ module _ (s : List ℕ) (at : ℕ) where
   front h =
       let l : at + 1 < length s = omega (arith, marked-room h) in
       go (eqb (getD s at 0) 83) refl (sym (marked-is l) ∙ h) l where
-        go : (t : Bool) → eqb (getD s at 0) 83 ≡ t → choose t (eqb (getD s (at + 1) 0) tab) false ≡ true → at + 1 < length s → drop at s ≡ 83 ∷ (tab ∷ drop (at + 2) s)
+        go : (t : Bool) → eqb (getD s at 0) 83 ≡ t → choose t (eqb (getD s (at + 1) 0) tab) false ≡ true → at + 1 < length s
+            → drop at s ≡ 83 ∷ (tab ∷ drop (at + 2) s)
         go true e g l = two l ∙ (λ i. eqb-true (getD s at 0) 83 e i ∷ (eqb-true (getD s (at + 1) 0) tab g i ∷ drop (at + 2) s))
         go false e g l = never g
 

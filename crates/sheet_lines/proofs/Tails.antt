@@ -10,7 +10,9 @@ use lib.Dec.{ltb, eqb, eqb·suc-suc, eqb·zero-suc, eqb·suc-zero}
 use lib.ListN.{length, drop, getD, drop-of-length-le, length-drop}
 use lib.Seq.{drop-length, drop-drop}
 use Rattle.lists.specs.Choose.{choose}
+use Rattle.lists.specs.Limits.{mostWeight}
 use Rattle.lists.specs.Every.{every}
+use Rattle.lists.proofs.Refuted.{refuted}
 use Rattle.text.specs.Numbers.{value}
 use Rattle.text.specs.Parts.{upTo, later, tab, feed}
 use Rattle.sheet.specs.Sheet.{isWeightField}
@@ -24,18 +26,20 @@ use Rattle.text.proofs.Bytes.{byte-here, byte-other}
 -- ─── one weight ──────────────────────────────────────────────────────────────
 
 -- a good weight: its field is good, and this is where it ends and what its value is
-pub weight-good : (i : ℕ) (f : List ℕ) (v next : ℕ) → numberOf 16777215 i f ≡ number.Good v next → (isWeightField f ≡ true) × (next ≡ i + length f) × (v ≡ value f)
+pub weight-good : (i : ℕ) (f : List ℕ) (v next : ℕ) → numberOf mostWeight i f ≡ number.Good v next
+    → (isWeightField f ≡ true) × (next ≡ i + length f) × (v ≡ value f)
 unfolding numberOf isWeightField
 weight-good i f v next h = go (isWeightField f) refl h where
-  go : (t : Bool) → isWeightField f ≡ t → choose t (number.Good (value f) (i + length f)) number.Wrong ≡ number.Good v next → (isWeightField f ≡ true) × (next ≡ i + length f) × (v ≡ value f)
+  go : (t : Bool) → isWeightField f ≡ t → choose t (number.Good (value f) (i + length f)) number.Wrong ≡ number.Good v next
+      → (isWeightField f ≡ true) × (next ≡ i + length f) × (v ≡ value f)
   go true e r = (e, cc, cc)
-  go false e r = let z : _≡_ {A = ℕ} 0 1 = cc in absurd (omega arith)
+  go false e r = refuted (cc)
 
-weight-wrong : (i : ℕ) (f : List ℕ) → numberOf 16777215 i f ≡ number.Wrong → isWeightField f ≡ false
+weight-wrong : (i : ℕ) (f : List ℕ) → numberOf mostWeight i f ≡ number.Wrong → isWeightField f ≡ false
 unfolding numberOf isWeightField
 weight-wrong i f h = go (isWeightField f) refl h where
   go : (t : Bool) → isWeightField f ≡ t → choose t (number.Good (value f) (i + length f)) number.Wrong ≡ number.Wrong → isWeightField f ≡ false
-  go true e r = let z : _≡_ {A = ℕ} 0 1 = cc in absurd (omega arith)
+  go true e r = refuted (cc)
   go false e r = e
 
 -- behind a weight stand the rest of its line, and the same lines after it
@@ -136,7 +140,9 @@ module _ (s : List ℕ) (i : ℕ) where
     tail-no-tab h = go (ltb i (length s)) refl (eqb (getD s i 0) feed) refl where
       go : (t : Bool) → ltb i (length s) ≡ t → (u : Bool) → eqb (getD s i 0) feed ≡ u → tailAt s i j ≡ tail.Wrong
       go false e u g = tail-past s i j (ltb-false _ _ e)
-      go true e true g = at-feed j (ltb-true _ _ e) (eqb-true _ _ g) ∙ (ap (λ (x : ℕ). tailOf x i [] (upTo feed (drop (i + 1) s) ∷ later feed (drop (i + 1) s))) (sym up-one) ∙ tail-none (j - 1) i _)
+      go true e true g =
+          at-feed j (ltb-true _ _ e) (eqb-true _ _ g)
+          ∙ (ap (λ (x : ℕ). tailOf x i [] (upTo feed (drop (i + 1) s) ∷ later feed (drop (i + 1) s))) (sym up-one) ∙ tail-none (j - 1) i _)
       go true e false g =
           let l = ltb-true _ _ e in
           on-line j l (eqb-false _ _ g) ∙ tail-other j i _ _ _ (byte-other s i tab h l)

@@ -6,6 +6,7 @@ use mathlib.Core.List.{List, [], _∷_, map}
 use lib.ListN.{length, drop, getD}
 use lib.Dec.{ltb, eqb}
 use Rattle.lists.specs.Choose.{choose}
+use Rattle.lists.specs.Limits.{mostWeight}
 use Rattle.lists.specs.Every.{every}
 use Rattle.alphabet.specs.Letter.{isLetter}
 use Rattle.collection_faults.specs.Faults.{isWeight}
@@ -33,7 +34,7 @@ span (b ∷ bs) = choose (isLetter b) (suc (span bs)) 0
 
 -- the weight at a place of the sheet s: the number there, up to the next tab
 abbrev pub weightAt : List ℕ → ℕ → Number
-weightAt s at = numberAt tab 16777215 s at
+weightAt s at = numberAt tab mostWeight s at
 
 -- ─── lines ───────────────────────────────────────────────────────────────────
 
@@ -45,7 +46,8 @@ isEmpty (b ∷ bs) = false
 -- exactly n weight fields up to the line's end, and its line feed; l is the line from i on, ls the parts after it
 unfoldable pub tailOf : ℕ → ℕ → List ℕ → List (List ℕ) → Tail
 tailOf n i l [] = tail.Wrong
-tailOf n i l (m ∷ ls) = choose (isEmpty (upTo tab l) && (eqb (length (later tab l)) n && every isWeightField (later tab l))) (tail.Good (i + length l + 1)) tail.Wrong
+tailOf n i l (m ∷ ls) =
+    choose (isEmpty (upTo tab l) && (eqb (length (later tab l)) n && every isWeightField (later tab l))) (tail.Good (i + length l + 1)) tail.Wrong
 
 -- the same at a place of the sheet s
 abbrev pub tailAt : List ℕ → ℕ → ℕ → Tail
@@ -74,7 +76,8 @@ marked (b ∷ (c ∷ bs)) = choose (eqb b 83) (eqb c tab) false
 unfoldable pub lineOf : ℕ → ℕ → List ℕ → List (List ℕ) → Line
 lineOf k i l [] = line.Wrong
 lineOf k i l (m ∷ ls) =
-    choose (isStringLine k l) (line.Good (i + length l + 1) (length ((stringOf (later tab l)) .letters)) (length ((stringOf (later tab l)) .weights))) line.Wrong
+    choose (isStringLine k l)
+    (line.Good (i + length l + 1) (length ((stringOf (later tab l)) .letters)) (length ((stringOf (later tab l)) .weights))) line.Wrong
 
 -- the same at a place of the sheet s
 abbrev pub lineAt : ℕ → List ℕ → ℕ → Line

@@ -5,6 +5,7 @@ use Prim.Native.Nat.{ℕ, suc, _+_, _-_, _<_, _≤_}
 use native.Mathlib.Omega.{arith}
 use lib.ListN.{length, drop, take, length-append, set, drop-of-length-le}
 use Rattle.lists.specs.Fill.{put, fill}
+use Rattle.lists.specs.Limits.{mostLetters}
 use Rattle.lists.proofs.Storing.{Storing, begin, store, restated, stored}
 use Rattle.collection.specs.Strings.{Str, lettersIn, weightsIn, endsIn}
 use Rattle.collection.proofs.Strings.{ends-length}
@@ -54,14 +55,15 @@ none-left s i h = rw (drop-of-length-le s h)
 pub record State (k : ℕ) (s : List ℕ) (a b c : ℕ) (A B C : List ℕ) (i n m w : ℕ) (ls es ws : List ℕ) : Type 0 where
   pub inside : i ≤ length s
   pub lines : firstWrong k (suc (m + 1)) (linesAt s i) ≡ 0
-  pub small : n + length (lettersIn (stringsAt s i)) ≤ 1048576
+  pub small : n + length (lettersIn (stringsAt s i)) ≤ mostLetters
   pub letters : Storing a ls A (lettersIn (stringsAt s i)) n
   pub ends : Storing b es B (endsIn n (stringsAt s i)) m
   pub weights : Storing c ws C (weightsIn (stringsAt s i)) w
 
 -- at the start nothing is stored
 pub begin-state : {k at : ℕ} {s : List ℕ} (ls es ws : List ℕ) → Fits k s at (length ls) (length es) (length ws)
-    → State k s (length ls) (length es) (length ws) (fill (lettersIn (stringsAt s at)) ls) (fill (endsIn 0 (stringsAt s at)) es) (fill (weightsIn (stringsAt s at)) ws) at 0 0 0 ls es ws
+    → State k s (length ls) (length es) (length ws) (fill (lettersIn (stringsAt s at)) ls) (fill (endsIn 0 (stringsAt s at)) es)
+    (fill (weightsIn (stringsAt s at)) ws) at 0 0 0 ls es ws
 begin-state {k} {at} {s} ls es ws f =
     record {
       inside = f .inside;
@@ -78,7 +80,7 @@ pub record Split (k : ℕ) (s : List ℕ) (a b c : ℕ) (A B C : List ℕ) (i e 
   pub size : length (take (e - (i + 2)) (drop (i + 2) s)) ≡ e - (i + 2)
   pub letters-room : n + (e - (i + 2)) ≤ length ls
   pub weights-room : w + length (weightsAt s e) ≤ length ws
-  pub small : n + (e - (i + 2)) + length (lettersIn (stringsAt s (row .feed-at + 1))) ≤ 1048576
+  pub small : n + (e - (i + 2)) + length (lettersIn (stringsAt s (row .feed-at + 1))) ≤ mostLetters
   pub letters : Storing a ls A (take (e - (i + 2)) (drop (i + 2) s) ++ lettersIn (stringsAt s (row .feed-at + 1))) n
   pub ends : Storing b es B ((n + (e - (i + 2))) ∷ endsIn (n + (e - (i + 2))) (stringsAt s (row .feed-at + 1))) m
   pub weights : Storing c ws C (weightsAt s e ++ weightsIn (stringsAt s (row .feed-at + 1))) w
@@ -114,8 +116,11 @@ module _ {k : ℕ} {s : List ℕ} {a b c : ℕ} {A B C : List ℕ} {i n m w : �
   -- no line is left: the tables are what they were to become
   pub end-state : length s ≤ i → (ls ≡ A) × (es ≡ B) × (ws ≡ C)
   end-state h =
-      let z = none-left s i h in
-      (stored (restated (ap lettersIn z ∙ no-letters) (st .letters)), stored (restated (ap (endsIn n) z ∙ no-ends n) (st .ends)), stored (restated (ap weightsIn z ∙ no-weights) (st .weights)))
+      let z = none-left s i h in (
+        stored (restated (ap lettersIn z ∙ no-letters) (st .letters)),
+        stored (restated (ap (endsIn n) z ∙ no-ends n) (st .ends)),
+        stored (restated (ap weightsIn z ∙ no-weights) (st .weights)),
+      )
 
 -- f is where the line's feed was found
 module _ {k : ℕ} {s : List ℕ} {a b c : ℕ} {A B C : List ℕ} {i e n m w : ℕ} {ls es ws : List ℕ} (sp : Split k s a b c A B C i e n m w ls es ws)

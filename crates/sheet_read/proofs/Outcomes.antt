@@ -7,14 +7,16 @@ use native.Mathlib.Omega.{arith}
 use lib.ListN.{length}
 use Rattle.lists.specs.Choose.{choose}
 use Rattle.lists.specs.Fill.{fill}
+use Rattle.lists.proofs.Refuted.{refuted}
 use Rattle.collection.specs.declared.Verdict.{Verdict}
 use Rattle.collection.specs.declared.Verdict.the-variants.{Good, Bad}
 use Rattle.collection.specs.Strings.{Str, lettersIn, endsIn, weightsIn}
+use Rattle.collection.specs.Tables.{Tables, tables, filledBy, Rooms, roomsOf}
 use Rattle.collection.specs.Verdict.{settle}
 use Rattle.collection.proofs.Verdicts.{both-good, test-good, then-bad, then-good, refused, settled, done-by}
 use Rattle.sheet.specs.declared.ReadAnswer.the-variants as answer
 use Rattle.text.specs.Parts.{upTo, later, feed}
-use Rattle.sheet.specs.Read.{sheetN, sheetM, sheetWeights, tablesVerdict, readVerdict, readOutcome, readOf}
+use Rattle.sheet.specs.Read.{sheetN, sheetM, sheetWeights, readVerdict, readOutcome, readOf}
 use Rattle.sheet.specs.Sheet.{sheetK, sheetStrings, isHead, stringsOf, firstWrong, sheetVerdict}
 use Rattle.sheet.proofs.Accepted.{sheet-good}
 use Rattle.sheet.proofs.Taken.{read-takes}
@@ -34,12 +36,12 @@ module _ (s : List ℕ) (v : Verdict) where
   was-bad {number} {place} h = go v refl h
     where
       go : (w : Verdict) → v ≡ w → settle w judged.Bad (held s) ≡ judged.Bad number place → v ≡ Bad number place
-      go Good e q = let z : _≡_ {A = ℕ} 0 1 = cc in absurd (omega arith)
+      go Good e q = refuted (cc)
       go (Bad n p) e q = let a : n ≡ number = cc in let b : p ≡ place = cc in e ∙ (λ i. Bad (a i) (b i))
 
   was-good : {k next n m w : ℕ} → settle v judged.Bad (held s) ≡ judged.Good k next n m w → (v ≡ Good) × (held s ≡ judged.Good k next n m w)
   was-good {k} {next} {n} {m} {w} h =
-      let a = done-by (λ (j : Judged). j) v judged.Bad (held s) (judged.Good k next n m w) (λ number place q. let z : _≡_ {A = ℕ} 0 1 = cc in let y : ⊥ = omega arith in y) h in
+      let a = done-by (λ (j : Judged). j) v judged.Bad (held s) (judged.Good k next n m w) (λ number place q. refuted (cc)) h in
       (a .0, a .2)
 
 -- what the lines hold, and where line 2 starts
@@ -55,9 +57,9 @@ holding s h = record { k-is = cc; next-is = cc; n-is = cc; m-is = cc; w-is = cc 
 
 -- ─── a judged sheet, then its tables ─────────────────────────────────────────
 
-module _ (s : List ℕ) (a b c : ℕ) {j : Judged} (e : j ≡ judgedOf s) where
+module _ (s : List ℕ) (r : Rooms) {j : Judged} (e : j ≡ judgedOf s) where
   -- refused by a line or by k
-  pub lines-refused : {number place : ℕ} → j ≡ judged.Bad number place → j ≡ judgedIn s a b c
+  pub lines-refused : {number place : ℕ} → j ≡ judged.Bad number place → j ≡ judgedIn s r
   unfolding judgedOf judgedIn readVerdict
   lines-refused q = q ∙ refused judged.Bad _ (then-bad _ (was-bad s (sheetVerdict s) (sym e ∙ q)))
 
@@ -66,18 +68,18 @@ module _ (s : List ℕ) (a b c : ℕ) {j : Judged} (e : j ≡ judgedOf s) where
     unfolding judgedOf
     good = was-good s (sheetVerdict s) (sym e ∙ q)
 
-    read-verdict : {v : Verdict} → countsVerdict n m w a b c ≡ v → readVerdict s a b c ≡ v
-    unfolding readVerdict tablesVerdict
+    read-verdict : {v : Verdict} → countsVerdict n m w r ≡ v → readVerdict s r ≡ v
+    unfolding readVerdict
     read-verdict t =
         let h = holding s (good .1) in
-        then-good _ (good .0) ((λ i. countsVerdict (h .n-is i) (h .m-is i) (h .w-is i) a b c) ∙ t)
+        then-good _ (good .0) ((λ i. countsVerdict (h .n-is i) (h .m-is i) (h .w-is i) r) ∙ t)
 
     -- refused by 3 or 1
-    pub tables-refused : {v : Verdict} {number place : ℕ} → v ≡ countsVerdict n m w a b c → v ≡ Bad number place → judged.Bad number place ≡ judgedIn s a b c
+    pub tables-refused : {v : Verdict} {number place : ℕ} → v ≡ countsVerdict n m w r → v ≡ Bad number place → judged.Bad number place ≡ judgedIn s r
     unfolding judgedIn
     tables-refused t f = refused judged.Bad _ (read-verdict (sym t ∙ f))
 
-    pub tables-good : {v : Verdict} → v ≡ countsVerdict n m w a b c → v ≡ Good → judged.Good k next n m w ≡ judgedIn s a b c
+    pub tables-good : {v : Verdict} → v ≡ countsVerdict n m w r → v ≡ Good → judged.Good k next n m w ≡ judgedIn s r
     unfolding judgedIn
     tables-good t f = settled judged.Bad (sym (good .1)) (read-verdict (sym t ∙ f))
 
@@ -90,37 +92,37 @@ accepted-head s h =
     let g : isHead (upTo feed s) (later feed s) ≡ true = test-good _ 11 1 Good (both-good _ _ h .0) .0 in
     headed s _ _ (ap (λ (t : Bool). choose t (head.Good (sheetK s) (length (upTo feed s) + 1)) head.Wrong) g)
 
-module _ (s letters ends weights : List ℕ) {j : Judged} (e : j ≡ judgedIn s (length letters) (length ends) (length weights)) where
+module _ (s : List ℕ) (t : Tables) {j : Judged} (e : j ≡ judgedIn s (roomsOf t)) where
   -- a refusal leaves the tables
-  pub read-refused : {number place : ℕ} → j ≡ judged.Bad number place → readOutcome (answer.Refused number place) letters ends weights ≡ readOf s letters ends weights
+  pub read-refused : {number place : ℕ} → j ≡ judged.Bad number place → readOutcome (answer.Refused number place) t ≡ readOf s t
   unfolding judgedIn readOf
-  read-refused q = refused (λ number place. readOutcome (answer.Refused number place) letters ends weights) _ (was-bad s (readVerdict s _ _ _) (sym e ∙ q))
+  read-refused q = refused (λ number place. readOutcome (answer.Refused number place) t) _ (was-bad s (readVerdict s _) (sym e ∙ q))
 
   module _ {k next n m w : ℕ} (q : j ≡ judged.Good k next n m w) where
-    taken : (readVerdict s (length letters) (length ends) (length weights) ≡ Good) × (held s ≡ judged.Good k next n m w)
+    taken : (readVerdict s (roomsOf t) ≡ Good) × (held s ≡ judged.Good k next n m w)
     unfolding judgedIn
-    taken = was-good s (readVerdict s _ _ _) (sym e ∙ q)
+    taken = was-good s (readVerdict s _) (sym e ∙ q)
 
     strings-left : stringsAt s next ≡ sheetStrings s
     strings-left =
-        let t = read-takes s _ _ _ (taken .0) in
+        let a = read-takes s _ (taken .0) in
         let h = holding s (taken .1) in
-        ap (λ (x : ℕ). stringsAt s x) (sym (h .next-is)) ∙ ap stringsOf (accepted-head s (t .0) .lines)
+        ap (λ (x : ℕ). stringsAt s x) (sym (h .next-is)) ∙ ap stringsOf (accepted-head s (a .0) .lines)
 
     -- the judged lines may fill the tables
-    pub read-fits : Fits k s next (length letters) (length ends) (length weights)
+    pub read-fits : Fits k s next (length t.letters) (length t.ends) (length t.weights)
     read-fits =
-        let t = read-takes s _ _ _ (taken .0) in
+        let a = read-takes s _ (taken .0) in
         let h = holding s (taken .1) in
-        let d = accepted-head s (t .0) in
+        let d = accepted-head s (a .0) in
         let l : linesAt s next ≡ later feed s = ap (λ (x : ℕ). linesAt s x) (sym (h .next-is)) ∙ d .lines in
-        let w = t .1 in
+        let w = a .1 in
         let p : length (lettersIn (stringsAt s next)) ≡ sheetN s = ap (λ (ss : List Str). length (lettersIn ss)) strings-left in
         let r : length (stringsAt s next) ≡ sheetM s = ap length strings-left in
         let u : length (weightsIn (stringsAt s next)) ≡ sheetWeights s = ap (λ (ss : List Str). length (weightsIn ss)) strings-left in
         record {
           inside = omega (arith, d .inside, h .next-is);
-          lines = (λ i. firstWrong (sym (h .k-is) i) 2 (l i)) ∙ sheet-good s (t .0) .lines;
+          lines = (λ i. firstWrong (sym (h .k-is) i) 2 (l i)) ∙ sheet-good s (a .0) .lines;
           small = omega (arith, w .few-letters);
           letters-room = omega (arith, w .letters-room);
           ends-room = omega (arith, w .ends-room);
@@ -128,13 +130,15 @@ module _ (s letters ends weights : List ℕ) {j : Judged} (e : j ≡ judgedIn s 
         }
 
     -- filled from the judged lines they are what READ leaves
-    pub read-filled : {letters' ends' weights' : List ℕ} → letters' ≡ fill (lettersIn (stringsAt s next)) letters → ends' ≡ fill (endsIn 0 (stringsAt s next)) ends → weights' ≡ fill (weightsIn (stringsAt s next)) weights
-        → readOutcome (answer.Filled k n m w) letters' ends' weights' ≡ readOf s letters ends weights
+    pub read-filled : {letters' ends' weights' : List ℕ}
+        → letters' ≡ fill (lettersIn (stringsAt s next)) t.letters
+        → ends' ≡ fill (endsIn 0 (stringsAt s next)) t.ends
+        → weights' ≡ fill (weightsIn (stringsAt s next)) t.weights
+        → readOutcome (answer.Filled k n m w) (tables letters' ends' weights') ≡ readOf s t
     unfolding readOf
     read-filled x y z =
         let h = holding s (taken .1) in
-        let l = strings-left in
-        settled (λ number place. readOutcome (answer.Refused number place) letters ends weights)
-        ((λ i. readOutcome (answer.Filled (sym (h .k-is) i) (sym (h .n-is) i) (sym (h .m-is) i) (sym (h .w-is) i)) (x i) (y i) (z i))
-        ∙ ap (λ (ss : List Str). readOutcome (answer.Filled (sheetK s) (sheetN s) (sheetM s) (sheetWeights s)) (fill (lettersIn ss) letters) (fill (endsIn 0 ss) ends) (fill (weightsIn ss) weights)) l)
+        settled (λ number place. readOutcome (answer.Refused number place) t)
+        ((λ i. readOutcome (answer.Filled (sym (h .k-is) i) (sym (h .n-is) i) (sym (h .m-is) i) (sym (h .w-is) i)) (tables (x i) (y i) (z i)))
+        ∙ ap (λ (ss : List Str). readOutcome (answer.Filled (sheetK s) (sheetN s) (sheetM s) (sheetWeights s)) (filledBy ss t)) strings-left)
         (taken .0)

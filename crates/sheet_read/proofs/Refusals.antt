@@ -6,6 +6,7 @@ use Prim.Native.Nat.{ℕ, suc, _+_, _≤_}
 use native.Mathlib.Omega.{arith}
 use lib.ListN.{length, drop}
 use Rattle.lists.specs.Choose.{choose}
+use Rattle.lists.proofs.Refuted.{refuted, never}
 use Rattle.collection.specs.declared.Verdict.{Verdict}
 use Rattle.collection.specs.declared.Verdict.the-variants.{Good, Bad}
 use Rattle.collection.specs.Judge.{kVerdict}
@@ -18,7 +19,6 @@ use Rattle.sheet_read.specs.Judged.{judgedOf, held}
 use Rattle.sheet_lines.specs.declared.Head.the-variants as head
 use Rattle.sheet_lines.specs.declared.Counted.the-variants as counted
 use Rattle.sheet_read.specs.declared.Judged.the-variants as judged
-use Rattle.text.proofs.Tests.{never}
 use Rattle.text.proofs.Parts.{parts, past-sep}
 use Rattle.sheet_lines.proofs.Counts.{counts-good, counts-wrong}
 
@@ -26,8 +26,9 @@ use Rattle.sheet_lines.proofs.Counts.{counts-good, counts-wrong}
 pub head-wrong : (s : List ℕ) → headIn s ≡ head.Wrong → judged.Bad 11 1 ≡ judgedOf s
 unfolding judgedOf sheetVerdict settle andThen headOf
 head-wrong s h = go (isHead (upTo feed s) (later feed s)) refl h where
-  go : (t : Bool) → isHead (upTo feed s) (later feed s) ≡ t → choose t (head.Good (sheetK s) (length (upTo feed s) + 1)) head.Wrong ≡ head.Wrong → judged.Bad 11 1 ≡ judgedOf s
-  go true e r = let z : _≡_ {A = ℕ} 0 1 = cc in absurd (omega arith)
+  go : (t : Bool) → isHead (upTo feed s) (later feed s) ≡ t → choose t (head.Good (sheetK s) (length (upTo feed s) + 1)) head.Wrong ≡ head.Wrong
+      → judged.Bad 11 1 ≡ judgedOf s
+  go true e r = refuted (cc)
   go false e r = rw e
 
 -- line 1 is good: its k, where line 2 starts, and the lines from there
@@ -39,7 +40,8 @@ pub record Headed (s : List ℕ) (k next : ℕ) : Type 0 where
   pub later-one : 2 ≤ next
   pub lines : linesAt s next ≡ later feed s
 
-some-line : (s : List ℕ) (ls : List (List ℕ)) → later feed s ≡ ls → isHead (upTo feed s) ls ≡ true → (parts feed (drop (suc (length (upTo feed s))) s) ≡ later feed s) × (suc (length (upTo feed s)) ≤ length s)
+some-line : (s : List ℕ) (ls : List (List ℕ)) → later feed s ≡ ls → isHead (upTo feed s) ls ≡ true
+    → (parts feed (drop (suc (length (upTo feed s))) s) ≡ later feed s) × (suc (length (upTo feed s)) ≤ length s)
 some-line s [] e h = never h
 some-line s (m ∷ ms) e h = past-sep feed s m ms e
 
@@ -53,7 +55,8 @@ line-some (b ∷ l) (m ∷ ms) h = omega arith
 pub headed : (s : List ℕ) (k next : ℕ) → headIn s ≡ head.Good k next → Headed s k next
 unfolding headOf
 headed s k next h = go (isHead (upTo feed s) (later feed s)) refl h where
-  go : (t : Bool) → isHead (upTo feed s) (later feed s) ≡ t → choose t (head.Good (sheetK s) (length (upTo feed s) + 1)) head.Wrong ≡ head.Good k next → Headed s k next
+  go : (t : Bool) → isHead (upTo feed s) (later feed s) ≡ t → choose t (head.Good (sheetK s) (length (upTo feed s) + 1)) head.Wrong ≡ head.Good k next
+      → Headed s k next
   go true e r =
       let n : next ≡ length (upTo feed s) + 1 = cc in
       let l = some-line s (later feed s) refl e in
@@ -67,7 +70,7 @@ headed s k next h = go (isHead (upTo feed s) (later feed s)) refl h where
         later-one = omega arith;
         lines = ap (λ (x : ℕ). parts feed (drop x s)) (n ∙ z) ∙ l .0;
       }
-  go false e r = let z : _≡_ {A = ℕ} 0 1 = cc in absurd (omega arith)
+  go false e r = refuted (cc)
 
 module _ (s : List ℕ) (k next : ℕ) (h : Headed s k next) where
   sheet-is : sheetVerdict s ≡ andThen (kVerdict k) (atPlace 11 (firstWrong k 2 (later feed s)))

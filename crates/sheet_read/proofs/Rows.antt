@@ -9,6 +9,7 @@ use lib.Dec.{ltb, eqb}
 use lib.ListN.{length, drop, take, length-drop}
 use lib.Seq.{drop-drop}
 use Rattle.lists.specs.Choose.{choose}
+use Rattle.lists.proofs.Refuted.{refuted, never}
 use Rattle.text.specs.Numbers.{value}
 use Rattle.text.specs.Parts.{upTo, later, tab, feed}
 use Rattle.collection.specs.Strings.{Str}
@@ -18,7 +19,6 @@ use Rattle.sheet_lines.specs.declared.Tail.{Tail}
 use Rattle.sheet_lines.specs.declared.Tail.the-variants as tail
 use Rattle.sheet_lines.specs.declared.Line.{Line}
 use Rattle.sheet_lines.specs.declared.Line.the-variants as line
-use Rattle.text.proofs.Tests.{never}
 use Rattle.sheet.proofs.Accepted.{choose-zero}
 use Rattle.text.proofs.Parts.{parts, inside-part, past-sep, up-short, up-take, take-up, some-part}
 use Rattle.sheet_lines.proofs.Letters.{tab-other, feed-other, span-up}
@@ -32,9 +32,9 @@ unfolding firstWrong lineOf
 wrong-bad k q i l [] h o e = omega (arith, eqb-true (length l) 0 (choose-zero (eqb (length l) 0) 0 q h .0))
 wrong-bad k q i l (m ∷ ms) h o e =
     let t = choose-zero (isStringLine k l) _ q h in
-    let g : line.Good (i + length l + 1) (length ((stringOf (later tab l)) .letters)) (length ((stringOf (later tab l)) .weights)) ≡ line.Wrong = clash (isStringLine k l) _ (t .0) e in
-    let z : _≡_ {A = ℕ} 0 1 = cc in
-    omega arith where
+    let g : line.Good (i + length l + 1) (length ((stringOf (later tab l)) .letters)) (length ((stringOf (later tab l)) .weights)) ≡ line.Wrong =
+    clash (isStringLine k l) _ (t .0) e in
+    refuted (cc) where
       clash : (t : Bool) (x : Line) → t ≡ true → choose t x line.Wrong ≡ line.Wrong → x ≡ line.Wrong
       clash true x e r = r
       clash false x e r = never e
@@ -94,10 +94,12 @@ module _ (k q : ℕ) (s : List ℕ) (i e : ℕ) (h : firstWrong k (suc q) (lines
       let f = found k i (upTo feed r) (later feed r) next n w g in
       let o = past-sep feed r (f .m) (f .rest) (f .more) in
       let z : i + length (upTo feed r) + 1 ≡ i + suc (length (upTo feed r)) = omega arith in
-      let d : drop (i + length (upTo feed r) + 1) s ≡ drop (suc (length (upTo feed r))) r = ap (λ (y : ℕ). drop y s) z ∙ sym (drop-drop (suc (length (upTo feed r))) i s) in
+      let d : drop (i + length (upTo feed r) + 1) s ≡ drop (suc (length (upTo feed r))) r =
+      ap (λ (y : ℕ). drop y s) z ∙ sym (drop-drop (suc (length (upTo feed r))) i s) in
       let ln : linesAt s (i + length (upTo feed r) + 1) ≡ f .m ∷ f .rest = ap (parts feed) d ∙ (o .0 ∙ f .more) in
       let fr : upTo feed r ≡ 83 ∷ (tab ∷ l2) = ap (upTo feed) (front s i row-marked) ∙ front-up s i x in
-      let fe : stringOf (later tab (upTo feed r)) ≡ string (upTo tab l2) (map value (later tab l2)) = ap (λ (y : List ℕ). stringOf (later tab y)) fr ∙ front-fields l2 in
+      let fe : stringOf (later tab (upTo feed r)) ≡ string (upTo tab l2) (map value (later tab l2)) =
+      ap (λ (y : List ℕ). stringOf (later tab y)) fr ∙ front-fields l2 in
       let a : length (upTo tab l2) ≡ n = sym (f .letters ∙ ap (λ (y : Str). length (y .letters)) fe) in
       let b : upTo tab l2 ≡ take n x = up-take tab l2 ∙ (ap (λ (y : ℕ). take y l2) a ∙ take-up feed x n (omega (arith, up-short tab l2, a))) in
       let su = span-up feed feed-other x in
@@ -105,7 +107,8 @@ module _ (k q : ℕ) (s : List ℕ) (i e : ℕ) (h : firstWrong k (suc q) (lines
       let ue : upTo feed (drop e s) ≡ drop (span x) l2 = ap (upTo feed) de ∙ inside-part feed (span x) x (su .1) .0 in
       let st = span-up tab tab-other l2 in
       let le : later tab (upTo feed (drop e s)) ≡ later tab l2 = ap (later tab) ue ∙ inside-part tab (span x) l2 (omega (arith, su .0, st .1)) .1 in
-      let hm : firstWrong k (suc q) (upTo feed r ∷ (f .m ∷ f .rest)) ≡ 0 = ap (λ (y : List (List ℕ)). firstWrong k (suc q) (upTo feed r ∷ y)) (sym (f .more)) ∙ h in
+      let hm : firstWrong k (suc q) (upTo feed r ∷ (f .m ∷ f .rest)) ≡ 0 =
+      ap (λ (y : List (List ℕ)). firstWrong k (suc q) (upTo feed r ∷ y)) (sym (f .more)) ∙ h in
       record {
         start = omega arith;
         long = row-long;

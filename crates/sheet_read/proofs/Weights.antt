@@ -9,6 +9,7 @@ use lib.Dec.{eqb}
 use lib.ListN.{length, drop, getD}
 use Rattle.lists.specs.Choose.{choose}
 use Rattle.lists.specs.Every.{every}
+use Rattle.lists.proofs.Refuted.{never}
 use Rattle.text.specs.Numbers.{value}
 use Rattle.text.specs.Parts.{upTo, later, tab, feed}
 use Rattle.sheet.specs.Sheet.{isWeightField}
@@ -17,7 +18,7 @@ use Rattle.sheet_lines.specs.Cursor.{weightAt, tailOf, tailAt, fine, weightsAt,
 use Rattle.text.specs.declared.Number.the-variants as number
 use Rattle.sheet_lines.specs.declared.Tail.{Tail}
 use Rattle.sheet_lines.specs.declared.Tail.the-variants as tail
-use Rattle.text.proofs.Tests.{both, never, empty}
+use Rattle.text.proofs.Tests.{both, empty}
 use Rattle.text.proofs.Parts.{up-next, inside-part}
 use Rattle.text.proofs.Bytes.{byte-here}
 use Rattle.sheet_lines.proofs.Tails.{weight-good, after-weight, tail-ended, tail-unended}
@@ -46,7 +47,8 @@ fine-none : (i : ℕ) (l : List ℕ) (ms : List (List ℕ)) → fine (tailOf 0 i
 unfolding tailOf
 fine-none i l [] h = never h
 fine-none i l (m ∷ ms) h = go (isEmpty (upTo tab l) && (eqb (length (later tab l)) 0 && every isWeightField (later tab l))) refl h where
-  go : (t : Bool) → (isEmpty (upTo tab l) && (eqb (length (later tab l)) 0 && every isWeightField (later tab l))) ≡ t → fine (choose t (tail.Good (i + length l + 1)) tail.Wrong) ≡ true → later tab l ≡ []
+  go : (t : Bool) → (isEmpty (upTo tab l) && (eqb (length (later tab l)) 0 && every isWeightField (later tab l))) ≡ t
+      → fine (choose t (tail.Good (i + length l + 1)) tail.Wrong) ≡ true → later tab l ≡ []
   go true e r = empty (later tab l) (eqb-true _ _ (both (eqb (length (later tab l)) 0) _ (both (isEmpty (upTo tab l)) _ e .1) .0))
   go false e r = never r
 

@@ -4,7 +4,8 @@ use Prim.Native.Nat.{ℕ, _+_}
 use lib.ListN.{length}
 use Rattle.collection.specs.declared.Verdict.{Verdict}
 use Rattle.collection.specs.Judge.{sizeVerdict}
-use Rattle.collection.specs.Verdict.{andThen, roomVerdict, settle}
+use Rattle.collection.specs.Tables.{Rooms, roomsVerdict}
+use Rattle.collection.specs.Verdict.{andThen, settle}
 use Rattle.text.specs.Parts.{upTo, feed}
 use Rattle.sheet.specs.Read.{sheetN, sheetM, sheetWeights, readVerdict}
 use Rattle.sheet.specs.Sheet.{sheetK, sheetVerdict}
@@ -19,10 +20,10 @@ held s = Good (sheetK s) (length (upTo feed s) + 1) (sheetN s) (sheetM s) (sheet
 unfoldable pub judgedOf : List ℕ → Judged
 judgedOf s = settle (sheetVerdict s) Bad (held s)
 
--- 3, then 1: n letters, m strings and w weights for tables of the lengths a, b and c
-abbrev pub countsVerdict : ℕ → ℕ → ℕ → ℕ → ℕ → ℕ → Verdict
-countsVerdict n m w a b c = andThen (sizeVerdict n m) (andThen (roomVerdict a n) (andThen (roomVerdict b m) (roomVerdict c w)))
+-- 3, then 1: n letters, m strings and w weights for tables of these lengths
+abbrev pub countsVerdict : ℕ → ℕ → ℕ → Rooms → Verdict
+countsVerdict n m w r = andThen (sizeVerdict n m) (roomsVerdict r n m w)
 
--- a sheet judged for tables of the lengths a, b and c
-unfoldable pub judgedIn : List ℕ → ℕ → ℕ → ℕ → Judged
-judgedIn s a b c = settle (readVerdict s a b c) Bad (held s)
+-- a sheet judged for tables of these lengths
+unfoldable pub judgedIn : List ℕ → Rooms → Judged
+judgedIn s r = settle (readVerdict s r) Bad (held s)

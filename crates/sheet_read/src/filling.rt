@@ -44,7 +44,10 @@ pub(crate) fn fill_lines(
     weights: &mut [u32],
 )
     requires { ⌜ Fits k (now s) at (length (now letters)) (length (now ends)) (length (now weights)) ⌝ }
-    ensures { λ _. ⌜ (now (letters .exit) ≡ fill (lettersIn (stringsAt (now (s .entry)) at)) (now (letters .entry))) × (now (ends .exit) ≡ fill (endsIn 0 (stringsAt (now (s .entry)) at)) (now (ends .entry))) × (now (weights .exit) ≡ fill (weightsIn (stringsAt (now (s .entry)) at)) (now (weights .entry))) ⌝ }
+    ensures { λ _.
+        ⌜ (now (letters .exit) ≡ fill (lettersIn (stringsAt (now (s .entry)) at)) (now (letters .entry)))
+        × (now (ends .exit) ≡ fill (endsIn 0 (stringsAt (now (s .entry)) at)) (now (ends .entry)))
+        × (now (weights .exit) ≡ fill (weightsIn (stringsAt (now (s .entry)) at)) (now (weights .entry))) ⌝ }
 {
     let mut i = at;
     let mut n: usize = 0;

@@ -4,6 +4,7 @@ use collection::Verdict;
 use sheet_lines::Counted;
 use sheet_lines::Head;
 ghost use mathlib.Core.Path.{_≡_};
+ghost use Rattle.collection.specs.Tables.{rooms};
 ghost use Rattle.sheet_read.specs.Judged.{judgedOf, judgedIn, countsVerdict};
 
 // A sheet's lines: what they hold, or the first refusal of 11, 2, 11.
@@ -50,26 +51,18 @@ fn judge_tables(
     b: usize,
     c: usize,
 ) -> Verdict
-    ensures { λ r. ⌜ r ≡ countsVerdict letters strings weights a b c ⌝ }
+    ensures { λ r. ⌜ r ≡ countsVerdict letters strings weights (rooms a b c) ⌝ }
 {
     let v = collection::judge_size(letters, strings);
     let Verdict::Good = v else {
         return v;
     };
-    let x = collection::judge_room(a, letters);
-    let Verdict::Good = x else {
-        return x;
-    };
-    let y = collection::judge_room(b, strings);
-    let Verdict::Good = y else {
-        return y;
-    };
-    collection::judge_room(c, weights)
+    collection::judge_rooms(a, b, c, letters, strings, weights)
 }
 
 // A sheet and tables of the lengths a, b and c for its letters, ends and weights: what it holds, or the first refusal of all.
 pub(crate) fn judge_read(s: &[u8], a: usize, b: usize, c: usize) -> Judged
-    ensures { λ r. ⌜ r ≡ judgedIn (now (s .entry)) a b c ⌝ }
+    ensures { λ r. ⌜ r ≡ judgedIn (now (s .entry)) (rooms a b c) ⌝ }
 {
     let j = judge_sheet(s);
     let Judged::Good {

@@ -6,6 +6,7 @@ mod judging;
 
 use sheet::ReadAnswer;
 ghost use mathlib.Core.Path.{_≡_};
+ghost use Rattle.collection.specs.Tables.{tables};
 ghost use Rattle.sheet.specs.Read.{readOutcome, readOf};
 
 // A judged sheet: k, where line 2 starts and what the lines hold; or the first refusal.
@@ -25,7 +26,10 @@ pub(crate) enum Judged {
 
 // READ: a sheet's k, letters, ends and weights into the lent tables.
 pub fn read(sheet: &[u8], letters: &mut [u8], ends: &mut [u32], weights: &mut [u32]) -> ReadAnswer
-    ensures { λ r. ⌜ readOutcome r (now (letters .exit)) (now (ends .exit)) (now (weights .exit)) ≡ readOf (now (sheet .entry)) (now (letters .entry)) (now (ends .entry)) (now (weights .entry)) ⌝ }
+    ensures { λ r. ⌜
+        readOutcome r (tables (now (letters .exit)) (now (ends .exit)) (now (weights .exit)))
+        ≡ readOf (now (sheet .entry)) (tables (now (letters .entry)) (now (ends .entry)) (now (weights .entry)))
+        ⌝ }
 {
     let j = judging::judge_read(sheet, letters.len(), ends.len(), weights.len());
     match j {

@@ -80,7 +80,8 @@ module _ (k : ℕ) (out : List ℕ) (h : length (headLine k) ≤ length out) whe
   head-marked = store (store head-begun)
 
   -- and its k: the feed is left
-  pub head-ended : {out' : List ℕ} {p : ℕ} → p ≡ 2 + length (digits k) → out' ≡ put 2 (digits k) (set (set out 0 75) 1 tab) → Storing (length out) out' (put 0 (headLine k) out) (feed ∷ []) p
+  pub head-ended : {out' : List ℕ} {p : ℕ} → p ≡ 2 + length (digits k) → out' ≡ put 2 (digits k) (set (set out 0 75) 1 tab)
+      → Storing (length out) out' (put 0 (headLine k) out) (feed ∷ []) p
   head-ended e f = store-block (digits k) (feed ∷ []) head-marked f e
 
 -- ─── a string's line ─────────────────────────────────────────────────────────

@@ -80,8 +80,13 @@ module _ {c : Collection} {size total : ℕ} {target out : List ℕ} {before w p
     rest-counted : length c.weights ≡ w + within c.k before (getD c.ends i 0) + length (kmersFrom c.k (getD c.ends i 0) (drop (i + 1) c.ends))
     rest-counted =
         let n : ℕ = within c.k before (getD c.ends i 0) in
-        omega
-        (arith, s .counted, ap length (kmers-next c.k before c.ends i l), length-append (countFrom before n) (kmersFrom c.k (getD c.ends i 0) (drop (i + 1) c.ends)), length-count before n)
+        omega (
+          arith,
+          s .counted,
+          ap length (kmers-next c.k before c.ends i l),
+          length-append (countFrom before n) (kmersFrom c.k (getD c.ends i 0) (drop (i + 1) c.ends)),
+          length-count before n,
+        )
 
     -- its weights are there, and its line fits
     pub weights-there : w + within c.k before (getD c.ends i 0) ≤ length c.weights
@@ -91,7 +96,8 @@ module _ {c : Collection} {size total : ℕ} {target out : List ℕ} {before w p
     line-room = block-room (stringLine here-string) _ (restated split (s .storing))
 
     -- its line is stored too
-    pub lined : 1 ≤ c.k → {out' : List ℕ} {p' : ℕ} → p' ≡ p + length (stringLine (cutString c.letters before (getD c.ends i 0) c.weights w (within c.k before (getD c.ends i 0))))
+    pub lined : 1 ≤ c.k → {out' : List ℕ} {p' : ℕ}
+        → p' ≡ p + length (stringLine (cutString c.letters before (getD c.ends i 0) c.weights w (within c.k before (getD c.ends i 0))))
         → out' ≡ put p (stringLine (cutString c.letters before (getD c.ends i 0) c.weights w (within c.k before (getD c.ends i 0)))) out
         → Lining c size total target out' (getD c.ends i 0) (w + within c.k before (getD c.ends i 0)) p' (i + 1)
     lined k1 {out'} {p'} q f =

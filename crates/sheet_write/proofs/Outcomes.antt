@@ -28,6 +28,7 @@ module _ (c : Collection) (sheet : List ℕ) {v : Verdict} (e : v ≡ writeVerdi
         (b .0, room-good _ _ (b .1))
 
     -- the stored sheet is what WRITE leaves
-    pub write-done : {n : ℕ} {sheet' : List ℕ} → n ≡ length (writeText c) → sheet' ≡ fill (writeText c) sheet → writeOutcome (answer.Written n) sheet' ≡ writeOf c sheet
+    pub write-done : {n : ℕ} {sheet' : List ℕ} → n ≡ length (writeText c) → sheet' ≡ fill (writeText c) sheet
+        → writeOutcome (answer.Written n) sheet' ≡ writeOf c sheet
     unfolding writeOf
     write-done x y = settled (λ number place. writeOutcome (answer.Refused number place) sheet) (λ i. writeOutcome (answer.Written (x i)) (y i)) (sym e ∙ q)

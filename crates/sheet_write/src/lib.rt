@@ -29,7 +29,8 @@ pub fn write(
     weights: &[u32],
     sheet: &mut [u8],
 ) -> WriteAnswer
-    ensures { λ r. ⌜ writeOutcome r (now (sheet .exit)) ≡ writeOf (collection k (now (letters .entry)) (now (ends .entry)) (now (weights .entry))) (now (sheet .entry)) ⌝ }
+    ensures { λ r.
+        ⌜ writeOutcome r (now (sheet .exit)) ≡ writeOf (collection k (now (letters .entry)) (now (ends .entry)) (now (weights .entry))) (now (sheet .entry)) ⌝ }
 {
     let v = judge_write(k, letters, ends, weights, sheet.len());
     if let Verdict::Bad { number, place } = v {

@@ -4,6 +4,7 @@ ghost use mathlib.Core.Path.{_≡_};
 ghost use Prim.Native.Nat.{_+_, _*_, _≤_};
 ghost use lib.ListN.{length};
 ghost use Rattle.lists.specs.Fill.{put, fill};
+ghost use Rattle.lists.specs.Limits.{mostLetters, mostK};
 ghost use Rattle.collection.specs.Collection.{collection};
 ghost use Rattle.collection.specs.Judge.{Passes};
 ghost use Rattle.collection.specs.Strings.{strings};
@@ -13,7 +14,7 @@ ghost use Rattle.sheet_write.specs.Written.{headLine, cutString, stringL
 
 // How many bytes all weights take, each with its tab.
 fn weights_length(weights: &[u32]) -> usize
-    requires { ⌜ length (now weights) ≤ 1048576 ⌝ }
+    requires { ⌜ length (now weights) ≤ mostLetters ⌝ }
     ensures { λ r. ⌜ (r ≡ length (weightsText (now (weights .entry)))) × (r ≤ 21 * length (now (weights .entry))) ⌝ }
 {
     let mut n: usize = 0;
@@ -80,7 +81,9 @@ fn put_lines(
 ) -> usize
     requires { ⌜ Passes (collection k (now letters) (now ends) (now weights)) ⌝ }
     requires { ⌜ at + length (linesText (strings (collection k (now letters) (now ends) (now weights)))) ≤ length (now out) ⌝ }
-    ensures { λ r. ⌜ Stores at (linesText (strings (collection k (now (letters .entry)) (now (ends .entry)) (now (weights .entry))))) (now (out .entry)) r (now (out .exit)) ⌝ }
+    ensures { λ r.
+        ⌜ Stores at (linesText (strings (collection k (now (letters .entry)) (now (ends .entry)) (now (weights .entry))))) (now (out .entry)) r
+        (now (out .exit)) ⌝ }
 {
     let mut before: usize = 0;
     let mut w: usize = 0;
@@ -107,7 +110,9 @@ pub(crate) fn put_sheet(
 ) -> usize
     requires { ⌜ Passes (collection k (now letters) (now ends) (now weights)) ⌝ }
     requires { ⌜ length (writeText (collection k (now letters) (now ends) (now weights))) ≤ length (now out) ⌝ }
-    ensures { λ r. ⌜ (r ≡ length (writeText (collection k (now (letters .entry)) (now (ends .entry)) (now (weights .entry))))) × (now (out .exit) ≡ fill (writeText (collection k (now (letters .entry)) (now (ends .entry)) (now (weights .entry)))) (now (out .entry))) ⌝ }
+    ensures { λ r.
+        ⌜ (r ≡ length (writeText (collection k (now (letters .entry)) (now (ends .entry)) (now (weights .entry)))))
+        × (now (out .exit) ≡ fill (writeText (collection k (now (letters .entry)) (now (ends .entry)) (now (weights .entry)))) (now (out .entry))) ⌝ }
 {
     let p = put_head(k, out);
     put_lines(k, letters, ends, weights, out, p)

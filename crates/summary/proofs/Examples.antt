@@ -1,4 +1,4 @@
--- The sheet of document 01, and what `tally` writes of it. Assumes nothing.
+-- The sheet of the worked examples, and what `tally` writes of it. Assumes nothing.
 use mathlib.Core.Path.{_≡_, refl, ap}
 use mathlib.Core.List.{List, [], _∷_, _++_}
 use Prim.Native.Nat.{ℕ}
@@ -11,12 +11,12 @@ use Rattle.collection.specs.Judge.{kVerdict, sizeVerdict}
 use Rattle.collection.specs.Kmers.{kmersFrom}
 use Rattle.collection.specs.Strings.{stringsFrom, lettersIn, endsIn, weightsIn}
 use Rattle.collection.specs.Verdict.{andThen, atPlace, settle}
+use Rattle.collection.specs.EndWeights.{endWeights}
 use Rattle.text.specs.Numbers.{isNumber, valueFrom, digitsIn, digits}
 use Rattle.text.specs.Parts.{upTo, later}
 use Rattle.sheet.specs.Sheet.{isKLine, isWeightField, isString, isStringLine, stringsOf, firstWrong, sheetVerdict}
 use Rattle.repeats.specs.Check.{anyThat, alike, repeated, firstRepeat}
 use Rattle.cover_trails.specs.Groups.{least}
-use Rattle.cover_vertices.specs.EndWeights.{endWeights}
 use Rattle.runs.specs.Runs.{laterRuns, runs, innerRuns}
 use Rattle.summary_counts.specs.Counts.{isIn, fresh, distinct, largest, bitsFrom, bitsFor, bitsOf}
 use Rattle.summary_text.specs.declared.Summary.the-variants.{Counted}
@@ -34,11 +34,14 @@ sheet =
     ++ ((83 ∷ 9 ∷ 84 ∷ 65 ∷ 67 ∷ 65 ∷ 9 ∷ 51 ∷ 9 ∷ 53 ∷ 10 ∷ [])))))
 
 -- its numbers
-pub sheet-summary : summaryOf sheet ≡ Counted 4 10 43 8 7 1 5 4 12
-unfolding summaryOf longVerdict linesVerdict sheetVerdict sizeVerdict kVerdict andThen settle atPlace upTo later isKLine isNumber valueFrom every isWeightField isString isStringLine stringsOf firstWrong letter isLetter lettersIn endsIn weightsIn checkedOf firstRepeat firstFrom repeated anyThat alike same turn kmersFrom countFrom numbersOf sum innerRuns runs laterRuns stringsFrom endWeights least agree distinct fresh isIn bitsOf bitsFor bitsFrom largest
+pub sheet-summary : summaryOf sheet
+    ≡ Counted (record { strings = 4; kmers = 10; total = 43; inner = 8; given = 7; paths = 1; least = 5; distinct = 4; bits = 12 })
+unfolding summaryOf longVerdict linesVerdict sheetVerdict sizeVerdict kVerdict andThen settle atPlace upTo later isKLine isNumber valueFrom every isWeightField
+    isString isStringLine stringsOf firstWrong letter isLetter lettersIn endsIn weightsIn checkedOf firstRepeat firstFrom repeated anyThat alike same turn
+    kmersFrom countFrom numbersOf sum innerRuns runs laterRuns stringsFrom endWeights least agree distinct fresh isIn bitsOf bitsFor bitsFrom largest
 sheet-summary = refl
 
--- the nine lines of document 01
+-- the nine lines that `tally` writes of it
 abbrev pub text : List ℕ
 text =
     (115 ∷ 116 ∷ 114 ∷ 105 ∷ 110 ∷ 103 ∷ 115 ∷ 9 ∷ 52 ∷ 10 ∷ [])

@@ -6,6 +6,7 @@ use native.Mathlib.Omega.{arith}
 use lib.ListN.{length, take}
 use Rattle.lists.specs.Fill.{fill}
 use Rattle.lists.proofs.Storing.{length-fill, take-fill}
+use Rattle.lists.proofs.Refuted.{refuted}
 use Rattle.collection.specs.declared.Verdict.{Verdict}
 use Rattle.collection.specs.declared.Verdict.the-variants.{Good, Bad}
 use Rattle.collection.specs.Verdict.{settle, roomVerdict}
@@ -17,12 +18,15 @@ use Rattle.summary_text.specs.Written.{Outcome, outcome, writtenOf}
 use Rattle.summary.specs.Report.{textOf, reportOf}
 
 -- where it is written, the table starts with the text of the sheet
-pub report-writes : (bs text : List ℕ) {answer : ReportAnswer} {n : ℕ} {text' : List ℕ} → outcome answer text' ≡ reportOf bs text → answer ≡ Written n → (n ≤ length text') × (take n text' ≡ textOf bs)
+pub report-writes : (bs text : List ℕ) {answer : ReportAnswer} {n : ℕ} {text' : List ℕ} → outcome answer text' ≡ reportOf bs text → answer ≡ Written n
+    → (n ≤ length text') × (take n text' ≡ textOf bs)
 unfolding reportOf writtenOf settle
-report-writes bs text {n = n} {text' = text'} e f = go (roomVerdict (length text) (length (textOf bs))) refl (sym (ap (λ (a : ReportAnswer). outcome a text') f) ∙ e)
+report-writes bs text {n = n} {text' = text'} e f =
+    go (roomVerdict (length text) (length (textOf bs))) refl (sym (ap (λ (a : ReportAnswer). outcome a text') f) ∙ e)
   where
     go : (v : Verdict) → roomVerdict (length text) (length (textOf bs)) ≡ v
-        → outcome (Written n) text' ≡ settle v (λ number place. outcome (Refused number place) text) (outcome (Written (length (textOf bs))) (fill (textOf bs) text))
+        → outcome (Written n) text'
+        ≡ settle v (λ number place. outcome (Refused number place) text) (outcome (Written (length (textOf bs))) (fill (textOf bs) text))
         → (n ≤ length text') × (take n text' ≡ textOf bs)
     go Good h q =
         let r = room-good (length text) (length (textOf bs)) h in
@@ -32,10 +36,10 @@ report-writes bs text {n = n} {text' = text'} e f = go (roomVerdict (length text
         (omega (arith, ap length y, length-fill (textOf bs) text r), ap (take n) y ∙ take-fill (textOf bs) text n (sym x))
     go (Bad number place) h q =
         let a : Written n ≡ Refused number place = ap (λ (o : Outcome). o .answer) q in
-        let z : _≡_ {A = ℕ} 0 1 = cc in
-        absurd (omega arith)
+        refuted (cc)
 
 -- where the text has room, it is written
-pub report-enough : (bs text : List ℕ) {answer : ReportAnswer} {text' : List ℕ} → outcome answer text' ≡ reportOf bs text → length (textOf bs) ≤ length text → answer ≡ Written (length (textOf bs))
+pub report-enough : (bs text : List ℕ) {answer : ReportAnswer} {text' : List ℕ} → outcome answer text' ≡ reportOf bs text → length (textOf bs) ≤ length text
+    → answer ≡ Written (length (textOf bs))
 unfolding reportOf writtenOf
 report-enough bs text e h = ap (λ (o : Outcome). o .answer) (e ∙ sym (settled _ refl (good-room h)))

@@ -6,18 +6,27 @@ use Rattle.lists.specs.Count.{sum}
 use Rattle.runs.specs.Runs.{runCount}
 use Rattle.summary_counts.specs.Counts.{distinct, bitsOf}
 use Rattle.summary_counts.specs.Inner.{innerFrom}
-use Rattle.summary_text.specs.declared.Summary.{Summary}
-use Rattle.summary_text.specs.declared.Summary.the-variants.{Counted}
+use Rattle.summary_text.specs.declared.Numbers.{Numbers}
+use Rattle.summary.specs.Summary.{mostBytes}
 
 -- the numbers of a collection, from ends, weights and the number of paths
-unfoldable pub numbersFrom : ℕ → List ℕ → List ℕ → ℕ → Summary
+unfoldable pub numbersFrom : ℕ → List ℕ → List ℕ → ℕ → Numbers
 numbersFrom k ends weights paths =
-    Counted (length ends) (length weights) (sum weights) (innerFrom k 0 ends weights) (runCount weights) paths (innerFrom k 0 ends weights - length ends + paths)
-    (distinct weights) (bitsOf weights)
+    record {
+      strings = length ends;
+      kmers = length weights;
+      total = sum weights;
+      inner = innerFrom k 0 ends weights;
+      given = runCount weights;
+      paths = paths;
+      least = innerFrom k 0 ends weights - length ends + paths;
+      distinct = distinct weights;
+      bits = bitsOf weights;
+    }
 
 -- lengths of tables that hold every sheet of at most 8,192 bytes
 pub record Ample (letters ends weights places work : ℕ) : Type 0 where
-  pub letters-room : 8192 ≤ letters
+  pub letters-room : mostBytes ≤ letters
   pub ends-room : 4096 ≤ ends
   pub weights-room : 4096 ≤ weights
   pub places-room : 4096 ≤ places

@@ -1,4 +1,5 @@
 -- What `tally` writes: the bytes of its summary.
+-- Specification: 10.4.
 use mathlib.Core.List.{List}
 use Prim.Native.Nat.{ℕ}
 use Rattle.summary_text.specs.Text.{textFor}

@@ -1,4 +1,5 @@
 -- What `tally` says of a sheet: the refusal that comes first, or nine numbers of its collection.
+-- Specification: 10.1, 10.2.
 use mathlib.Core.List.{List}
 use Prim.Native.Nat.{ℕ}
 use lib.Dec.{leb}
@@ -11,34 +12,48 @@ use Rattle.collection.specs.declared.Verdict.the-variants.{Good, Bad}
 use Rattle.collection.specs.Judge.{sizeVerdict}
 use Rattle.collection.specs.Strings.{joined}
 use Rattle.collection.specs.Verdict.{andThen, atPlace, settle}
+use Rattle.collection.specs.EndWeights.{endWeights}
 use Rattle.sheet.specs.Read.{sheetN, sheetM}
 use Rattle.sheet.specs.Sheet.{sheetK, sheetStrings, sheetVerdict}
 use Rattle.repeats.specs.Check.{firstRepeat}
 use Rattle.cover_trails.specs.Groups.{least}
-use Rattle.cover_vertices.specs.EndWeights.{endWeights}
 use Rattle.runs.specs.Runs.{runCount, innerRuns}
 use Rattle.cover_fewest.specs.Fewest.{leastRuns}
 use Rattle.summary_counts.specs.Counts.{distinct, bitsOf}
+use Rattle.summary_text.specs.declared.Numbers.{Numbers}
 use Rattle.summary_text.specs.declared.Summary.{Summary}
 use Rattle.summary_text.specs.declared.Summary.the-variants.{Counted, Refused}
 
 -- ─── the numbers of a collection ─────────────────────────────────────────────
 
--- strings, k-mers, sum of weights, R, runs as given, paths (E + O/2), least runs (R - m + E + O/2), distinct weights, bits for these
-unfoldable pub numbersOf : Collection → Summary
+-- `inner` is R, `given` the runs as given, `paths` E + O/2, `least` R - m + E + O/2
+unfoldable pub numbersOf : Collection → Numbers
 numbersOf c =
-    Counted (length c.ends) (length c.weights) (sum c.weights) (innerRuns c) (runCount c.weights) (least (endWeights c))
-    (leastRuns c) (distinct c.weights) (bitsOf c.weights)
+    record {
+      strings = length c.ends;
+      kmers = length c.weights;
+      total = sum c.weights;
+      inner = innerRuns c;
+      given = runCount c.weights;
+      paths = least (endWeights c);
+      least = leastRuns c;
+      distinct = distinct c.weights;
+      bits = bitsOf c.weights;
+    }
 
 -- a judged collection: 7 at the first repeated word, or its numbers
 unfoldable pub checkedOf : Collection → Summary
-checkedOf c = settle (atPlace 7 (firstRepeat (spellingOf c))) Refused (numbersOf c)
+checkedOf c = settle (atPlace 7 (firstRepeat (spellingOf c))) Refused (Counted (numbersOf c))
 
 -- ─── a sheet ─────────────────────────────────────────────────────────────────
 
+-- `tally` takes a sheet of at most so many bytes
+abbrev pub mostBytes : ℕ
+mostBytes = 8192
+
 -- 3: more than 8,192 bytes
 unfoldable pub longVerdict : List ℕ → Verdict
-longVerdict bs = choose (leb (length bs) 8192) Good (Bad 3 0)
+longVerdict bs = choose (leb (length bs) mostBytes) Good (Bad 3 0)
 
 -- READ's refusals: the lines (11, 2, 11), then 3. Not 1: a sheet of 8,192 bytes fits the tables.
 unfoldable pub linesVerdict : List ℕ → Verdict

@@ -1,19 +1,20 @@
 // The numbers of a judged collection: CHECK, COVER, and what there is to count. For callers that have judged it and have the tables.
 use cover::CoverAnswer;
 use repeats::CheckAnswer;
+use summary_text::Numbers;
 use summary_text::Summary;
 ghost use mathlib.Core.Path.{_≡_};
 ghost use Prim.Native.Nat.{_*_, _≤_};
 ghost use lib.ListN.{length};
 ghost use Rattle.collection.specs.Collection.{collection};
 ghost use Rattle.collection.specs.Judge.{Passes};
-ghost use Rattle.cover_vertices.specs.Promises.{Strung};
+ghost use Rattle.collection.specs.Ready.{Strung};
 ghost use Rattle.summary_counts.specs.Inner.{Weighed};
 ghost use Rattle.summary.specs.Summary.{checkedOf};
 ghost use Rattle.summary.specs.Inner.{numbersFrom};
 
 // The numbers of a collection, of which the least number of paths is known.
-fn count_all(k: usize, ends: &[u32], weights: &[u32], paths: usize, work: &mut [u32]) -> Summary
+fn count_all(k: usize, ends: &[u32], weights: &[u32], paths: usize, work: &mut [u32]) -> Numbers
     requires { ⌜ Strung k (now ends) (now weights) × Weighed (now weights) ⌝ }
     requires { ⌜ (paths ≤ length (now ends)) × (3 * length (now weights) ≤ length (now work)) ⌝ }
     ensures { λ r. ⌜ r ≡ numbersFrom k (now (ends .entry)) (now (weights .entry)) paths ⌝ }
@@ -21,7 +22,7 @@ fn count_all(k: usize, ends: &[u32], weights: &[u32], paths: usize, work: &mut [
     let m = ends.len();
     let inner = summary_counts::inner::inner_runs(k, ends, weights);
     let distinct = summary_counts::inner::distinct(weights, work);
-    Summary::Counted {
+    Numbers {
         strings: m,
         kmers: weights.len(),
         total: summary_counts::inner::total(weights),
@@ -56,7 +57,10 @@ pub fn tell_collection(
         CoverAnswer::Covered {
             places: filled,
             paths,
-        } => count_all(k, ends, weights, paths, work),
+        } => {
+            let numbers = count_all(k, ends, weights, paths, work);
+            Summary::Counted { numbers }
+        }
         CoverAnswer::Refused { number, place } => Summary::Refused { number, place },
     }
 }

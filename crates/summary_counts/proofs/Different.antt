@@ -61,7 +61,13 @@ before-runs w v vs o l = go (ℕ-discrete w v)
     go (yes e) = omega (arith, count-cons w v vs, agree-same w v e, fresh-equal w v vs e)
     go (no e) =
         let h : w < v = omega arith in
-        omega (arith, count-cons w v vs, agree-other w v e, fresh-other w v vs e, fresh-below w vs (all-map (λ x m. let z : w < x = omega arith in z) vs (o .0)))
+        omega (
+          arith,
+          count-cons w v vs,
+          agree-other w v e,
+          fresh-other w v vs e,
+          fresh-below w vs (all-map (λ x m. let z : w < x = omega arith in z) vs (o .0)),
+        )
 
 -- the same behind a lower one
 behind-runs : (y w : ℕ) (vs : List ℕ) → Ordered (y ∷ vs) → y < w → runCount (y ∷ insert itself w vs) ≡ fresh w vs + runCount (y ∷ vs)
@@ -74,11 +80,26 @@ behind-runs y w (v ∷ vs) o l = go (lt-or-le v w) (behind-runs v w vs (o .1))
         → runCount (y ∷ insert itself w (v ∷ vs)) ≡ fresh w (v ∷ vs) + runCount (y ∷ (v ∷ vs))
     go (inl m) r =
         let ne : w ≡ v → ⊥ = λ e. omega arith in
-        omega (arith, ap (λ (x : List ℕ). runCount (y ∷ x)) (insert-gt itself w v vs m), count-cons y v (insert itself w vs), count-cons y v vs, r m, fresh-other w v vs ne)
+        omega (
+          arith,
+          ap (λ (x : List ℕ). runCount (y ∷ x)) (insert-gt itself w v vs m),
+          count-cons y v (insert itself w vs),
+          count-cons y v vs,
+          r m,
+          fresh-other w v vs ne,
+        )
     go (inr m) r =
         let y-w : y ≡ w → ⊥ = λ e. omega arith in
         let y-v : y ≡ v → ⊥ = λ e. omega arith in
-        omega (arith, ap (λ (x : List ℕ). runCount (y ∷ x)) (insert-le itself w v vs m), count-cons y w (v ∷ vs), agree-other y w y-w, count-cons y v vs, agree-other y v y-v, before-runs w v vs (o .1) m)
+        omega (
+          arith,
+          ap (λ (x : List ℕ). runCount (y ∷ x)) (insert-le itself w v vs m),
+          count-cons y w (v ∷ vs),
+          agree-other y w y-w,
+          count-cons y v vs,
+          agree-other y v y-v,
+          before-runs w v vs (o .1) m,
+        )
 
 insert-runs : (w : ℕ) (vs : List ℕ) → Ordered vs → runCount (insert itself w vs) ≡ fresh w vs + runCount vs
 insert-runs w [] o = omega (arith, ap runCount (insert-nil itself w), count-one w, count-none, fresh-none w)
@@ -117,7 +138,8 @@ is-in-sorted : (w : ℕ) (vs : List ℕ) → isIn w (sortBy itself vs) ≡ isIn 
 is-in-sorted w [] = ap (isIn w) (sortBy-nil itself)
 is-in-sorted w (v ∷ vs) =
     ap (isIn w) (sortBy-cons itself v vs)
-    ∙ (is-in-insert w v (sortBy itself vs) ∙ (is-in-cons w v (sortBy itself vs) ∙ (ap (λ (b : Bool). eqb w v || b) (is-in-sorted w vs) ∙ sym (is-in-cons w v vs))))
+    ∙ (is-in-insert w v (sortBy itself vs)
+    ∙ (is-in-cons w v (sortBy itself vs) ∙ (ap (λ (b : Bool). eqb w v || b) (is-in-sorted w vs) ∙ sym (is-in-cons w v vs))))
 
 fresh-sorted : (w : ℕ) (vs : List ℕ) → fresh w (sortBy itself vs) ≡ fresh w vs
 unfolding fresh

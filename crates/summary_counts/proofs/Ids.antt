@@ -2,32 +2,31 @@
 use mathlib.Core.Path.{_≡_, refl, sym, ap, subst, _∙_}
 use mathlib.Core.Logic.{inl}
 use mathlib.Core.List.{List, [], _∷_, _++_, map, append-nil}
-use Prim.Native.Nat.{ℕ, _+_, _-_, _*_, _<_, _≤_}
+use Prim.Native.Nat.{ℕ, _+_, _-_, _*_, _<_, _≤_, _^_}
 use native.Mathlib.Omega.{arith}
 use lib.ListN.{length, take, drop, getD, set, length-map, drop-of-length-le}
 use lib.Seq.{getD-set-other}
+use borrow.Rule.Slice.PartMut.{putMid}
 use Rattle.lists.specs.Count.{countFrom}
 use Rattle.lists.specs.Every.{All}
-use Rattle.lists.specs.Fill.{put, fill}
+use Rattle.lists.specs.Fill.{fill}
 use Rattle.lists.specs.Pick.{sortBy}
-use Rattle.lists.specs.Regions.{part}
+use Rattle.lists.specs.Regions.{part, Only}
 use Rattle.lists.proofs.Count.{all-count}
 use Rattle.lists.proofs.Every.{all-at}
-use Rattle.lists.proofs.Puts.{put-part, put-only}
-use Rattle.lists.proofs.Regions.{part-is}
+use Rattle.lists.proofs.Puts.{put-part}
+use Rattle.lists.proofs.Regions.{part-is, part-lent, part-length, only-part}
 use Rattle.lists.proofs.Sorts.{all-sortBy}
 use Rattle.lists.proofs.Storing.{Storing, begin, store, restated, stored, drop-next, put-start, length-fill}
 use Rattle.runs.specs.Runs.{runCount}
 use Rattle.sorting.specs.Keys.{keyAt}
 use Rattle.sorting.specs.Layout.{Laid}
 use Rattle.sorting.specs.Promises.{Sorted}
-use Rattle.cover_vertices.specs.Ladder.{ladder}
-use Rattle.cover_vertices.proofs.Ordering.{ladder-count}
-use Rattle.cover_vertices.proofs.Ladder.{length-ladder, ladder-part, ladder-other}
+use Rattle.sorting.proofs.Laws.{numbered-only, numbered-part}
+use Rattle.collection_faults.proofs.Finding.{weights-low}
 use Rattle.summary_counts.specs.Counts.{distinct}
 use Rattle.summary_counts.specs.Inner.{Weighed}
 use Rattle.summary_counts.proofs.Different.{ids-runs, distinct-few}
-use Rattle.summary_counts.proofs.Sums.{weights-low}
 
 -- ─── ids replaced by their weights ───────────────────────────────────────────
 
@@ -51,7 +50,9 @@ module _ {ws ids₀ ids : List ℕ} {i : ℕ} (g : Weighing ws ids₀ ids i) whe
     weighed {x} e =
         let q : getD ws (getD ids₀ i 0) 0 ≡ getD ws x 0 = ap (keyAt ws) (sym (g .rest i (omega arith)) ∙ sym e) in
         record {
-          storing = store (restated (ap (map (keyAt ws)) (drop-next ids₀ i 0 (omega (arith, g .storing .size-kept))) ∙ ap (λ (y : ℕ). y ∷ map (keyAt ws) (drop (i + 1) ids₀)) q) (g .storing));
+          storing = store
+              (restated (ap (map (keyAt ws)) (drop-next ids₀ i 0 (omega (arith, g .storing .size-kept)))
+              ∙ ap (λ (y : ℕ). y ∷ map (keyAt ws) (drop (i + 1) ids₀)) q) (g .storing));
           rest = λ j h. getD-set-other ids i j (getD ws x 0) 0 (λ (z : j ≡ i). omega arith) ∙ g .rest j (omega arith);
         }
 
@@ -71,23 +72,34 @@ module _ (ws w₀ : List ℕ) {w₁ : List ℕ} (g : Weighed ws) (room : 3 * len
   copied-size = ap length a ∙ length-fill ws w₀ (omega arith)
 
   -- the ids fit behind the weights
-  pub ladder-fits : (length ws + length ws ≤ length w₁) × (0 + length ws * 1 < 4294967296)
-  ladder-fits = (omega (arith, copied-size), omega (arith, g .few))
+  pub ids-fit : length ws + length ws ≤ length w₁
+  ids-fit = omega (arith, copied-size)
 
-  module _ {w₂ : List ℕ} (b : w₂ ≡ put (length ws) (ladder 0 1 (length ws)) w₁) where
+  -- and each fits an entry
+  pub ids-few : length (take (length ws + length ws - length ws) (drop (length ws) w₁)) < 2 ^ 32
+  ids-few = omega (arith, ap length (part-lent (length ws) (length ws) w₁), part-length (length ws) (length ws) w₁ ids-fit, g .few)
+
+  module _ {ids : List ℕ} (b : ids ≡ countFrom 0 (length (take (length ws + length ws - length ws) (drop (length ws) w₁)))) where
+    abbrev w₂ : List ℕ
+    w₂ = putMid (length ws) (length ws + length ws - length ws) w₁ ids
+
+    only : Only (length ws) (length ws) w₁ w₂
+    only = numbered-only (length ws) (length ws) w₁ ids-fit b
+
     table-size : length w₂ ≡ length w₀
-    table-size = ap length b ∙ (put-only (length ws) (ladder 0 1 (length ws)) w₁ (omega (arith, ladder-fits .0, length-ladder 0 1 (length ws))) .size ∙ copied-size)
+    table-size = only .size ∙ copied-size
 
     keys-are : part 0 (length ws) w₂ ≡ ws
     keys-are =
-        ladder-other (length ws) (length ws) 0 1 w₁ b (ladder-fits .0) 0 (length ws) (inl (omega arith)) (omega (arith, copied-size))
+        only-part (length ws) (length ws) w₁ w₂ only 0 (length ws) (inl (omega arith)) (omega (arith, copied-size))
         ∙ (ap (part 0 (length ws)) (a ∙ sym (put-start ws w₀)) ∙ put-part 0 ws w₀ (omega arith))
 
     ids-are : part (length ws) (length ws) w₂ ≡ countFrom 0 (length ws)
-    ids-are = ladder-part (length ws) (length ws) 0 1 w₁ b (ladder-fits .0) ∙ ladder-count 0 (length ws)
+    ids-are = numbered-part (length ws) (length ws) w₁ ids-fit b
 
     -- what the sort asks
-    pub ready : Laid (length w₂) 0 (length ws) (length ws) (2 * length ws) (length ws) × (All (λ x. x < length ws) (part (length ws) (length ws) w₂) × All (λ k. k < 16777216) (part 0 (length ws) w₂))
+    pub ready : Laid (length w₂) 0 (length ws) (length ws) (length ws + length ws) (length ws)
+        × (All (λ x. x < length ws) (part (length ws) (length ws) w₂) × All (λ k. k < 2 ^ 24) (part 0 (length ws) w₂))
     ready = (
       record {
         few = omega (arith, g .few);
@@ -100,29 +112,31 @@ module _ (ws w₀ : List ℕ) {w₁ : List ℕ} (g : Weighed ws) (room : 3 * len
       },
       (
         subst (All (λ x. x < length ws)) (sym ids-are) (all-count (λ x. x < length ws) 0 (length ws) (λ j u v. omega arith)),
-        subst (All (λ k. k < 16777216)) (sym keys-are) (weights-low ws (g .in-range)),
+        subst (All (λ k. k < 2 ^ 24)) (sym keys-are) (weights-low ws (g .in-range)),
       ),
     )
 
-    module _ {w₃ : List ℕ} (s : Sorted (keyAt (part 0 (length ws) w₂)) (length ws) (2 * length ws) (length ws) w₂ w₃) where
+    module _ {w₃ : List ℕ} (s : Sorted (keyAt (part 0 (length ws) w₂)) (length ws) (length ws + length ws) (length ws) w₂ w₃) where
       -- the table keeps its length
       pub sorted-size : length w₃ ≡ length w₀
       sorted-size = s .rest .size ∙ table-size
 
-      order-is : take (2 * length ws - length ws) (drop (length ws) w₃) ≡ sortBy (keyAt ws) (countFrom 0 (length ws))
+      order-is : take (length ws + length ws - length ws) (drop (length ws) w₃) ≡ sortBy (keyAt ws) (countFrom 0 (length ws))
       order-is =
-          let n : 2 * length ws - length ws ≡ length ws = omega arith in
+          let n : length ws + length ws - length ws ≡ length ws = omega arith in
           ap (λ (x : ℕ). take x (drop (length ws) w₃)) n
-          ∙ (sym (part-is (length ws) (length ws) w₃) ∙ (s .arranged ∙ (ap (λ (x : List ℕ). sortBy (keyAt x) (part (length ws) (length ws) w₂)) keys-are ∙ ap (sortBy (keyAt ws)) ids-are)))
+          ∙ (sym (part-is (length ws) (length ws) w₃)
+          ∙ (s .arranged ∙ (ap (λ (x : List ℕ). sortBy (keyAt x) (part (length ws) (length ws) w₂)) keys-are ∙ ap (sortBy (keyAt ws)) ids-are)))
 
       -- the sorted ids have weights
-      pub order-low : All (λ x. x < length ws) (take (2 * length ws - length ws) (drop (length ws) w₃))
+      pub order-low : All (λ x. x < length ws) (take (length ws + length ws - length ws) (drop (length ws) w₃))
       order-low =
           subst (All (λ x. x < length ws)) (sym order-is)
           (all-sortBy (keyAt ws) (λ x. x < length ws) (countFrom 0 (length ws)) (all-count (λ x. x < length ws) 0 (length ws) (λ j u v. omega arith)))
 
       -- and the runs of these are the different weights
-      pub different : {r : ℕ} → r ≡ runCount (map (keyAt ws) (take (2 * length ws - length ws) (drop (length ws) w₃))) → (r ≡ distinct ws) × (r ≤ length ws)
+      pub different : {r : ℕ} → r ≡ runCount (map (keyAt ws) (take (length ws + length ws - length ws) (drop (length ws) w₃)))
+          → (r ≡ distinct ws) × (r ≤ length ws)
       different q =
           let e = q ∙ (ap (λ (x : List ℕ). runCount (map (keyAt ws) x)) order-is ∙ ids-runs ws) in
           (e, omega (arith, e, distinct-few ws))

@@ -7,20 +7,19 @@ use lib.ListN.{length, take, drop, getD, drop-of-length-le, length-drop}
 use lib.Seq.{drop-drop, length-take-le}
 use Rattle.lists.specs.Count.{sum}
 use Rattle.lists.proofs.Storing.{drop-next}
-use Rattle.collection_faults.specs.Faults.{lastEnd}
 use Rattle.collection.specs.Collection.{Collection}
-use Rattle.collection.specs.Kmers.{within, kmersFrom}
+use Rattle.collection.specs.Kmers.{within}
 use Rattle.collection.specs.Strings.{stringsFrom}
-use Rattle.collection.proofs.Kmers.{Strings-left, strings-begin, Next, next-string, strings-on}
+use Rattle.collection.specs.Ready.{Strung}
+use Rattle.collection.proofs.Strung.{Weights-left, weights-begin, string-here, weights-inside, weights-on}
 use Rattle.runs.specs.Runs.{runCount, innerRuns}
 use Rattle.runs.proofs.Joined.{count-none, count-one, count-cons, runs-some}
-use Rattle.cover_vertices.specs.Promises.{Strung}
-use Rattle.cover_vertices.proofs.EndWeights.{left-next}
 use Rattle.summary_counts.specs.Inner.{innerFrom}
 
 -- ─── from ends and weights alone ─────────────────────────────────────────────
 
-inner-from : (k before : ℕ) (letters ends weights : List ℕ) → sum (map (λ s. runCount (s .weights)) (stringsFrom k before letters ends weights)) ≡ innerFrom k before ends weights
+inner-from : (k before : ℕ) (letters ends weights : List ℕ)
+    → sum (map (λ s. runCount (s .weights)) (stringsFrom k before letters ends weights)) ≡ innerFrom k before ends weights
 unfolding innerFrom stringsFrom sum
 inner-from k before letters [] weights = refl
 inner-from k before letters (e ∷ ends) weights =
@@ -41,63 +40,56 @@ runs-few (w ∷ (v ∷ ws)) = omega (arith, count-cons w v ws, runs-few (v ∷ w
 
 -- r runs are inside i strings, the last of which ends at `before`; they have `passed` weights
 pub record Adding (k : ℕ) (ends ws : List ℕ) (before passed r i : ℕ) : Type 0 where
-  pub walk : Strings-left k (lastEnd 0 ends) ends i before passed
-  pub left : passed + length (kmersFrom k before (drop i ends)) ≡ length ws
+  pub walk : Weights-left k ends ws i before passed
   pub few : r ≤ passed
   pub some : i ≤ r
   pub sums : r + innerFrom k before (drop i ends) (drop passed ws) ≡ innerFrom k 0 ends ws
 
 -- at the start no string is passed
 pub adding : {k : ℕ} {ends ws : List ℕ} → Strung k ends ws → Adding k ends ws 0 0 0 0
-adding s = record { walk = strings-begin (s .ends-long) refl; left = omega (arith, s .counted); few = omega arith; some = omega arith; sums = omega arith }
+adding s = record { walk = weights-begin s; few = omega arith; some = omega arith; sums = omega arith }
 
 module _ {k : ℕ} {ends ws : List ℕ} {before passed r i : ℕ} (g : Adding k ends ws before passed r i) where
   module _ (l : i < length ends) {e : ℕ} (is : e ≡ getD ends i 0) where
-    -- the next string is there
-    pub string-here : Next k (lastEnd 0 ends) before e
-    string-here = rw is (next-string (g .walk) l)
-
-    left-on : passed + within k before e + length (kmersFrom k e (drop (i + 1) ends)) ≡ length ws
-    left-on = rw is (left-next k before ends ws i passed l (g .left))
-
-    -- its weights are there
-    pub weights-inside : passed + within k before e ≤ length ws
-    weights-inside = omega (arith, left-on)
-
     abbrev here : List ℕ
     here = take (passed + within k before e - passed) (drop passed ws)
 
     here-size : length here ≡ within k before e
     here-size =
         let n : passed + within k before e - passed ≡ within k before e = omega arith in
-        length-take-le (passed + within k before e - passed) (drop passed ws) (simp length-drop (omega (arith, weights-inside))) ∙ n
+        length-take-le (passed + within k before e - passed) (drop passed ws) (simp length-drop (omega (arith, weights-inside (g .walk) l is))) ∙ n
 
     here-few : runCount (take (passed + within k before e - passed) (drop passed ws)) ≤ within k before e
     here-few = omega (arith, runs-few here, here-size)
 
     -- the runs counted, with its own, are no more than the weights
     pub runs-inside : {x : ℕ} → x ≡ runCount (take (passed + within k before e - passed) (drop passed ws)) → r + x ≤ length ws
-    runs-inside q = omega (arith, q, here-few, g .few, weights-inside)
+    runs-inside q = omega (arith, q, here-few, g .few, weights-inside (g .walk) l is)
 
     inner-next : innerFrom k before (drop i ends) (drop passed ws) ≡ runCount here + innerFrom k e (drop (i + 1) ends) (drop (passed + within k before e) ws)
     unfolding innerFrom
     inner-next =
         let n : passed + within k before e - passed ≡ within k before e = omega arith in
         ap (λ (x : List ℕ). innerFrom k before x (drop passed ws)) (drop-next ends i 0 l ∙ ap (λ (x : ℕ). x ∷ drop (i + 1) ends) (sym is))
-        ∙ ap₂ (λ (x : ℕ) (y : List ℕ). runCount (take x (drop passed ws)) + innerFrom k e (drop (i + 1) ends) y) (sym n) (drop-drop (within k before e) passed ws)
+        ∙ ap₂ (λ (x : ℕ) (y : List ℕ). runCount (take x (drop passed ws)) + innerFrom k e (drop (i + 1) ends) y) (sym n)
+        (drop-drop (within k before e) passed ws)
 
     -- its runs are added too
-    pub added : 1 ≤ k → {x : ℕ} → x ≡ runCount (take (passed + within k before e - passed) (drop passed ws)) → Adding k ends ws e (passed + within k before e) (r + x) (i + 1)
+    pub added : 1 ≤ k → {x : ℕ} → x ≡ runCount (take (passed + within k before e - passed) (drop passed ws))
+        → Adding k ends ws e (passed + within k before e) (r + x) (i + 1)
     added k1 q =
         record {
-          walk = rw is (strings-on (g .walk) l k1 (passed + within k before (getD ends i 0)) refl);
-          left = left-on;
+          walk = weights-on (g .walk) l is k1;
           few = omega (arith, q, here-few, g .few);
-          some = omega (arith, q, runs-some here (omega (arith, here-size, string-here .long)), g .some);
+          some = omega (arith, q, runs-some here (omega (arith, here-size, string-here (g .walk) l is .long)), g .some);
           sums = omega (arith, q, inner-next, g .sums);
         }
 
   -- at the end it is R of all strings, at most the number of weights and at least that of strings
   pub added-all : length ends ≤ i → (r ≡ innerFrom k 0 ends ws) × (r ≤ length ws) × (length ends ≤ r)
   unfolding innerFrom
-  added-all h = (omega (arith, g .sums, ap (λ (x : List ℕ). innerFrom k before x (drop passed ws)) (drop-of-length-le ends h)), omega (arith, g .few, g .left), omega (arith, g .some))
+  added-all h = (
+    omega (arith, g .sums, ap (λ (x : List ℕ). innerFrom k before x (drop passed ws)) (drop-of-length-le ends h)),
+    omega (arith, g .few, g .walk .left),
+    omega (arith, g .some),
+  )

@@ -46,7 +46,8 @@ module _ {w b p : ℕ} (d : Doubling w b p) where
       record {
         power = omega (arith, d .power, ap (λ (x : ℕ). 2 ^ x) e);
         some = omega (arith, d .some);
-        rest = sym (ap (λ (x : ℕ). bitsFrom (w - (b + 1)) x w) e) ∙ (sym (from-next (w - (b + 1)) b w (omega (arith, d .power))) ∙ (sym (ap (λ (x : ℕ). bitsFrom x b w) s) ∙ d .rest));
+        rest = sym (ap (λ (x : ℕ). bitsFrom (w - (b + 1)) x w) e)
+            ∙ (sym (from-next (w - (b + 1)) b w (omega (arith, d .power))) ∙ (sym (ap (λ (x : ℕ). bitsFrom x b w) s) ∙ d .rest));
       }
 
   -- enough bits
@@ -62,7 +63,8 @@ least-from zero b w h = (omega (arith, below-power b), λ a l e. l)
 least-from (suc steps) b w h = go (lt-or-le (2 ^ b) w) (least-from steps (suc b) w (omega arith))
   where
     go : (2 ^ b < w) ⊎ (w ≤ 2 ^ b) → (w ≤ 2 ^ bitsFrom steps (suc b) w) × ((a : ℕ) → suc b ≤ a → w ≤ 2 ^ a → bitsFrom steps (suc b) w ≤ a)
-        → (w ≤ 2 ^ choose (leb w (2 ^ b)) b (bitsFrom steps (suc b) w)) × ((a : ℕ) → b ≤ a → w ≤ 2 ^ a → choose (leb w (2 ^ b)) b (bitsFrom steps (suc b) w) ≤ a)
+        → (w ≤ 2 ^ choose (leb w (2 ^ b)) b (bitsFrom steps (suc b) w))
+        × ((a : ℕ) → b ≤ a → w ≤ 2 ^ a → choose (leb w (2 ^ b)) b (bitsFrom steps (suc b) w) ≤ a)
     go (inr l) r = rw (le-leb w (2 ^ b) l) (l, λ a m e. m)
     go (inl l) r = rw (lt-leb w (2 ^ b) l) (r .0, λ a m e. later a m e (lt-or-le b a))
       where

@@ -2,26 +2,19 @@
 use mathlib.Core.Path.{_≡_, ap}
 use mathlib.Core.Bool.{true}
 use mathlib.Core.List.{List}
-use Prim.Native.Nat.{ℕ, _+_, _<_, _≤_, max}
-use native.Mathlib.Omega.{arith}
-use borrow.Author.Tests.{leb-true}
-use lib.Dec.{leb}
+use Prim.Native.Nat.{ℕ, _+_, _<_, _≤_, max, _^_}
 use lib.ListN.{length, drop, getD, drop-of-length-le}
 use Rattle.lists.specs.Count.{sum}
 use Rattle.lists.specs.Every.{All}
-use Rattle.lists.proofs.Every.{and-right, all-map, all-at}
+use Rattle.lists.proofs.Every.{all-at}
 use Rattle.lists.proofs.Storing.{drop-next}
 use Rattle.collection_faults.specs.Faults.{isWeight}
+use Rattle.collection_faults.proofs.Finding.{weights-low}
 use Rattle.summary_counts.specs.Counts.{largest}
 
--- weights in range fit 24 bits
-pub weights-low : (ws : List ℕ) → All (λ w. isWeight w ≡ true) ws → All (λ w. w < 16777216) ws
-weights-low ws h =
-    all-map (λ w e. let l = leb-true w 16777215 (and-right (leb 1 w) (leb w 16777215) e) in let z : w < 16777216 = omega arith in z) ws h
-
--- so does each of them
-pub weight-low : (ws : List ℕ) → All (λ w. isWeight w ≡ true) ws → (i : ℕ) → i < length ws → getD ws i 0 < 16777216
-weight-low ws h i l = all-at (λ w. w < 16777216) ws (weights-low ws h) i 0 l
+-- a weight fits 24 bits
+pub weight-low : (ws : List ℕ) → All (λ w. isWeight w ≡ true) ws → (i : ℕ) → i < length ws → getD ws i 0 < 2 ^ 24
+weight-low ws h i l = all-at (λ w. w < 2 ^ 24) ws (weights-low ws h) i 0 l
 
 -- one weight, and those behind it
 module _ (ws : List ℕ) (i : ℕ) (l : i < length ws) where

@@ -1,4 +1,5 @@
 -- Numbers of a collection's weights: how many are different, and the bits for these.
+-- Specification: 10.2, 10.3.
 use mathlib.Core.Bool.{Bool, false, _||_}
 use mathlib.Core.List.{List, [], _∷_}
 use Prim.Native.Nat.{ℕ, zero, suc, _+_, _*_, _^_, max}

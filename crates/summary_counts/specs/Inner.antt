@@ -5,6 +5,7 @@ use mathlib.Core.Path.{_≡_}
 use Prim.Native.Nat.{ℕ, _+_, _≤_}
 use lib.ListN.{length, take, drop}
 use Rattle.lists.specs.Every.{All}
+use Rattle.lists.specs.Limits.{mostLetters}
 use Rattle.collection_faults.specs.Faults.{isWeight}
 use Rattle.collection.specs.Kmers.{within}
 use Rattle.runs.specs.Runs.{runCount}
@@ -17,5 +18,5 @@ innerFrom k before (e ∷ ends) weights = runCount (take (within k before e) wei
 
 -- weights of a judged collection
 pub record Weighed (weights : List ℕ) : Type 0 where
-  pub few : length weights ≤ 1048576
+  pub few : length weights ≤ mostLetters
   pub in-range : All (λ w. isWeight w ≡ true) weights

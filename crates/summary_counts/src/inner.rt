@@ -6,9 +6,10 @@ ghost use lib.ListN.{length};
 ghost use Rattle.lists.specs.Count.{sum};
 ghost use Rattle.lists.specs.Every.{All};
 ghost use Rattle.lists.specs.Fill.{fill};
+ghost use Rattle.lists.specs.Limits.{mostLetters};
+ghost use Rattle.collection.specs.Ready.{Strung};
 ghost use Rattle.runs.specs.Runs.{runCount};
 ghost use Rattle.sorting.specs.Keys.{keyAt};
-ghost use Rattle.cover_vertices.specs.Promises.{Strung};
 ghost use Rattle.summary_counts.specs.Counts.{distinct as distinctIn, largest as largestOf, bitsFor, bitsOf};
 ghost use Rattle.summary_counts.specs.Inner.{innerFrom, Weighed};
 
@@ -124,16 +125,16 @@ pub fn distinct(weights: &[u32], work: &mut [u32]) -> usize
     ensures { λ r. ⌜ (r ≡ distinctIn (now (weights .entry))) × (r ≤ length (now (weights .entry))) ⌝ }
 {
     let n = weights.len();
-    let e = 2 * n;
+    let e = n + n;
     copy_weights(weights, work);
-    cover_vertices::inner::write_ladder(work, n, n, 0, 1);
+    sorting::inner::number_ids(&mut work[n..e]);
     sorting::inner::sort_by_weight(work, 0, n, e, n);
     runs_by(weights, &mut work[n..e])
 }
 
 // The bits of so many distinct weights: each takes the logarithm of the largest.
 pub fn bits(distinct: usize, weights: &[u32]) -> usize
-    requires { ⌜ (distinct ≡ distinctIn (now weights)) × (distinct ≤ 1048576) ⌝ }
+    requires { ⌜ (distinct ≡ distinctIn (now weights)) × (distinct ≤ mostLetters) ⌝ }
     ensures { λ r. ⌜ r ≡ bitsOf (now (weights .entry)) ⌝ }
 {
     distinct * bits_for(largest(weights))

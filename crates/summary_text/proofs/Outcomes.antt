@@ -8,6 +8,7 @@ use Rattle.collection.specs.declared.Verdict.{Verdict}
 use Rattle.collection.specs.declared.Verdict.the-variants.{Good, Bad}
 use Rattle.collection.specs.Verdict.{roomVerdict}
 use Rattle.collection.proofs.Verdicts.{room-good, refused, settled}
+use Rattle.summary_text.specs.declared.Numbers.{Numbers}
 use Rattle.summary_text.specs.declared.Summary.{Summary}
 use Rattle.summary_text.specs.declared.Summary.the-variants.{Counted, Refused}
 use Rattle.summary_text.specs.declared.ReportAnswer.the-variants as answer
@@ -34,7 +35,7 @@ module _ (bytes text : List ℕ) {n : ℕ} (e : n ≡ length bytes) {v : Verdict
   written-done q x y = settled (λ number place. outcome (answer.Refused number place) text) (λ i. outcome (answer.Written (x i)) (y i)) (sym verdict ∙ q)
 
 -- the text of each kind of summary
-text-counted : {s : Summary} {a b c d e f g h i : ℕ} → s ≡ Counted a b c d e f g h i → textFor s ≡ countedText a b c d e f g h i
+text-counted : {s : Summary} {n : Numbers} → s ≡ Counted n → textFor s ≡ countedText n
 unfolding textFor
 text-counted q = ap textFor q
 
@@ -44,10 +45,11 @@ text-refused {place = place} q n = ap textFor q ∙ ap (λ (x : ℕ). refusedTex
 
 -- what is promised of the text is promised of the summary
 module _ (text : List ℕ) {s : Summary} {o : Outcome} {most : ℕ} where
-  pub of-counted : {a b c d e f g h i : ℕ} → s ≡ Counted a b c d e f g h i → (o ≡ writtenOf (countedText a b c d e f g h i) text) × (length (countedText a b c d e f g h i) ≤ most)
+  pub of-counted : {n : Numbers} → s ≡ Counted n → (o ≡ writtenOf (countedText n) text) × (length (countedText n) ≤ most)
       → (o ≡ writtenOf (textFor s) text) × (length (textFor s) ≤ most)
   of-counted q w = subst (λ (t : List ℕ). (o ≡ writtenOf t text) × (length t ≤ most)) (sym (text-counted q)) w
 
-  pub of-refused : {number number' place : ℕ} → s ≡ Refused number place → number' ≡ number → (o ≡ writtenOf (refusedText number' place) text) × (length (refusedText number' place) ≤ most)
+  pub of-refused : {number number' place : ℕ} → s ≡ Refused number place → number' ≡ number
+      → (o ≡ writtenOf (refusedText number' place) text) × (length (refusedText number' place) ≤ most)
       → (o ≡ writtenOf (textFor s) text) × (length (textFor s) ≤ most)
   of-refused q n w = subst (λ (t : List ℕ). (o ≡ writtenOf t text) × (length t ≤ most)) (sym (text-refused q n)) w

@@ -11,7 +11,24 @@ use Rattle.lists.proofs.Storing.{Storing, begin-at, begin, inside, store, resta
 use Rattle.text.specs.Numbers.{digits}
 use Rattle.text.specs.Parts.{tab, feed}
 use Rattle.text.proofs.Blocks.{block-room, store-block}
-use Rattle.summary_text.specs.Text.{entry, line, lines, stringsLabel, kmersLabel, totalLabel, innerLabel, givenLabel, pathsLabel, leastLabel, distinctLabel, bitsLabel, refusedLabel, countedText, refusedText}
+use Rattle.summary_text.specs.declared.Numbers.{Numbers}
+use Rattle.summary_text.specs.Text.{
+  entry,
+  line,
+  lines,
+  stringsLabel,
+  kmersLabel,
+  totalLabel,
+  innerLabel,
+  givenLabel,
+  pathsLabel,
+  leastLabel,
+  distinctLabel,
+  bitsLabel,
+  refusedLabel,
+  countedText,
+  refusedText,
+}
 
 -- ─── how long ────────────────────────────────────────────────────────────────
 
@@ -46,30 +63,45 @@ module _ (l₁ : List ℕ) (n₁ : ℕ) (l₂ : List ℕ) (n₂ : ℕ) (l₃ : L
   three-length : length (lines three) ≡ length l₁ + length l₂ + length l₃ + (length (digits n₁) + length (digits n₂) + length (digits n₃) + 6)
   three-length = omega (arith, three-lines, line-length l₁ n₁, line-length l₂ n₂, line-length l₃ n₃)
 
-module _ (strings kmers total inner given paths least distinct bits : ℕ) where
+module _ (n : Numbers) where
   abbrev first-three : List (List ℕ × ℕ)
-  first-three = three stringsLabel strings kmersLabel kmers totalLabel total
+  first-three = three stringsLabel (n .strings) kmersLabel (n .kmers) totalLabel (n .total)
 
   abbrev next-three : List (List ℕ × ℕ)
-  next-three = three innerLabel inner givenLabel given pathsLabel paths
+  next-three = three innerLabel (n .inner) givenLabel (n .given) pathsLabel (n .paths)
 
   abbrev last-three : List (List ℕ × ℕ)
-  last-three = three leastLabel least distinctLabel distinct bitsLabel bits
+  last-three = three leastLabel (n .least) distinctLabel (n .distinct) bitsLabel (n .bits)
 
   -- the nine lines are three times three
-  nine-parts : countedText strings kmers total inner given paths least distinct bits ≡ lines first-three ++ (lines next-three ++ lines last-three)
+  nine-parts : countedText n ≡ lines first-three ++ (lines next-three ++ lines last-three)
   unfolding countedText
   nine-parts = lines-append first-three (next-three ++ last-three) ∙ ap (λ (r : List ℕ). lines first-three ++ r) (lines-append next-three last-three)
 
-  nine-lines : length (countedText strings kmers total inner given paths least distinct bits) ≡ length (lines first-three) + (length (lines next-three) + length (lines last-three))
-  nine-lines = omega (arith, ap length nine-parts, length-append (lines first-three) (lines next-three ++ lines last-three), length-append (lines next-three) (lines last-three))
+  nine-lines : length (countedText n) ≡ length (lines first-three) + (length (lines next-three) + length (lines last-three))
+  nine-lines = omega (
+    arith,
+    ap length nine-parts,
+    length-append (lines first-three) (lines next-three ++ lines last-three),
+    length-append (lines next-three) (lines last-three),
+  )
 
   -- the nine labels have 49 letters
-  pub counted-length : {a b c : ℕ} → a ≡ length (digits strings) + length (digits kmers) + length (digits total) + 6
-      → b ≡ length (digits inner) + length (digits given) + length (digits paths) + 6 → c ≡ length (digits least) + length (digits distinct) + length (digits bits) + 6
-      → 49 + a + b + c ≡ length (countedText strings kmers total inner given paths least distinct bits)
+  pub counted-length : {a b c : ℕ} → a ≡ length (digits (n .strings)) + length (digits (n .kmers)) + length (digits (n .total)) + 6
+      → b ≡ length (digits (n .inner)) + length (digits (n .given)) + length (digits (n .paths)) + 6
+      → c ≡ length (digits (n .least)) + length (digits (n .distinct)) + length (digits (n .bits)) + 6
+      → 49 + a + b + c ≡ length (countedText n)
   counted-length p q r =
-      omega (arith, p, q, r, nine-lines, three-length stringsLabel strings kmersLabel kmers totalLabel total, three-length innerLabel inner givenLabel given pathsLabel paths, three-length leastLabel least distinctLabel distinct bitsLabel bits)
+      omega (
+        arith,
+        p,
+        q,
+        r,
+        nine-lines,
+        three-length stringsLabel (n .strings) kmersLabel (n .kmers) totalLabel (n .total),
+        three-length innerLabel (n .inner) givenLabel (n .given) pathsLabel (n .paths),
+        three-length leastLabel (n .least) distinctLabel (n .distinct) bitsLabel (n .bits),
+      )
 
 -- `refused`, two tabs and a feed are ten bytes
 pub refused-length : (number place : ℕ) {a b : ℕ} → a ≡ length (digits number) → b ≡ length (digits place) → 10 + a + b ≡ length (refusedText number place)
@@ -106,7 +138,8 @@ module _ (label : List ℕ) (n at : ℕ) (out : List ℕ) (room : at + length (e
     entry-size g = ap length g ∙ (put-only (at + length label + 1) (digits n) (set out₁ (at + length label) tab) digits-room .size ∙ store labelled .size-kept)
 
     -- label, tab and number are the entry
-    pub entry-end : {p : ℕ} {out₂ : List ℕ} → p ≡ at + length label + 1 + length (digits n) → out₂ ≡ put (at + length label + 1) (digits n) (set out₁ (at + length label) tab)
+    pub entry-end : {p : ℕ} {out₂ : List ℕ} → p ≡ at + length label + 1 + length (digits n)
+        → out₂ ≡ put (at + length label + 1) (digits n) (set out₁ (at + length label) tab)
         → (p ≡ at + length (entry label n)) × (out₂ ≡ put at (entry label n) out)
     entry-end q g = (omega (arith, q, entry-length label n), g ∙ store labelled .ends)
 
@@ -140,10 +173,12 @@ pub record Lining (size total : ℕ) (target : List ℕ) (ls : List (List ℕ ×
   pub place : p + length (lines ls) ≡ total
 
 -- at the start none is stored
-pub lining : (ls : List (List ℕ × ℕ)) (at : ℕ) (out : List ℕ) → at + length (lines ls) ≤ length out → Lining (length out) (at + length (lines ls)) (put at (lines ls) out) ls out at
+pub lining : (ls : List (List ℕ × ℕ)) (at : ℕ) (out : List ℕ) → at + length (lines ls) ≤ length out
+    → Lining (length out) (at + length (lines ls)) (put at (lines ls) out) ls out at
 lining ls at out h = record { storing = begin-at at out (lines ls) h; place = refl }
 
-module _ {size total : ℕ} {target : List ℕ} {label : List ℕ} {n : ℕ} {ls : List (List ℕ × ℕ)} {out : List ℕ} {p : ℕ} (s : Lining size total target ((label, n) ∷ ls) out p) where
+module _ {size total : ℕ} {target : List ℕ} {label : List ℕ} {n : ℕ} {ls : List (List ℕ × ℕ)} {out : List ℕ} {p : ℕ}
+    (s : Lining size total target ((label, n) ∷ ls) out p) where
   here : Storing size out target (line label n ++ lines ls) p
   unfolding lines
   here = s .storing
@@ -162,21 +197,21 @@ lined-all s = (omega (arith, s .place, lines-none), stored (s .storing))
 
 -- ─── nine lines ──────────────────────────────────────────────────────────────
 
-module _ (strings kmers total inner given paths least distinct bits : ℕ) (text : List ℕ) (room : length (countedText strings kmers total inner given paths least distinct bits) ≤ length text) where
+module _ (n : Numbers) (text : List ℕ) (room : length (countedText n) ≤ length text) where
   abbrev target : List ℕ
-  target = fill (countedText strings kmers total inner given paths least distinct bits) text
+  target = fill (countedText n) text
 
   abbrev first-lines : List ℕ
-  first-lines = lines (three stringsLabel strings kmersLabel kmers totalLabel total)
+  first-lines = lines (three stringsLabel (n .strings) kmersLabel (n .kmers) totalLabel (n .total))
 
   abbrev next-lines : List ℕ
-  next-lines = lines (three innerLabel inner givenLabel given pathsLabel paths)
+  next-lines = lines (three innerLabel (n .inner) givenLabel (n .given) pathsLabel (n .paths))
 
   abbrev last-lines : List ℕ
-  last-lines = lines (three leastLabel least distinctLabel distinct bitsLabel bits)
+  last-lines = lines (three leastLabel (n .least) distinctLabel (n .distinct) bitsLabel (n .bits))
 
   counted-begun : Storing (length text) text target (first-lines ++ (next-lines ++ last-lines)) 0
-  counted-begun = restated (nine-parts strings kmers total inner given paths least distinct bits) (begin text (countedText strings kmers total inner given paths least distinct bits) room)
+  counted-begun = restated (nine-parts n) (begin text (countedText n) room)
 
   -- each three of them fit
   pub first-room : 0 + length first-lines ≤ length text
@@ -198,8 +233,8 @@ module _ (strings kmers total inner given paths least distinct bits : ℕ) (text
 
       -- all nine are the text
       pub counted-end : {p₃ : ℕ} {text₃ : List ℕ} → p₃ ≡ p₂ + length last-lines → text₃ ≡ put p₂ last-lines text₂
-          → (p₃ ≡ length (countedText strings kmers total inner given paths least distinct bits)) × (text₃ ≡ target)
-      counted-end q₃ f₃ = (omega (arith, q₁, q₂, q₃, nine-lines strings kmers total inner given paths least distinct bits), f₃ ∙ next-stored .ends)
+          → (p₃ ≡ length (countedText n)) × (text₃ ≡ target)
+      counted-end q₃ f₃ = (omega (arith, q₁, q₂, q₃, nine-lines n), f₃ ∙ next-stored .ends)
 
 -- ─── a refusal ───────────────────────────────────────────────────────────────
 

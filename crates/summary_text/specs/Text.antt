@@ -1,8 +1,10 @@
 -- The lines that `tally` writes: one of a refusal, or nine of numbers.
+-- Specification: 10.2.
 use mathlib.Core.List.{List, [], _∷_, _++_}
 use Prim.Native.Nat.{ℕ}
 use Rattle.text.specs.Numbers.{digits}
 use Rattle.text.specs.Parts.{tab, feed}
+use Rattle.summary_text.specs.declared.Numbers.{Numbers}
 use Rattle.summary_text.specs.declared.Summary.{Summary}
 use Rattle.summary_text.specs.declared.Summary.the-variants.{Counted, Refused}
 
@@ -64,18 +66,18 @@ refusedLabel = 114 ∷ 101 ∷ 102 ∷ 117 ∷ 115 ∷ 101 ∷ 100 ∷ []
 -- ─── the text ────────────────────────────────────────────────────────────────
 
 -- the nine lines
-unfoldable pub countedText : ℕ → ℕ → ℕ → ℕ → ℕ → ℕ → ℕ → ℕ → ℕ → List ℕ
-countedText strings kmers total inner given paths least distinct bits =
+unfoldable pub countedText : Numbers → List ℕ
+countedText n =
     lines (
-    (stringsLabel, strings)
-    ∷ (kmersLabel, kmers)
-    ∷ (totalLabel, total)
-    ∷ (innerLabel, inner)
-    ∷ (givenLabel, given)
-    ∷ (pathsLabel, paths)
-    ∷ (leastLabel, least)
-    ∷ (distinctLabel, distinct)
-    ∷ (bitsLabel, bits)
+    (stringsLabel, n .strings)
+    ∷ (kmersLabel, n .kmers)
+    ∷ (totalLabel, n .total)
+    ∷ (innerLabel, n .inner)
+    ∷ (givenLabel, n .given)
+    ∷ (pathsLabel, n .paths)
+    ∷ (leastLabel, n .least)
+    ∷ (distinctLabel, n .distinct)
+    ∷ (bitsLabel, n .bits)
     ∷ []
     )
 
@@ -85,5 +87,5 @@ refusedText number place = entry refusedLabel number ++ line [] place
 
 -- what is written of a summary
 unfoldable pub textFor : Summary → List ℕ
-textFor (Counted strings kmers total inner given paths least distinct bits) = countedText strings kmers total inner given paths least distinct bits
+textFor (Counted numbers) = countedText numbers
 textFor (Refused number place) = refusedText number place

@@ -1,4 +1,5 @@
 -- Bytes written to a lent table.
+-- Specification: 10.4.
 use mathlib.Core.List.{List}
 use Prim.Native.Nat.{ℕ}
 use lib.ListN.{length}

@@ -10,23 +10,23 @@ ghost use Rattle.text.specs.Numbers.{digits};
 ghost use Rattle.summary_text.specs.Text.{countedText, refusedText, textFor};
 ghost use Rattle.summary_text.specs.Written.{outcome, writtenOf};
 
-// What there is to say of a sheet: nine numbers of its collection, or why it is refused.
+// The nine numbers of a collection.
+pub struct Numbers {
+    pub strings: usize,
+    pub kmers: usize,
+    pub total: usize,
+    pub inner: usize,
+    pub given: usize,
+    pub paths: usize,
+    pub least: usize,
+    pub distinct: usize,
+    pub bits: usize,
+}
+
+// What there is to say of a sheet: the numbers of its collection, or why it is refused.
 pub enum Summary {
-    Counted {
-        strings: usize,
-        kmers: usize,
-        total: usize,
-        inner: usize,
-        given: usize,
-        paths: usize,
-        least: usize,
-        distinct: usize,
-        bits: usize,
-    },
-    Refused {
-        number: u32,
-        place: usize,
-    },
+    Counted { numbers: Numbers },
+    Refused { number: u32, place: usize },
 }
 
 // What a report answers: how many bytes it wrote; or a refusal, where the table is too short.
@@ -43,80 +43,56 @@ fn numbers_length(a: usize, b: usize, c: usize) -> usize
 }
 
 // The nine lines; answers where they end.
-fn put_counted(
-    strings: usize,
-    kmers: usize,
-    total: usize,
-    inner: usize,
-    given: usize,
-    paths: usize,
-    least: usize,
-    distinct: usize,
-    bits: usize,
-    text: &mut [u8],
-) -> usize
-    requires { ⌜ length (countedText strings kmers total inner given paths least distinct bits) ≤ length (now text) ⌝ }
-    ensures { λ r. ⌜ (r ≡ length (countedText strings kmers total inner given paths least distinct bits)) × (now (text .exit) ≡ fill (countedText strings kmers total inner given paths least distinct bits) (now (text .entry))) ⌝ }
+fn put_counted(n: Numbers, text: &mut [u8]) -> usize
+    requires { ⌜ length (countedText n) ≤ length (now text) ⌝ }
+    ensures { λ r. ⌜ (r ≡ length (countedText n)) × (now (text .exit) ≡ fill (countedText n) (now (text .entry))) ⌝ }
 {
     let a = lines::put_lines(
         b"strings",
-        strings,
+        n.strings,
         b"kmers",
-        kmers,
+        n.kmers,
         b"total",
-        total,
+        n.total,
         text,
         0,
     );
-    let b = lines::put_lines(b"inner", inner, b"given", given, b"paths", paths, text, a);
+    let b = lines::put_lines(
+        b"inner",
+        n.inner,
+        b"given",
+        n.given,
+        b"paths",
+        n.paths,
+        text,
+        a,
+    );
     lines::put_lines(
         b"least",
-        least,
+        n.least,
         b"distinct",
-        distinct,
+        n.distinct,
         b"bits",
-        bits,
+        n.bits,
         text,
         b,
     )
 }
 
 // Writes the nine lines, where they have room. The nine labels have 49 letters.
-fn write_counted(
-    strings: usize,
-    kmers: usize,
-    total: usize,
-    inner: usize,
-    given: usize,
-    paths: usize,
-    least: usize,
-    distinct: usize,
-    bits: usize,
-    text: &mut [u8],
-) -> ReportAnswer
-    ensures { λ r. ⌜ outcome r (now (text .exit)) ≡ writtenOf (countedText strings kmers total inner given paths least distinct bits) (now (text .entry)) ⌝ }
-    ensures { λ _. ⌜ length (countedText strings kmers total inner given paths least distinct bits) ≤ 247 ⌝ }
+fn write_counted(n: Numbers, text: &mut [u8]) -> ReportAnswer
+    ensures { λ r. ⌜ outcome r (now (text .exit)) ≡ writtenOf (countedText n) (now (text .entry)) ⌝ }
+    ensures { λ _. ⌜ length (countedText n) ≤ 247 ⌝ }
 {
-    let a = numbers_length(strings, kmers, total);
-    let b = numbers_length(inner, given, paths);
-    let c = numbers_length(least, distinct, bits);
+    let a = numbers_length(n.strings, n.kmers, n.total);
+    let b = numbers_length(n.inner, n.given, n.paths);
+    let c = numbers_length(n.least, n.distinct, n.bits);
     let v = collection::judge_room(text.len(), 49 + a + b + c);
     if let Verdict::Bad { number, place } = v {
         return ReportAnswer::Refused { number, place };
     }
-    let n = put_counted(
-        strings,
-        kmers,
-        total,
-        inner,
-        given,
-        paths,
-        least,
-        distinct,
-        bits,
-        text,
-    );
-    ReportAnswer::Written { bytes: n }
+    let bytes = put_counted(n, text);
+    ReportAnswer::Written { bytes }
 }
 
 // The line of a refusal; answers where it ends.
@@ -162,28 +138,7 @@ pub fn write_summary(summary: Summary, text: &mut [u8]) -> ReportAnswer
     ensures { λ _. ⌜ length (textFor summary) ≤ 247 ⌝ }
 {
     match summary {
-        Summary::Counted {
-            strings,
-            kmers,
-            total,
-            inner,
-            given,
-            paths,
-            least,
-            distinct,
-            bits,
-        } => write_counted(
-            strings,
-            kmers,
-            total,
-            inner,
-            given,
-            paths,
-            least,
-            distinct,
-            bits,
-            text,
-        ),
+        Summary::Counted { numbers } => write_counted(numbers, text),
         Summary::Refused { number, place } => write_refused(wide(number), place, text),
     }
 }

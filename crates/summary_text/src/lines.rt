@@ -38,7 +38,8 @@ pub(crate) fn put_lines(
     at: usize,
 ) -> usize
     requires { ⌜ at + length (lines ((now label1, n1) ∷ (now label2, n2) ∷ (now label3, n3) ∷ [])) ≤ length (now out) ⌝ }
-    ensures { λ r. ⌜ Stores at (lines ((now (label1 .entry), n1) ∷ (now (label2 .entry), n2) ∷ (now (label3 .entry), n3) ∷ [])) (now (out .entry)) r (now (out .exit)) ⌝ }
+    ensures { λ r.
+        ⌜ Stores at (lines ((now (label1 .entry), n1) ∷ (now (label2 .entry), n2) ∷ (now (label3 .entry), n3) ∷ [])) (now (out .entry)) r (now (out .exit)) ⌝ }
 {
     let a = put_line(label1, n1, out, at);
     let b = put_line(label2, n2, out, a);

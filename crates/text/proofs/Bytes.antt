@@ -7,8 +7,8 @@ use borrow.Author.Tests.{lt-ltb, ltb-true, eq-eqb, eqb-true, eqb-false}
 use lib.Dec.{ltb, eqb}
 use lib.ListN.{length, getD}
 use Rattle.lists.specs.Choose.{choose}
+use Rattle.lists.proofs.Refuted.{never}
 use Rattle.text.specs.Fields.{byteIs}
-use Rattle.text.proofs.Tests.{never}
 
 -- the byte stands there
 pub byte-here : (s : List ℕ) (i b : ℕ) → byteIs s i b ≡ true → (i < length s) × (getD s i 0 ≡ b)

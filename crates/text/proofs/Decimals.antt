@@ -19,7 +19,8 @@ put-back o d ys x h =
     let a : take o (set d j x) ≡ take o d = take-set-le o d j x (omega arith) in
     let b : drop j (set d j x) ≡ x ∷ drop (suc j) d = drop-cons (set d j x) j 0 (rw length-set h) ∙ here j d x h in
     let n : suc j ≡ o + length (ys ++ (x ∷ [])) = omega (arith, length-append ys (x ∷ [])) in
-    (λ i. a i ++ (ys ++ b i)) ∙ ap (λ (r : List ℕ). take o d ++ r) (sym (append-assoc ys (x ∷ []) (drop (suc j) d)) ∙ ap (λ (m : ℕ). (ys ++ (x ∷ [])) ++ drop m d) n)
+    (λ i. a i ++ (ys ++ b i))
+    ∙ ap (λ (r : List ℕ). take o d ++ r) (sym (append-assoc ys (x ∷ []) (drop (suc j) d)) ∙ ap (λ (m : ℕ). (ys ++ (x ∷ [])) ++ drop m d) n)
 
 -- v is what is left of the number, j where its digits end; stored, they bring the table to `target`
 pub record Backing (size : ℕ) (d target : List ℕ) (at v j : ℕ) : Type 0 where
@@ -29,7 +30,8 @@ pub record Backing (size : ℕ) (d target : List ℕ) (at v j : ℕ) : Type 0 wh
   pub ends : put at (digits v) d ≡ target
 
 -- the last digit is stored
-pub back-step : {size at v j : ℕ} {d target : List ℕ} → Backing size d target at v j → 10 ≤ v → Backing size (set d (j - 1) (48 + v % 10)) target at (v / 10) (j - 1)
+pub back-step : {size at v j : ℕ} {d target : List ℕ} → Backing size d target at v j → 10 ≤ v
+    → Backing size (set d (j - 1) (48 + v % 10)) target at (v / 10) (j - 1)
 back-step {size} {at} {v} {j} {d} {target} b h =
     let c = count-more v h in
     let p : at + length (digits (v / 10)) ≡ j - 1 = omega (arith, b .place) in
@@ -38,7 +40,8 @@ back-step {size} {at} {v} {j} {d} {target} b h =
       place = p;
       room = rw length-set (omega (arith, b .room));
       ends = ap (λ (k : ℕ). put at (digits (v / 10)) (set d k (48 + v % 10))) (sym p)
-          ∙ (put-back at d (digits (v / 10)) (48 + v % 10) (omega (arith, b .room, b .place)) ∙ (ap (λ (x : List ℕ). put at x d) (sym (digits-more v h)) ∙ b .ends));
+          ∙ (put-back at d (digits (v / 10)) (48 + v % 10) (omega (arith, b .room, b .place))
+          ∙ (ap (λ (x : List ℕ). put at x d) (sym (digits-more v h)) ∙ b .ends));
     }
 
 -- the first one is

@@ -19,7 +19,8 @@ unfolding digitsIn
 in-front zero n rest more = refl
 in-front (suc s) n rest more = go (ltb n 10) (in-front s (n / 10) ((48 + n % 10) ∷ rest) more) where
   go : (t : Bool) → digitsIn s (n / 10) ((48 + n % 10) ∷ (rest ++ more)) ≡ digitsIn s (n / 10) ((48 + n % 10) ∷ rest) ++ more
-      → choose t ((48 + n) ∷ (rest ++ more)) (digitsIn s (n / 10) ((48 + n % 10) ∷ (rest ++ more))) ≡ choose t ((48 + n) ∷ rest) (digitsIn s (n / 10) ((48 + n % 10) ∷ rest)) ++ more
+      → choose t ((48 + n) ∷ (rest ++ more)) (digitsIn s (n / 10) ((48 + n % 10) ∷ (rest ++ more)))
+      ≡ choose t ((48 + n) ∷ rest) (digitsIn s (n / 10) ((48 + n % 10) ∷ rest)) ++ more
   go true h = refl
   go false h = h
 
@@ -34,7 +35,8 @@ unfolding digits
 digits-more zero h = absurd (omega arith)
 digits-more (suc m) h =
     more-digits m (suc m) [] h
-    ∙ (in-front m (suc m / 10) [] ((48 + suc m % 10) ∷ []) ∙ ap (λ (x : List ℕ). x ++ ((48 + suc m % 10) ∷ [])) (enough m (suc m / 10) (suc m / 10) [] (omega arith) (omega arith)))
+    ∙ (in-front m (suc m / 10) [] ((48 + suc m % 10) ∷ [])
+    ∙ ap (λ (x : List ℕ). x ++ ((48 + suc m % 10) ∷ [])) (enough m (suc m / 10) (suc m / 10) [] (omega arith) (omega arith)))
 
 -- ─── how many ────────────────────────────────────────────────────────────────
 

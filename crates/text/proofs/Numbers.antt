@@ -10,8 +10,9 @@ use lib.Dec.{ltb, eqb}
 use lib.ListN.{length}
 use Rattle.lists.specs.Every.{every}
 use Rattle.lists.proofs.Every.{and-both}
+use Rattle.lists.proofs.Refuted.{never}
 use Rattle.text.specs.Numbers.{isDigit, isNumber, valueFrom, value, digitsIn, digits}
-use Rattle.text.proofs.Tests.{both, never, digit-range, range-digit, unequal}
+use Rattle.text.proofs.Tests.{both, digit-range, range-digit, unequal}
 
 -- ─── steps ───────────────────────────────────────────────────────────────────
 
@@ -137,7 +138,8 @@ one-more b f p q = and-both p q
 led-in : (s n : ℕ) (rest : List ℕ) → n ≤ s → 1 ≤ n → every isDigit rest ≡ true → led (digitsIn s n rest) ≡ true
 led-in zero n rest h p g = led-last zero n rest (omega arith) p g
 led-in (suc s) n rest h p g = go (ltb n 10) refl (led-in s (n / 10) ((48 + n % 10) ∷ rest)) where
-  go : (b : Bool) → ltb n 10 ≡ b → (n / 10 ≤ s → 1 ≤ n / 10 → every isDigit ((48 + n % 10) ∷ rest) ≡ true → led (digitsIn s (n / 10) ((48 + n % 10) ∷ rest)) ≡ true)
+  go : (b : Bool) → ltb n 10 ≡ b
+      → (n / 10 ≤ s → 1 ≤ n / 10 → every isDigit ((48 + n % 10) ∷ rest) ≡ true → led (digitsIn s (n / 10) ((48 + n % 10) ∷ rest)) ≡ true)
       → led (digitsIn (suc s) n rest) ≡ true
   go true e r = led-last (suc s) n rest (ltb-true n 10 e) p g
   go false e r =

@@ -17,7 +17,8 @@ use Rattle.text.specs.Parts.{upTo, feed}
 use Rattle.text.specs.Fields.{isEnd, field, inRange, endedAt, numberEnd, numberOf}
 use Rattle.text.specs.declared.Number.{Number}
 use Rattle.text.specs.declared.Number.the-variants.{Good, Wrong}
-use Rattle.text.proofs.Tests.{both, never, digit-range}
+use Rattle.lists.proofs.Refuted.{never}
+use Rattle.text.proofs.Tests.{both, digit-range}
 use Rattle.text.proofs.Parts.{up-next, up-stop}
 
 -- ─── ranges ──────────────────────────────────────────────────────────────────

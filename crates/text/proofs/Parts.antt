@@ -100,18 +100,22 @@ module _ (sep : ℕ) where
   inside-part zero r h = (refl, refl)
   inside-part (suc n) [] h = absurd (omega arith)
   inside-part (suc n) (b ∷ r) h = go (eqb b sep) h (inside-part n r) where
-    go : (t : Bool) → suc n ≤ length (choose t [] (b ∷ upTo sep r)) → (n ≤ length (upTo sep r) → (upTo sep (drop n r) ≡ drop n (upTo sep r)) × (later sep (drop n r) ≡ later sep r))
+    go : (t : Bool) → suc n ≤ length (choose t [] (b ∷ upTo sep r))
+        → (n ≤ length (upTo sep r) → (upTo sep (drop n r) ≡ drop n (upTo sep r)) × (later sep (drop n r) ≡ later sep r))
         → (upTo sep (drop n r) ≡ drop (suc n) (choose t [] (b ∷ upTo sep r))) × (later sep (drop n r) ≡ choose t (parts sep r) (later sep r))
     go true g w = absurd (omega arith)
     go false g w = w (omega arith)
 
   -- the later parts are the parts of what stands behind the first separator
-  pub past-sep : (r m : List ℕ) (ms : List (List ℕ)) → later sep r ≡ m ∷ ms → (parts sep (drop (suc (length (upTo sep r))) r) ≡ later sep r) × (suc (length (upTo sep r)) ≤ length r)
+  pub past-sep : (r m : List ℕ) (ms : List (List ℕ)) → later sep r ≡ m ∷ ms
+      → (parts sep (drop (suc (length (upTo sep r))) r) ≡ later sep r) × (suc (length (upTo sep r)) ≤ length r)
   unfolding upTo later
   past-sep [] m ms h = absurd (omega (arith, ap length h))
   past-sep (b ∷ r) m ms h = go (eqb b sep) h (past-sep r m ms) where
-    go : (t : Bool) → choose t (parts sep r) (later sep r) ≡ m ∷ ms → (later sep r ≡ m ∷ ms → (parts sep (drop (suc (length (upTo sep r))) r) ≡ later sep r) × (suc (length (upTo sep r)) ≤ length r))
-        → (parts sep (drop (length (choose t [] (b ∷ upTo sep r))) r) ≡ choose t (parts sep r) (later sep r)) × (suc (length (choose t [] (b ∷ upTo sep r))) ≤ suc (length r))
+    go : (t : Bool) → choose t (parts sep r) (later sep r) ≡ m ∷ ms
+        → (later sep r ≡ m ∷ ms → (parts sep (drop (suc (length (upTo sep r))) r) ≡ later sep r) × (suc (length (upTo sep r)) ≤ length r))
+        → (parts sep (drop (length (choose t [] (b ∷ upTo sep r))) r) ≡ choose t (parts sep r) (later sep r))
+        × (suc (length (choose t [] (b ∷ upTo sep r))) ≤ suc (length r))
     go true g w = (refl, omega arith)
     go false g w = let v = w g in (v .0, omega (arith, v .1))
 

@@ -1,6 +1,6 @@
 -- What tests tell: of two, negated, of a length, of every element, of digits. Assumes nothing.
 use mathlib.Core.Path.{_≡_, refl, sym, ap, _∙_}
-use mathlib.Core.Bool.{Bool, true, false, not, _&&_, false≢true}
+use mathlib.Core.Bool.{Bool, true, false, not, _&&_}
 use mathlib.Core.List.{List, [], _∷_, _++_}
 use Prim.Native.Nat.{ℕ, _≤_}
 use native.Mathlib.Omega.{arith}
@@ -10,10 +10,6 @@ use lib.ListN.{length}
 use Rattle.lists.specs.Every.{every}
 use Rattle.lists.proofs.Every.{and-left, and-right, and-both, all-map, all-append, every-all, all-every}
 use Rattle.text.specs.Numbers.{isDigit}
-
--- a test that failed did not pass
-pub never : {X : Type 0} → false ≡ true → X
-never e = absurd (false≢true e)
 
 -- two tests that passed together passed each
 pub both : (t u : Bool) → (t && u) ≡ true → (t ≡ true) × (u ≡ true)

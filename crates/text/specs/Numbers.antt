@@ -1,4 +1,5 @@
 -- Numbers in decimal: which bytes are one, its value, and how a value is written.
+-- Specification: 7.2.
 use mathlib.Core.Bool.{Bool, false, not, _&&_}
 use mathlib.Core.List.{List, [], _∷_}
 use Prim.Native.Nat.{ℕ, zero, suc, _+_, _-_, _*_, _/_, _%_}

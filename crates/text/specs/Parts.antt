@@ -1,5 +1,6 @@
 -- Bytes parted by a separator: a sheet into lines, a line into fields. The bytes are `upTo sep bs`, then a separator and a part for each of
 -- `later sep bs`.
+-- Specification: 7.1.
 use mathlib.Core.List.{List, [], _∷_}
 use Prim.Native.Nat.{ℕ}
 use lib.Dec.{eqb}

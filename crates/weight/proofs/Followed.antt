@@ -43,7 +43,8 @@ module _ (n : ℕ) where
 
   module _ (ws fs : List ℕ) (w f i : ℕ) (good all : Bool) where
     pub follow-next : i < length ws → i < length fs → (t : Bool) → t ≡ follows n w f (getD ws i 0) (getD fs i 0)
-        → all ≡ (good && allFollow n w f (drop i ws) (drop i fs)) → all ≡ ((good && t) && allFollow n (getD ws i 0) (getD fs i 0) (drop (i + 1) ws) (drop (i + 1) fs))
+        → all ≡ (good && allFollow n w f (drop i ws) (drop i fs))
+        → all ≡ ((good && t) && allFollow n (getD ws i 0) (getD fs i 0) (drop (i + 1) ws) (drop (i + 1) fs))
     unfolding allFollow
     follow-next l m t e q =
         q

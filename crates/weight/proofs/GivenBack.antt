@@ -9,6 +9,7 @@ use borrow.Author.Tests.{le-leb, lt-ltb, ne-eqb}
 use lib.ListN.{length, getD}
 use Rattle.lists.specs.Choose.{choose}
 use Rattle.lists.specs.Every.{All}
+use Rattle.lists.specs.Limits.{mostLetters}
 use Rattle.lists.proofs.Every.{and-both}
 use Rattle.collection.specs.Collection.{Collection}
 use Rattle.collection.specs.declared.Verdict.the-variants.{Good}
@@ -38,7 +39,8 @@ later-follow n h w f (v ∷ ws) l m a = go (ℕ-discrete v w)
     col rs = allFollow n w f (map (λ r. r .0) rs) (map (λ r. r .1) rs)
 
     go : Dec (v ≡ w) → col (laterRuns (suc h) w ws) ≡ true
-        → allFollow n v (suc h) (map (λ r. r .0) (laterRuns (suc h) v ws)) (map (λ r. r .1) (laterRuns (suc h) v ws)) ≡ true → col (laterRuns h w (v ∷ ws)) ≡ true
+        → allFollow n v (suc h) (map (λ r. r .0) (laterRuns (suc h) v ws)) (map (λ r. r .1) (laterRuns (suc h) v ws)) ≡ true
+        → col (laterRuns h w (v ∷ ws)) ≡ true
     go (yes e) p q = ap col (later-equal h w v ws e) ∙ p
     go (no e) p q =
         ap col (later-other h w v ws e)
@@ -49,7 +51,8 @@ pub runs-listed : (ws : List ℕ) → All (λ v. isWeight v ≡ true) ws → isR
 unfolding isRunList runs
 runs-listed [] a = refl
 runs-listed (w ∷ ws) a =
-    and-both (and-both (a .0) (and-both refl (le-leb 1 (suc (length ws)) (omega arith)))) (later-follow (suc (length ws)) 1 w 1 ws (omega arith) (omega arith) (a .1))
+    and-both (and-both (a .0) (and-both refl (le-leb 1 (suc (length ws)) (omega arith))))
+    (later-follow (suc (length ws)) 1 w 1 ws (omega arith) (omega arith) (a .1))
 
 -- ─── each handle's weight ────────────────────────────────────────────────────
 
@@ -71,15 +74,18 @@ later-weight h w (v ∷ ws) handle l m = go (ℕ-discrete handle h) (ℕ-discret
         → col w (laterRuns h w (v ∷ ws)) ≡ getD (w ∷ (v ∷ ws)) (handle - h) 0
     go (yes e) d p q =
         let z : handle - h ≡ 0 = omega arith in
-        last-none handle w (map (λ r. r .0) (laterRuns h w (v ∷ ws))) (map (λ r. r .1) (laterRuns h w (v ∷ ws))) (subst (λ (x : ℕ). All (λ g. x < g) (map (λ r. r .1) (laterRuns h w (v ∷ ws)))) (sym e) (later-above h w (v ∷ ws)))
+        last-none handle w (map (λ r. r .0) (laterRuns h w (v ∷ ws))) (map (λ r. r .1) (laterRuns h w (v ∷ ws)))
+        (subst (λ (x : ℕ). All (λ g. x < g) (map (λ r. r .1) (laterRuns h w (v ∷ ws)))) (sym e) (later-above h w (v ∷ ws)))
         ∙ sym (ap (λ (i : ℕ). getD (w ∷ (v ∷ ws)) i 0) z)
     go (no e) (yes d) p q =
         let z : handle - h ≡ suc (handle - suc h) = omega arith in
-        ap (col w) (later-equal h w v ws d) ∙ (p (omega arith) (omega arith) ∙ (ap (λ (x : ℕ). getD (x ∷ ws) (handle - suc h) 0) (sym d) ∙ sym (ap (λ (i : ℕ). getD (w ∷ (v ∷ ws)) i 0) z)))
+        ap (col w) (later-equal h w v ws d)
+        ∙ (p (omega arith) (omega arith) ∙ (ap (λ (x : ℕ). getD (x ∷ ws) (handle - suc h) 0) (sym d) ∙ sym (ap (λ (i : ℕ). getD (w ∷ (v ∷ ws)) i 0) z)))
     go (no e) (no d) p q =
         let z : handle - h ≡ suc (handle - suc h) = omega arith in
         ap (col w) (later-other h w v ws d)
-        ∙ (ap (λ (b : Bool). lastAt handle (choose b v w) (map (λ r. r .0) (laterRuns (suc h) v ws)) (map (λ r. r .1) (laterRuns (suc h) v ws))) (le-leb (suc h) handle (omega arith))
+        ∙ (ap (λ (b : Bool). lastAt handle (choose b v w) (map (λ r. r .0) (laterRuns (suc h) v ws)) (map (λ r. r .1) (laterRuns (suc h) v ws)))
+        (le-leb (suc h) handle (omega arith))
         ∙ (q (omega arith) (omega arith) ∙ sym (ap (λ (i : ℕ). getD (w ∷ (v ∷ ws)) i 0) z)))
 
 -- the run list gives each handle its weight
@@ -90,9 +96,9 @@ runs-weight (w ∷ ws) handle l m =
     ap (λ (b : Bool). lastAt handle (choose b w 0) (map (λ r. r .0) (laterRuns 1 w ws)) (map (λ r. r .1) (laterRuns 1 w ws))) (le-leb 1 handle l)
     ∙ later-weight 1 w ws handle l (omega arith)
 
-list-verdict : (n : ℕ) (weights firsts : List ℕ) → n ≤ 1048576 → isRunList n weights firsts ≡ true → runListVerdict n weights firsts ≡ Good
+list-verdict : (n : ℕ) (weights firsts : List ℕ) → n ≤ mostLetters → isRunList n weights firsts ≡ true → runListVerdict n weights firsts ≡ Good
 unfolding runListVerdict
-list-verdict n weights firsts l e = rw (le-leb n 1048576 l, e)
+list-verdict n weights firsts l e = rw (le-leb n mostLetters l, e)
 
 handle-verdict : (n handle : ℕ) → 1 ≤ handle → handle ≤ n → handleVerdict n handle ≡ Good
 unfolding handleVerdict
@@ -106,5 +112,6 @@ runs-then-weight c p handle l m =
     let j = collection-good c p in
     sym
     (settled Refused (ap Found (sym (runs-weight c.weights handle l m)))
-    (then-good _ (list-verdict (length c.weights) (runWeights c.weights) (runFirsts c.weights) (omega (arith, j .counted, j .shape .N-high)) (runs-listed c.weights (j .all-weights)))
+    (then-good _ (list-verdict (length c.weights) (runWeights c.weights) (runFirsts c.weights) (omega (arith, j .counted, j .shape .N-high))
+    (runs-listed c.weights (j .all-weights)))
     (handle-verdict (length c.weights) handle l m)))

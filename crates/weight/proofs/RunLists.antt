@@ -1,6 +1,6 @@
 -- What a judged run list keeps to, and the lookup in it. Assumes nothing.
 use mathlib.Core.Path.{_≡_, refl, sym, ap, subst}
-use mathlib.Core.Bool.{true, false, not, _&&_, false≢true}
+use mathlib.Core.Bool.{true, false, not, _&&_}
 use mathlib.Core.List.{List, [], _∷_}
 use Prim.Native.Nat.{ℕ, zero, suc, _+_, _-_, _<_, _≤_}
 use native.Mathlib.Nat.{not-suc-le-zero}
@@ -12,8 +12,10 @@ use lib.ListN.{length, getD}
 use Rattle.lists.specs.Choose.{choose}
 use Rattle.lists.specs.Every.{All}
 use Rattle.lists.specs.Pairs.{Pairs}
+use Rattle.lists.specs.Limits.{mostLetters}
 use Rattle.lists.proofs.Every.{and-left, and-right, all-map, at-all}
 use Rattle.lists.proofs.Pairs.{pairs-at}
+use Rattle.lists.proofs.Refuted.{never}
 use Rattle.collection.specs.declared.Verdict.the-variants.{Good}
 use Rattle.collection_faults.specs.Faults.{isWeight}
 use Rattle.collection.proofs.Verdicts.{test-good}
@@ -30,8 +32,8 @@ pub record Later (n w f : ℕ) (weights firsts : List ℕ) : Type 0 where
 pub follow-good : (n w f : ℕ) (weights firsts : List ℕ) → allFollow n w f weights firsts ≡ true → Later n w f weights firsts
 unfolding allFollow
 follow-good n w f [] [] e = record { same-length = refl; above = tt; rise = tt; within = tt }
-follow-good n w f [] (g ∷ firsts) e = absurd (false≢true e)
-follow-good n w f (v ∷ weights) [] e = absurd (false≢true e)
+follow-good n w f [] (g ∷ firsts) e = never e
+follow-good n w f (v ∷ weights) [] e = never e
 follow-good n w f (v ∷ weights) (g ∷ firsts) e =
     let a = and-left (follows n w f v g) (allFollow n v g weights firsts) e in
     let b = and-right (isWeight v && not (eqb v w)) (ltb f g && leb g n) a in
@@ -57,9 +59,16 @@ pub record RunListed (n : ℕ) (weights firsts : List ℕ) : Type 0 where
 pub list-good : (n : ℕ) (weights firsts : List ℕ) → isRunList n weights firsts ≡ true → RunListed n weights firsts
 unfolding isRunList
 list-good n [] [] e =
-    record { same-length = refl; some = λ l. absurd (let z = eqb-true n 0 e in let y : ⊥ = omega arith in y); from-one = λ l. absurd (not-suc-le-zero l); rise = tt; within = tt }
-list-good n [] (f ∷ firsts) e = absurd (false≢true e)
-list-good n (w ∷ weights) [] e = absurd (false≢true e)
+    record {
+      same-length =
+          refl;
+      some = λ l. absurd (let z = eqb-true n 0 e in let y : ⊥ = omega arith in y);
+      from-one = λ l. absurd (not-suc-le-zero l);
+      rise = tt;
+      within = tt;
+    }
+list-good n [] (f ∷ firsts) e = never e
+list-good n (w ∷ weights) [] e = never e
 list-good n (w ∷ weights) (f ∷ firsts) e =
     let a = and-left (isWeight w && (eqb f 1 && leb f n)) (allFollow n w f weights firsts) e in
     let b = and-right (isWeight w) (eqb f 1 && leb f n) a in
@@ -73,11 +82,11 @@ list-good n (w ∷ weights) (f ∷ firsts) e =
     }
 
 -- what passes 12
-pub list-verdict-good : (n : ℕ) (weights firsts : List ℕ) → runListVerdict n weights firsts ≡ Good → (n ≤ 1048576) × (isRunList n weights firsts ≡ true)
+pub list-verdict-good : (n : ℕ) (weights firsts : List ℕ) → runListVerdict n weights firsts ≡ Good → (n ≤ mostLetters) × (isRunList n weights firsts ≡ true)
 unfolding runListVerdict
 list-verdict-good n weights firsts h =
-    let t = test-good (leb n 1048576 && isRunList n weights firsts) 12 0 Good h .0 in
-    (leb-true n 1048576 (and-left (leb n 1048576) (isRunList n weights firsts) t), and-right (leb n 1048576) (isRunList n weights firsts) t)
+    let t = test-good (leb n mostLetters && isRunList n weights firsts) 12 0 Good h .0 in
+    (leb-true n mostLetters (and-left (leb n mostLetters) (isRunList n weights firsts) t), and-right (leb n mostLetters) (isRunList n weights firsts) t)
 
 -- ─── the last run at or before a handle ──────────────────────────────────────
 
@@ -123,6 +132,7 @@ module _ {n : ℕ} {weights firsts : List ℕ} {handle : ℕ} (s : Listed n weig
       (last-is handle 0 weights firsts low (omega (arith, h .order, h .inside, g .same-length)) (omega (arith, h .order, h .inside)) (h .before)
       (λ j l m. go j l m (ℕ-discrete j high) (pairs-at (λ a b. a < b) firsts (g .rise) high j 0)))
     where
-      go : (j : ℕ) → low < j → j < length firsts → Dec (j ≡ high) → (high < j → j < length firsts → getD firsts high 0 < getD firsts j 0) → handle < getD firsts j 0
+      go : (j : ℕ) → low < j → j < length firsts → Dec (j ≡ high) → (high < j → j < length firsts → getD firsts high 0 < getD firsts j 0)
+          → handle < getD firsts j 0
       go j l m (yes r) up = subst (λ (x : ℕ). handle < getD firsts x 0) (sym r) (h .after (omega arith))
       go j l m (no r) up = omega (arith, up (omega (arith, h .order)) m, h .after (omega (arith, h .order)))

@@ -1,10 +1,12 @@
 -- Run lists as a caller lends them: when one is bad (12), and the weight that it gives a handle.
+-- Specification: 4.3, 9.12.
 use mathlib.Core.Bool.{Bool, true, false, not, _&&_}
 use mathlib.Core.List.{List, [], _∷_}
 use mathlib.Core.Path.{_≡_}
 use Prim.Native.Nat.{ℕ, _≤_}
 use lib.Dec.{leb, ltb, eqb}
 use Rattle.lists.specs.Choose.{choose}
+use Rattle.lists.specs.Limits.{mostLetters}
 use Rattle.collection.specs.declared.Verdict.{Verdict}
 use Rattle.collection.specs.declared.Verdict.the-variants.{Good, Bad}
 use Rattle.collection_faults.specs.Faults.{isWeight}
@@ -35,7 +37,7 @@ isRunList n (w ∷ weights) (f ∷ firsts) = begins n w f && allFollow n w f wei
 -- 12: a bad run list, or n above 1,048,576
 unfoldable pub runListVerdict : ℕ → List ℕ → List ℕ → Verdict
 unfolding isRunList
-runListVerdict n weights firsts = choose (leb n 1048576 && isRunList n weights firsts) Good (Bad 12 0)
+runListVerdict n weights firsts = choose (leb n mostLetters && isRunList n weights firsts) Good (Bad 12 0)
 
 -- the weight of the last run that starts at or before the handle; `so-far` where none does
 unfoldable pub lastAt : ℕ → ℕ → List ℕ → List ℕ → ℕ

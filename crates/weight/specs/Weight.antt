@@ -1,4 +1,5 @@
 -- WEIGHT: the weight that a run list gives a handle.
+-- Specification: 9.12.
 use mathlib.Core.List.{List}
 use Prim.Native.Nat.{ℕ}
 use Rattle.collection.specs.Judge.{handleVerdict}

@@ -30,12 +30,6 @@ firsts-of [] (f ∷ firsts) e = absurd (omega arith)
 firsts-of (w ∷ weights) [] e = absurd (omega arith)
 firsts-of (w ∷ weights) (f ∷ firsts) e = ap (λ (fs : List ℕ). f ∷ fs) (firsts-of weights firsts (omega arith))
 
--- every list of records is the records of its weights and its first handles
-pub records-are : (rs : List Run) → recordsOf (map weightIn rs) (map firstIn rs) ≡ rs
-unfolding recordsOf
-records-are [] = refl
-records-are (r ∷ rs) = ap (λ (qs : List Run). r ∷ qs) (records-are rs)
-
 -- two tables of one length and their records have one answer, a refusal too
 pub tables-agree : (weights firsts : List ℕ) (n handle : ℕ) → length weights ≡ length firsts
     → weightAnswer (map weightIn (recordsOf weights firsts)) (map firstIn (recordsOf weights firsts)) n handle ≡ weightAnswer weights firsts n handle
@@ -49,8 +43,10 @@ records-agree weights firsts n handle e = tables-agree weights firsts n handle (
 
 -- RUNS, its list as records, then WEIGHT over them of any handle 1 to n, is that k-mer's weight
 pub runs-then-records : (c : Collection) → Passes c → (handle : ℕ) → 1 ≤ handle → handle ≤ length c.weights
-    → weightAnswer (map weightIn (recordsOf (runWeights c.weights) (runFirsts c.weights))) (map firstIn (recordsOf (runWeights c.weights) (runFirsts c.weights))) (length c.weights) handle
+    → weightAnswer (map weightIn (recordsOf (runWeights c.weights) (runFirsts c.weights)))
+    (map firstIn (recordsOf (runWeights c.weights) (runFirsts c.weights))) (length c.weights) handle
     ≡ Found (weightOf c.weights handle)
 runs-then-records c p handle l m =
-    tables-agree (runWeights c.weights) (runFirsts c.weights) (length c.weights) handle (length-map (runs c.weights) (λ r. r .0) ∙ sym (length-map (runs c.weights) (λ r. r .1)))
+    tables-agree (runWeights c.weights) (runFirsts c.weights) (length c.weights) handle
+    (length-map (runs c.weights) (λ r. r .0) ∙ sym (length-map (runs c.weights) (λ r. r .1)))
     ∙ runs-then-weight c p handle l m

@@ -10,6 +10,7 @@ use native.Mathlib.Numerals.{add-one}
 use lib.Dec.{leb, eqb}
 use lib.ListN.{length, getD}
 use Rattle.lists.specs.Choose.{choose}
+use Rattle.lists.specs.Limits.{mostLetters}
 use Rattle.lists.proofs.Every.{and-assoc, and-true}
 use Rattle.collection.specs.declared.Verdict.{Verdict}
 use Rattle.collection.specs.declared.Verdict.the-variants.{Good, Bad}
@@ -71,14 +72,15 @@ good-follow s (r ∷ rs) e =
 module _ (n handle : ℕ) where
   -- the runs that were read are the run list of n k-mers
   good-list : (rs : List Run)
-      → (passed (started n handle) rs .good && (passed (started n handle) rs .begun || eqb n 0)) ≡ (leb n 1048576 && isRunList n (weightsIn rs) (firstsIn rs))
+      → (passed (started n handle) rs .good && (passed (started n handle) rs .begun || eqb n 0))
+      ≡ (leb n mostLetters && isRunList n (weightsIn rs) (firstsIn rs))
   unfolding passed isRunList
   good-list [] = refl
   good-list (r ∷ rs) =
       ap (λ (b : Bool). passed s rs .good && (b || eqb n 0)) (begun-stays s rs refl)
       ∙ (and-true (passed s rs .good)
       ∙ (good-follow s rs refl
-      ∙ sym (and-assoc (leb n 1048576) (begins n (r .weight) (r .first)) (allFollow n (r .weight) (r .first) (weightsIn rs) (firstsIn rs)))))
+      ∙ sym (and-assoc (leb n mostLetters) (begins n (r .weight) (r .first)) (allFollow n (r .weight) (r .first) (weightsIn rs) (firstsIn rs)))))
     where
       s : State
       s = stepped (started n handle) r
@@ -87,18 +89,22 @@ module _ (n handle : ℕ) where
   verdict-list : (rs : List Run) → listVerdict (passed (started n handle) rs) ≡ runListVerdict n (weightsIn rs) (firstsIn rs)
   unfolding listVerdict runListVerdict
   verdict-list rs =
-      ap (λ (m : ℕ). choose (passed (started n handle) rs .good && (passed (started n handle) rs .begun || eqb m 0)) Good (Bad 12 0)) (n-stays (started n handle) rs)
+      ap (λ (m : ℕ). choose (passed (started n handle) rs .good && (passed (started n handle) rs .begun || eqb m 0)) Good (Bad 12 0))
+      (n-stays (started n handle) rs)
       ∙ ap (λ (b : Bool). choose b Good (Bad 12 0)) (good-list rs)
 
   -- one pass answers WEIGHT
   pub passed-answers : (rs : List Run) → finished (passed (started n handle) rs) ≡ weightAnswer (weightsIn rs) (firstsIn rs) n handle
   unfolding finished weightAnswer
   passed-answers rs =
-      ap (λ (v : Verdict). settle (andThen v (handleVerdict (passed (started n handle) rs .n) (passed (started n handle) rs .handle))) Refused (Found (passed (started n handle) rs .found)))
+      ap (λ (v : Verdict). settle (andThen v (handleVerdict (passed (started n handle) rs .n) (passed (started n handle) rs .handle))) Refused
+      (Found (passed (started n handle) rs .found)))
       (verdict-list rs)
-      ∙ (ap₂ (λ (m h : ℕ). settle (andThen (runListVerdict n (weightsIn rs) (firstsIn rs)) (handleVerdict m h)) Refused (Found (passed (started n handle) rs .found))) (n-stays (started n handle) rs)
+      ∙ (ap₂ (λ (m h : ℕ). settle (andThen (runListVerdict n (weightsIn rs) (firstsIn rs)) (handleVerdict m h)) Refused
+      (Found (passed (started n handle) rs .found))) (n-stays (started n handle) rs)
       (handle-stays (started n handle) rs)
-      ∙ ap (λ (w : ℕ). settle (andThen (runListVerdict n (weightsIn rs) (firstsIn rs)) (handleVerdict n handle)) Refused (Found w)) (found-last (started n handle) rs))
+      ∙ ap (λ (w : ℕ). settle (andThen (runListVerdict n (weightsIn rs) (firstsIn rs)) (handleVerdict n handle)) Refused (Found w))
+      (found-last (started n handle) rs))
 
 -- ─── after i records ─────────────────────────────────────────────────────────
 

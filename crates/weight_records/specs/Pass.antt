@@ -4,6 +4,7 @@ use mathlib.Core.List.{List, [], _∷_}
 use Prim.Native.Nat.{ℕ}
 use lib.Dec.{leb, eqb}
 use Rattle.lists.specs.Choose.{choose}
+use Rattle.lists.specs.Limits.{mostLetters}
 use Rattle.collection.specs.declared.Verdict.{Verdict}
 use Rattle.collection.specs.declared.Verdict.the-variants.{Good, Bad}
 use Rattle.collection.specs.Judge.{handleVerdict}
@@ -24,7 +25,7 @@ foundBy s r = choose (leb (r .first) (s .handle)) (r .weight) (s .found)
 
 -- before any run: n is at most 1,048,576
 abbrev pub started : ℕ → ℕ → State
-started n handle = record { good = leb n 1048576; begun = false; weight = 0; first = 0; found = 0; n = n; handle = handle }
+started n handle = record { good = leb n mostLetters; begun = false; weight = 0; first = 0; found = 0; n = n; handle = handle }
 
 -- after one more run
 abbrev pub stepped : State → Run → State

@@ -1,5 +1,6 @@
 -- A run list as one list of records, each a weight and its first handle. WEIGHT over it is `weightAnswer` of crate `runs`, on the list of the
 -- records' weights and the list of their first handles.
+-- Specification: 9.13.
 use mathlib.Core.List.{List, [], _∷_}
 use Prim.Native.Nat.{ℕ}
 use Rattle.weight_records.specs.declared.Run.{Run}

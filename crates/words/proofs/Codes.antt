@@ -10,6 +10,7 @@ use borrow.Author.Tests.{eq-eqb, ne-eqb}
 use lib.Dec.{eqb, lit<}
 use lib.ListN.{length, length-append}
 use Rattle.lists.specs.Every.{same}
+use Rattle.lists.specs.Limits.{mostK}
 use Rattle.lists.proofs.Every.{all-append, same-is, is-same}
 use Rattle.words.specs.Word.{Letters, codeFrom, code}
 use Rattle.words.specs.Turned.{spelled}
@@ -59,7 +60,7 @@ code-lt (x ∷ w) h =
     subst (λ (n : ℕ). code (x ∷ w) < n) (sym m) (subst (λ (n : ℕ). n < 4 * 4 ^ length w) (sym (code-cons x w)) (digits-lt (h .0) (code-lt w (h .1))))
 
 -- a code of at most 31 letters has room for one letter more in 64 bits
-pub code-room : (w : List ℕ) → Letters w → length w ≤ 31 → code w < 4 ^ 31
+pub code-room : (w : List ℕ) → Letters w → length w ≤ mostK → code w < 4 ^ mostK
 code-room w h l = lt-of-lt-of-le (code-lt w h) (pow-le-pow-right (lit< tt) l)
 
 -- ─── one code, one word ──────────────────────────────────────────────────────

@@ -14,6 +14,7 @@ use lib.ListN.{length, getD, take, drop, length-drop, length-map}
 use lib.Pow.{shl-exact}
 use lib.Seq.{take-suc, drop-cons, getD-drop, length-take-le}
 use Rattle.lists.specs.Every.{All}
+use Rattle.lists.specs.Limits.{mostK}
 use Rattle.lists.proofs.Cuts.{map-cut}
 use Rattle.lists.proofs.Every.{all-take, all-drop, all-at}
 use Rattle.alphabet.specs.Letter.{isLetter, letter, twoBits, paired}
@@ -85,7 +86,8 @@ module _ (xs : List ℕ) where
   code-tail h j a l =
       let n = length-at j (suc a) (omega arith) in
       ap (λ (w : List ℕ). code w % 4 ^ j) (take-tail j a (omega arith))
-      ∙ (ap (λ (m : ℕ). code (getD xs a 0 ∷ take j (drop (suc a) xs)) % 4 ^ m) (sym n) ∙ tail-code (getD xs a 0) (take j (drop (suc a) xs)) (letters-at h j (suc a)))
+      ∙ (ap (λ (m : ℕ). code (getD xs a 0 ∷ take j (drop (suc a) xs)) % 4 ^ m) (sym n)
+      ∙ tail-code (getD xs a 0) (take j (drop (suc a) xs)) (letters-at h j (suc a)))
 
 -- the word at a position is a part of the word that all letters spell
 pub word-part : (k : ℕ) (letters : List ℕ) (a : ℕ) → wordAt k letters a ≡ take k (drop a (spell letters))
@@ -113,7 +115,7 @@ four-two (suc k) =
     t ∙ ap (λ (n : ℕ). 2 ^ n) (sym e)
 
 -- the mask keeps the last k letters
-pub masked : (k c : ℕ) → k ≤ 31 → bitAnd c ((1 * 2 ^ (2 * k)) % 2 ^ 64 - 1) ≡ c % 4 ^ k
+pub masked : (k c : ℕ) → k ≤ mostK → bitAnd c ((1 * 2 ^ (2 * k)) % 2 ^ 64 - 1) ≡ c % 4 ^ k
 masked k c h = rw (one-shifted (2 * k) (omega arith), four-two k) (and-mask c (2 * k))
 
 -- a letter's code shifted before k letters
@@ -121,13 +123,15 @@ pub shifted : (k x : ℕ) → k ≤ 30 → x < 4 → (x * 2 ^ (2 * k)) % 2 ^ 64 
 shifted k x h l = shl-exact 2 (2 * k) 64 l (omega arith) ∙ ap (λ (n : ℕ). x * n) (sym (four-two k))
 
 -- the pair of a letter before k - 1 letters leaves room in 64 bits
-pub turned-room : (k c x : ℕ) → 1 ≤ k → k ≤ 31 → c < 4 ^ k → (3 - x) * 4 ^ (k - 1) + c / 4 < 18446744073709551616
+pub turned-room : (k c x : ℕ) → 1 ≤ k → k ≤ mostK → c < 4 ^ k → (3 - x) * 4 ^ (k - 1) + c / 4 < 18446744073709551616
 turned-room k c x h l small =
     let q : k ≡ suc (k - 1) = omega arith in
     let m : 4 ^ suc (k - 1) ≡ 4 * 4 ^ (k - 1) = omega arith in
     let s : c / 4 < 4 ^ (k - 1) = omega (arith, ap (λ (n : ℕ). 4 ^ n) q) in
     let d : (3 - x) * 4 ^ (k - 1) + c / 4 < 4 * 4 ^ (k - 1) = digits-lt (omega arith) s in
-    lt-of-lt-of-le d (le-trans (le-of-eq (sym (ap (λ (n : ℕ). 4 ^ n) q ∙ m))) (le-trans (pow-le-pow-right (lit< tt) {j = 31} l) (lit≤ {m = 4 ^ 31} {n = 18446744073709551616} tt)))
+    lt-of-lt-of-le d
+    (le-trans (le-of-eq (sym (ap (λ (n : ℕ). 4 ^ n) q ∙ m)))
+    (le-trans (pow-le-pow-right (lit< tt) {j = mostK} l) (lit≤ {m = 4 ^ mostK} {n = 18446744073709551616} tt)))
 
 -- ─── the letters of a word one after the other ───────────────────────────────
 
@@ -141,13 +145,16 @@ map-snoc f [] x = refl
 map-snoc f (y ∷ u) x = ap (λ (l : List ℕ). f y ∷ l) (map-snoc f u x)
 
 -- one byte more
-pub bits-more : (word : List ℕ) (i c x : ℕ) → i < length word → c ≡ code (map twoBits (take i word)) → x ≡ twoBits (getD word i 0) → c * 4 + x ≡ code (map twoBits (take (i + 1) word))
+pub bits-more : (word : List ℕ) (i c x : ℕ) → i < length word → c ≡ code (map twoBits (take i word)) → x ≡ twoBits (getD word i 0)
+    → c * 4 + x ≡ code (map twoBits (take (i + 1) word))
 bits-more word i c x l e q =
     ap₂ (λ (m n : ℕ). m * 4 + n) e q
-    ∙ sym (ap (λ (n : ℕ). code (map twoBits (take n word))) (add-one i) ∙ (ap (λ (w : List ℕ). code (map twoBits w)) (take-suc word i 0 l) ∙ (ap code (map-snoc twoBits (take i word) (getD word i 0)) ∙ code-snoc (map twoBits (take i word)) (twoBits (getD word i 0)))))
+    ∙ sym (ap (λ (n : ℕ). code (map twoBits (take n word))) (add-one i)
+    ∙ (ap (λ (w : List ℕ). code (map twoBits w)) (take-suc word i 0 l)
+    ∙ (ap code (map-snoc twoBits (take i word) (getD word i 0)) ∙ code-snoc (map twoBits (take i word)) (twoBits (getD word i 0)))))
 
 -- 31 letters fit in 62 bits
-pub bits-room : (word : List ℕ) (i : ℕ) → length word ≤ 31 → i ≤ length word → code (map twoBits (take i word)) < 4 ^ 31
+pub bits-room : (word : List ℕ) (i : ℕ) → length word ≤ mostK → i ≤ length word → code (map twoBits (take i word)) < 4 ^ mostK
 bits-room word i h l =
     code-room (map twoBits (take i word)) (bits-letters (take i word))
     (omega (arith, length-map (take i word) twoBits, length-take-le i word l))

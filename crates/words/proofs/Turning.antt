@@ -1,7 +1,7 @@
 -- Laws of the reverse complement, of words and of codes, for words of every length. Assumes nothing.
 use mathlib.Core.Path.{_≡_, refl, sym, ap, ap₂, _∙_, subst}
 use mathlib.Core.Bool.{true}
-use mathlib.Core.List.{List, [], _∷_, _++_, map, reverse, reverse-cons, reverse-append}
+use mathlib.Core.List.{List, [], _∷_, _++_, map, reverse, reverse-cons, reverse-append, map-append}
 use Prim.Native.Nat.{ℕ, zero, suc, _+_, _-_, _*_, _/_, _%_, _^_, _≤_, _<_}
 use native.Mathlib.Omega.{arith}
 use native.Mathlib.Nat.{mod-lt, mod-mod, lt-of-lt-of-le, le-trans, pow-le-pow-right, one-le-pow}
@@ -12,6 +12,7 @@ use lib.ListN.{length, getD, length-map, length-reverse}
 use borrow.Author.Tests.{eqb-true}
 use Rattle.lists.specs.Count.{sum}
 use Rattle.lists.specs.Every.{everyAt}
+use Rattle.lists.specs.Limits.{mostK}
 use Rattle.lists.proofs.Count.{sum-append}
 use Rattle.lists.proofs.Every.{all-append, and-left, and-right}
 use Rattle.lists.proofs.Table.{table-rule}
@@ -21,10 +22,6 @@ use Rattle.words.specs.Turned.{spelled, turnedCode, turnsFour}
 use Rattle.words.proofs.Codes.{spelled-code}
 
 -- ─── words ───────────────────────────────────────────────────────────────────
-
-map-append : (f : ℕ → ℕ) (u v : List ℕ) → map f (u ++ v) ≡ map f u ++ map f v
-map-append f [] v = refl
-map-append f (x ∷ u) v = ap (λ (l : List ℕ). f x ∷ l) (map-append f u v)
 
 -- the first letter of a word is the last of its reverse complement
 pub turn-cons : (x : ℕ) (w : List ℕ) → turn (x ∷ w) ≡ turn w ++ (paired x ∷ [])
@@ -140,12 +137,12 @@ turned-four-lt b = subst (λ (n : ℕ). n < 256) (sym (turned-from 4 b)) (four-s
 -- `left` of k letters are still to be turned: what is turned so far is below 4 ^ (k - left), and the rest gives the answer
 pub record Turning (k c left rest turned : ℕ) : Type 0 where
   pub left-high : left ≤ k
-  pub k-high : k ≤ 31
+  pub k-high : k ≤ mostK
   pub small : turned < 4 ^ (k - left)
   pub ends : turnFrom left rest turned ≡ turnedCode k c
 
 -- nothing turned yet
-pub turning-begins : (k c : ℕ) → k ≤ 31 → Turning k c k c 0
+pub turning-begins : (k c : ℕ) → k ≤ mostK → Turning k c k c 0
 turning-begins k c h = record { left-high = omega arith; k-high = h; small = one-le-pow (k - k) 4 (lit≤ tt); ends = sym (turned-from k c) }
 
 module _ (e k c left rest turned t : ℕ) (s : Turning k c left rest turned) (h : e ≤ left) (l : t < 4 ^ e) where
@@ -158,7 +155,7 @@ module _ (e k c left rest turned t : ℕ) (s : Turning k c left rest turned) (h 
   pub turning-fits : turned * 4 ^ e + t < 18446744073709551616
   turning-fits =
       lt-of-lt-of-le grown
-      (le-trans (pow-le-pow-right (lit< tt) {j = 31} (omega (arith, s .left-high, s .k-high))) (lit≤ {m = 4 ^ 31} {n = 18446744073709551616} tt))
+      (le-trans (pow-le-pow-right (lit< tt) {j = mostK} (omega (arith, s .left-high, s .k-high))) (lit≤ {m = 4 ^ mostK} {n = 18446744073709551616} tt))
 
   step : (rest' : ℕ) → turnFrom (left - e) rest' (turned * 4 ^ e + t) ≡ turnFrom left rest turned → Turning k c (left - e) rest' (turned * 4 ^ e + t)
   step rest' q = record { left-high = omega (arith, s .left-high); k-high = s .k-high; small = grown; ends = q ∙ s .ends }

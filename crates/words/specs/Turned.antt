@@ -1,4 +1,5 @@
 -- The reverse complement of a word that is given by its code, the table that turns four letters at once, and rolling codes.
+-- Specification: 2.3, 2.4.
 use mathlib.Core.Bool.{Bool, _&&_}
 use mathlib.Core.List.{List, [], _∷_, _++_}
 use Prim.Native.Nat.{ℕ, zero, suc, _+_, _-_, _*_, _/_, _%_, _^_}

@@ -1,4 +1,5 @@
 -- Words: lists of the codes of letters, their own codes, and their reverse complements.
+-- Specification: 2.2, 2.3.
 use mathlib.Core.List.{List, [], _∷_, map, reverse}
 use Prim.Native.Nat.{ℕ, _+_, _*_, _<_}
 use lib.ListN.{take, drop}

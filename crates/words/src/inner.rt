@@ -4,6 +4,7 @@ ghost use mathlib.Core.List.{map};
 ghost use mathlib.Core.Path.{_≡_};
 ghost use Prim.Native.Nat.{_≤_, _<_, _^_};
 ghost use lib.ListN.{length};
+ghost use Rattle.lists.specs.Limits.{mostK};
 ghost use Rattle.alphabet.specs.Letter.{twoBits};
 ghost use Rattle.words.specs.Word.{code};
 ghost use Rattle.words.specs.Turned.{turnedCode, turnsFour, rolled, rolledTurned};
@@ -278,7 +279,7 @@ pub fn looked_up(table: &[u8; 256], b: u8) -> u8
 
 // The code of a whole word.
 pub fn word_code(word: &[u8]) -> u64
-    requires { ⌜ length (now word) ≤ 31 ⌝ }
+    requires { ⌜ length (now word) ≤ mostK ⌝ }
     ensures { λ r. ⌜ r ≡ code (map twoBits (now (word .entry))) ⌝ }
 {
     let mut c: u64 = 0;
@@ -292,7 +293,7 @@ pub fn word_code(word: &[u8]) -> u64
 
 // The code of the reverse complement, four letters at a time and then one by one.
 pub fn turned_code(k: usize, c: u64) -> u64
-    requires { ⌜ k ≤ 31 ⌝ }
+    requires { ⌜ k ≤ mostK ⌝ }
     ensures { λ r. ⌜ r ≡ turnedCode k c ⌝ }
 {
     let table = &TURNED;
@@ -314,7 +315,7 @@ pub fn turned_code(k: usize, c: u64) -> u64
 
 // The code of the word one letter further.
 pub fn roll(k: usize, c: u64, x: u64) -> u64
-    requires { ⌜ (k ≤ 31) × (c < 4 ^ 31) × (x < 4) ⌝ }
+    requires { ⌜ (k ≤ mostK) × (c < 4 ^ mostK) × (x < 4) ⌝ }
     ensures { λ r. ⌜ r ≡ rolled k c x ⌝ }
 {
     (c * 4 + x) & ((1 << (2 * k)) - 1)
@@ -322,8 +323,16 @@ pub fn roll(k: usize, c: u64, x: u64) -> u64
 
 // The code of the turned word one letter further.
 pub fn roll_turned(k: usize, c: u64, x: u64) -> u64
-    requires { ⌜ (1 ≤ k) × (k ≤ 31) × (c < 4 ^ k) × (x < 4) ⌝ }
+    requires { ⌜ (1 ≤ k) × (k ≤ mostK) × (c < 4 ^ k) × (x < 4) ⌝ }
     ensures { λ r. ⌜ r ≡ rolledTurned k c x ⌝ }
 {
     ((3 - x) << (2 * (k - 1))) + c / 4
+}
+
+// How many words of p letters there are: their codes are the numbers below.
+pub fn word_count(p: usize) -> usize
+    requires { ⌜ p ≤ 8 ⌝ }
+    ensures { λ r. ⌜ r ≡ 4 ^ p ⌝ }
+{
+    1 << (2 * p)
 }

@@ -49,7 +49,10 @@ impl Seen {
     }
 }
 
-const CASES: u64 = 40_000;
+/// How many seeded inputs a call gets; the variable CORRIVUME_CASES asks for another number.
+fn cases() -> u64 {
+    std::env::var("CORRIVUME_CASES").map_or(40_000, |n| n.parse().expect("CORRIVUME_CASES is a number"))
+}
 
 fn sheet(r: &mut Random) -> Vec<u8> {
     let mut sheet = if r.chance(50) { inputs::any(r) } else { inputs::free(r) }.sheet();
@@ -126,7 +129,7 @@ fn sheet(r: &mut Random) -> Vec<u8> {
 #[test]
 fn read() {
     let mut seen = Seen::default();
-    for seed in 0..3 * CASES {
+    for seed in 0..3 * cases() {
         let r = &mut Random::new(seed);
         let sheet = sheet(r);
         let lines = sheet.iter().filter(|&&b| b == b'\n').count().saturating_sub(1);
@@ -142,7 +145,7 @@ fn read() {
 #[test]
 fn write() {
     let mut seen = Seen::default();
-    for seed in 0..CASES {
+    for seed in 0..cases() {
         let r = &mut Random::new(seed);
         let t = inputs::mixed(r);
         let need = if t.good() { t.sheet().len() } else { 99 };
@@ -156,7 +159,7 @@ fn write() {
 #[test]
 fn check() {
     let mut seen = Seen::default();
-    for seed in 0..CASES {
+    for seed in 0..cases() {
         let r = &mut Random::new(seed);
         let t = inputs::mixed(r);
         let (work, answer) = (r.room(4 * t.weights.len()), r.answer());
@@ -219,7 +222,7 @@ fn cover_one(r: &mut Random, t: &Tables, seen: &mut Seen) {
 #[test]
 fn cover() {
     let mut seen = Seen::default();
-    for seed in 0..CASES {
+    for seed in 0..cases() {
         let r = &mut Random::new(seed);
         let t = inputs::mixed(r);
         cover_one(r, &t, &mut seen);
@@ -250,7 +253,7 @@ fn pairs(r: &mut Random, m: usize, mut ends: impl FnMut(&mut Random, usize) -> (
 #[test]
 fn apply() {
     let mut seen = Seen::default();
-    for seed in 0..CASES {
+    for seed in 0..cases() {
         let r = &mut Random::new(seed);
         let t = inputs::mixed(r);
         let m = t.ends.len();
@@ -274,7 +277,7 @@ fn apply() {
 #[test]
 fn runs() {
     let mut seen = Seen::default();
-    for seed in 0..CASES {
+    for seed in 0..cases() {
         let r = &mut Random::new(seed);
         let t = inputs::mixed(r);
         let need = plain::run_list(&t.weights).len();
@@ -315,7 +318,7 @@ fn run_list(r: &mut Random, weights: &[u32]) -> (Vec<u32>, Vec<u32>, usize) {
 #[test]
 fn weight() {
     let mut seen = Seen::default();
-    for seed in 0..3 * CASES {
+    for seed in 0..3 * cases() {
         let r = &mut Random::new(seed);
         let n = r.below(40);
         let weights = inputs::weights(r, n);
@@ -333,7 +336,7 @@ fn weight() {
 #[test]
 fn access() {
     let mut seen = Seen::default();
-    for seed in 0..3 * CASES {
+    for seed in 0..3 * cases() {
         let r = &mut Random::new(seed);
         let t = inputs::mixed(r);
         let n = t.weights.len();
@@ -351,7 +354,7 @@ fn access() {
 fn plain_question() {
     let mut seen = Seen::default();
     let (mut asked, mut turned) = (0, 0);
-    for seed in 0..3 * CASES {
+    for seed in 0..3 * cases() {
         let r = &mut Random::new(seed);
         let t = if r.chance(80) { inputs::any(r) } else { inputs::free(r) };
         let word = inputs::word(r, &t);
@@ -382,7 +385,7 @@ fn some_p(r: &mut Random, k: usize) -> usize {
 #[test]
 fn index() {
     let mut seen = Seen::default();
-    for seed in 0..CASES {
+    for seed in 0..cases() {
         let r = &mut Random::new(seed);
         let mut t = if r.chance(25) { inputs::any(r) } else { inputs::free(r) };
         let p = some_p(r, t.k);
@@ -462,7 +465,7 @@ fn question(r: &mut Random) -> (Tables, usize, Vec<u8>, inputs::Rows) {
 #[test]
 fn quick() {
     let mut seen = Seen::default();
-    for seed in 0..4 * CASES {
+    for seed in 0..4 * cases() {
         let r = &mut Random::new(seed);
         let (t, p, word, rows) = question(r);
         let answer = r.answer();
@@ -479,7 +482,7 @@ fn quick() {
 #[test]
 fn weigh() {
     let mut seen = Seen::default();
-    for seed in 0..4 * CASES {
+    for seed in 0..4 * cases() {
         let r = &mut Random::new(seed);
         let (t, p, word, rows) = question(r);
         let (weights, firsts, n) = run_list(r, &t.weights);

@@ -1,4 +1,4 @@
-//! The worked examples of document 01 and the open points' readings, through the safe calls; and dictionaries of seeded
+//! The worked examples and the chosen readings of the specification, through the safe calls; and dictionaries of seeded
 //! collections beside a hash map.
 mod inputs;
 mod plain;

@@ -27,10 +27,13 @@ unfolding accessPart accessStart
 returns c = let e = sym (c .before .before .before .judge-access .ensures) ∙ c .before .enum-told2 .given .1 in (refused _ _ e, refl, start-refused _ _ e)
 
 position-requires : tie.Need-position-requires
-position-requires c κs = let g = access-good _ _ (sym (c .before .before .judge-access .ensures) ∙ c .enum-told .given .1) in (shape-long (g .shape), (g .low, g .high))
+position-requires c κs =
+    let g = access-good _ _ (sym (c .before .before .judge-access .ensures) ∙ c .enum-told .given .1) in (shape-long (g .shape), (g .low, g .high))
 
 add-result : tie.Need-add-result
-add-result c = let g = access-good _ _ (sym (c .before .before .before .judge-access .ensures) ∙ c .before .enum-told .given .1) in omega (arith, position-fits (g .shape) _ (g .low) (g .high), c .position .ensures)
+add-result c =
+    let g = access-good _ _ (sym (c .before .before .before .judge-access .ensures) ∙ c .before .enum-told .given .1) in
+    omega (arith, position-fits (g .shape) _ (g .low) (g .high), c .position .ensures)
 
 sub-result : tie.Need-sub-result
 sub-result c = search needs
@@ -39,11 +42,15 @@ part-result-start : tie.Need-part-result-start
 part-result-start c = search needs
 
 part-result-end : tie.Need-part-result-end
-part-result-end c = let g = access-good _ _ (sym (c .before .before .before .judge-access .ensures) ∙ c .before .enum-told .given .1) in omega (arith, position-fits (g .shape) _ (g .low) (g .high), c .position .ensures)
+part-result-end c =
+    let g = access-good _ _ (sym (c .before .before .before .judge-access .ensures) ∙ c .before .enum-told .given .1) in
+    omega (arith, position-fits (g .shape) _ (g .low) (g .high), c .position .ensures)
 
 returns-2 : tie.Need-returns-2
 unfolding accessPart accessStart
-returns-2 c = let e = sym (c .before .before .before .before .judge-access .ensures) ∙ c .before .before .enum-told .given .1 in (settled _ (part-from _ _ (c .before .position .ensures)) e, refl, start-found _ e (c .before .position .ensures))
+returns-2 c =
+    let e = sym (c .before .before .before .before .judge-access .ensures) ∙ c .before .before .enum-told .given .1 in
+    (settled _ (part-from _ _ (c .before .position .ensures)) e, refl, start-found _ e (c .before .position .ensures))
 
 pub access-spec : {M : Type 1} → statement M
 access-spec =

@@ -23,7 +23,8 @@ enum-told : tie.Need-enum-told
 enum-told c = search needs
 
 position-requires : tie.Need-position-requires
-position-requires c κs = let g = access-good _ _ (sym (c .before .before .judge-access .ensures) ∙ c .enum-told .given .1) in (shape-long (g .shape), (g .low, g .high))
+position-requires c κs =
+    let g = access-good _ _ (sym (c .before .before .judge-access .ensures) ∙ c .enum-told .given .1) in (shape-long (g .shape), (g .low, g .high))
 
 returns-2 : tie.Need-returns-2
 unfolding accessAt

@@ -7,6 +7,10 @@ use borrow.Author.Needs.{needs}
 use Rattle.collection.proofs.judge_shape.Statement.{statement}
 use Rattle.collection.proofs.judge_shape.Tie as tie
 
+-- what `judge_k` gave, seen from where the second judgement is good
+abbrev after-judge-k : tie.After-enum-told3 → tie.After-judge-k
+after-judge-k c = c .before .before .before .before .before
+
 judge-k-requires : tie.Need-judge-k-requires
 judge-k-requires c κs = search needs
 
@@ -31,14 +35,19 @@ enum-told-4 c = search needs
 
 returns-2 : tie.Need-returns-2
 unfolding shapeVerdict
-returns-2 c = goes-on _ (c .before .before .before .before .before .judge-k .ensures) (c .before .before .before .enum-told .given .1) (stops _ (c .before .before .judge-size .ensures) (c .enum-told4 .given .1))
+returns-2 c =
+    let e = c .before .before .before in
+    goes-on _ (e .before .before .judge-k .ensures) (e .enum-told .given .1) (stops _ (c .before .before .judge-size .ensures) (c .enum-told4 .given .1))
 
 judge-ends-requires : tie.Need-judge-ends-requires
-judge-ends-requires c κs = k-good _ (sym (c .before .before .before .before .before .judge-k .ensures) ∙ c .before .before .before .enum-told .given .1) .1
+judge-ends-requires c κs = k-good _ (sym (after-judge-k c .judge-k .ensures) ∙ c .before .before .before .enum-told .given .1) .1
 
 returns-3 : tie.Need-returns-3
 unfolding shapeVerdict
-returns-3 c = goes-on _ (c .before .before .before .before .before .before .judge-k .ensures) (c .before .before .before .before .enum-told .given .1) (goes-on _ (c .before .before .before .judge-size .ensures) (c .before .enum-told3 .given .1) (c .judge-ends .ensures))
+returns-3 c =
+    let e = c .before .before .before .before in
+    goes-on _ (e .before .before .judge-k .ensures) (e .enum-told .given .1)
+    (goes-on _ (c .before .before .before .judge-size .ensures) (c .before .enum-told3 .given .1) (c .judge-ends .ensures))
 
 pub judge-shape-spec : {M : Type 1} → statement M
 judge-shape-spec =

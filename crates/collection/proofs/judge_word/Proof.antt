@@ -17,13 +17,15 @@ returns : tie.Need-returns
 unfolding wordVerdict
 returns c =
     let long : Bool = eqb (length (c .before .before .before .args .word .now)) (c .before .before .before .args .k) in
-    sym (ap (λ (t : Bool). choose (long && t) Good (Bad 9 0)) (sym (c .before .all-letters .ensures)) ∙ ap (λ (t : Bool). choose t Good (Bad 9 0)) (c .if1 .taken))
+    sym (ap (λ (t : Bool). choose (long && t) Good (Bad 9 0)) (sym (c .before .all-letters .ensures))
+    ∙ ap (λ (t : Bool). choose t Good (Bad 9 0)) (c .if1 .taken))
 
 returns-2 : tie.Need-returns-2
 unfolding wordVerdict
 returns-2 c =
     let long : Bool = eqb (length (c .before .before .before .args .word .now)) (c .before .before .before .args .k) in
-    sym (ap (λ (t : Bool). choose (long && t) Good (Bad 9 0)) (sym (c .before .all-letters .ensures)) ∙ ap (λ (t : Bool). choose t Good (Bad 9 0)) (c .if1 .left))
+    sym (ap (λ (t : Bool). choose (long && t) Good (Bad 9 0)) (sym (c .before .all-letters .ensures))
+    ∙ ap (λ (t : Bool). choose t Good (Bad 9 0)) (c .if1 .left))
 
 pub judge-word-spec : {M : Type 1} → statement M
 judge-word-spec = tie.close (tie.spec all-letters-requires returns returns-2)

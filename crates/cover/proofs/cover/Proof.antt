@@ -3,18 +3,25 @@ use mathlib.Core.Path.{_≡_, sym, _∙_}
 use native.Mathlib.Omega.{arith}
 use Rattle.collection.specs.Collection.{collection}
 use Rattle.collection.specs.declared.Verdict.the-variants.{Good}
+use Rattle.collection.proofs.Strung.{judged-strung}
 use Rattle.cover.specs.Cover.{coverVerdict}
-use Rattle.cover.proofs.Promised.{Roomy, cover-good, strung, work-fits, places-fit, cover-refused, cover-none, cover-all}
+use Rattle.cover.proofs.Promised.{Roomy, cover-good, work-fits, places-fit, cover-refused, cover-none, cover-all}
 use borrow.Author.Needs.{needs}
 use Rattle.cover.proofs.cover.Statement.{statement}
 use Rattle.cover.proofs.cover.Tie as tie
 
+-- the start, seen from where the judgement is good
+abbrev start : tie.After-enum-told → tie.Start
+start c = c .before .before .before .before .before .before .before .before .before
+
 -- the verdict is good
-good : (c : tie.After-enum-told) → let a = c .before .before .before .before .before .before .before .before .before .args in coverVerdict (collection (a .k) (a .letters .now) (a .ends .now) (a .weights .now)) (a .places .now) (a .work .now) ≡ Good
+good : (c : tie.After-enum-told)
+    → let a = start c .args in coverVerdict (collection (a .k) (a .letters .now) (a .ends .now) (a .weights .now)) (a .places .now) (a .work .now) ≡ Good
 good c = sym (c .before .before .judge-cover .ensures) ∙ c .enum-told .given .1
 
 -- so there is room
-roomy : (c : tie.After-enum-told) → let a = c .before .before .before .before .before .before .before .before .before .args in Roomy (collection (a .k) (a .letters .now) (a .ends .now) (a .weights .now)) (a .places .now) (a .work .now)
+roomy : (c : tie.After-enum-told)
+    → let a = start c .args in Roomy (collection (a .k) (a .letters .now) (a .ends .now) (a .weights .now)) (a .places .now) (a .work .now)
 roomy c = cover-good _ _ _ (good c)
 
 judge-cover-requires : tie.Need-judge-cover-requires
@@ -62,7 +69,7 @@ slice-aggregate-cover-strings-2 c = sym (work-fits (roomy (c .before .before .be
 cover-strings-requires : tie.Need-cover-strings-requires
 cover-strings-requires c κs =
     let r = roomy (c .before .before .before) in
-    (strung r, work-fits r (c .before .before .if1 .left), places-fit r)
+    (judged-strung (r .judged), work-fits r (c .before .before .if1 .left), places-fit r)
 
 same-length-5 : tie.Need-same-length-5
 same-length-5 c = search needs
@@ -71,7 +78,9 @@ same-length-6 : tie.Need-same-length-6
 same-length-6 c = search needs
 
 returns-3 : tie.Need-returns-3
-returns-3 c = cover-all _ _ _ (good (c .before .before .before .before .before .before .before)) (c .before .before .before .cover-strings .ensures)
+returns-3 c =
+    let s = c .before .before .before in
+    cover-all _ _ _ (good (s .before .before .before .before)) (s .cover-strings .ensures)
 
 pub cover-spec : {M : Type 1} → statement M
 cover-spec =

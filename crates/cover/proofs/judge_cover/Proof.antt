@@ -8,6 +8,10 @@ use borrow.Author.Needs.{needs}
 use Rattle.cover.proofs.judge_cover.Statement.{statement}
 use Rattle.cover.proofs.judge_cover.Tie as tie
 
+-- what `judge_collection` gave, seen from where the second judgement is good
+abbrev after-judge-collection : tie.After-enum-told3 → tie.After-judge-collection
+after-judge-collection c = c .before .before .before .before .before
+
 judge-collection-requires : tie.Need-judge-collection-requires
 judge-collection-requires c κs = search needs
 
@@ -32,17 +36,25 @@ enum-told-4 c = search needs
 
 returns-2 : tie.Need-returns-2
 unfolding coverVerdict
-returns-2 c = goes-on _ (c .before .before .before .before .before .judge-collection .ensures) (c .before .before .before .enum-told .given .1) (stops _ (c .before .before .judge-room .ensures) (c .enum-told4 .given .1))
+returns-2 c =
+    let e = c .before .before .before in
+    goes-on _ (e .before .before .judge-collection .ensures) (e .enum-told .given .1)
+    (stops _ (c .before .before .judge-room .ensures) (c .enum-told4 .given .1))
 
 mul-judge-room : tie.Need-mul-judge-room
-mul-judge-room c = let j = collection-good _ (sym (c .before .before .before .before .before .judge-collection .ensures) ∙ c .before .before .before .enum-told .given .1) in omega (arith, j .shape .m-high)
+mul-judge-room c =
+    let j = collection-good _ (sym (after-judge-collection c .judge-collection .ensures) ∙ c .before .before .before .enum-told .given .1) in
+    omega (arith, j .shape .m-high)
 
 judge-room-requires-2 : tie.Need-judge-room-requires-2
 judge-room-requires-2 c κs = search needs
 
 returns-3 : tie.Need-returns-3
 unfolding coverVerdict
-returns-3 c = goes-on _ (c .before .before .before .before .before .before .judge-collection .ensures) (c .before .before .before .before .enum-told .given .1) (goes-on _ (c .before .before .before .judge-room .ensures) (c .before .enum-told3 .given .1) (c .judge-room2 .ensures))
+returns-3 c =
+    let e = c .before .before .before .before in
+    goes-on _ (e .before .before .judge-collection .ensures) (e .enum-told .given .1)
+    (goes-on _ (c .before .before .before .judge-room .ensures) (c .before .enum-told3 .given .1) (c .judge-room2 .ensures))
 
 pub judge-cover-spec : {M : Type 1} → statement M
 judge-cover-spec =

@@ -7,9 +7,23 @@ use borrow.Author.Needs.{needs}
 use Rattle.exports.proofs.corrivume_cover.Statement.{statement}
 use Rattle.exports.proofs.corrivume_cover.Tie as tie
 
+-- the start, seen from where the answer table is judged
+abbrev start : tie.After-slice-known2 → tie.Start
+start c = c .before .before .before .before .before
+
+-- where the reply is made, where the call is made, and where the answer table is long enough, seen from the end
+abbrev replied : tie.After-slice-known4 → tie.After-cover-reply
+replied c = c .before .before .before .before
+
+abbrev called : tie.After-slice-known4 → tie.After-cover
+called c = replied c .before .before .before .before
+
+abbrev enough : tie.After-slice-known4 → tie.Else1
+enough c = called c .before .before .before
+
 returns : tie.Need-returns
 returns c =
-    let a = c .before .before .before .before .before .before .args in
+    let a = start (c .before) .args in
     record { given = Refused 1 0; promised = λ h. absurd (omega (arith, h, c .if1 .taken)); shown = too-short (a .answer .now) _ _ (c .if1 .taken) }
 
 cover-requires : tie.Need-cover-requires
@@ -32,11 +46,11 @@ same-length-3 c = search needs
 
 returns-2 : tie.Need-returns-2
 returns-2 c =
-    let a = c .before .before .before .before .before .before .before .before .before .before .before .before .before .before .before .before .before .args in
+    let a = start (enough c .before) .args in
     record {
-      given = c .before .before .before .before .before .before .before .before .cover .result;
-      promised = λ h. c .before .before .before .before .before .before .before .before .cover .ensures;
-      shown = shown (a .answer .now) (a .places .now, a .work .now) (c .before .before .before .before .before .before .before .before .before .before .before .if1 .left) (c .before .before .before .before .cover-reply .ensures) (c .before .before .tell .ensures);
+      given = called c .cover .result;
+      promised = λ h. called c .cover .ensures;
+      shown = shown (a .answer .now) (a .places .now, a .work .now) (enough c .if1 .left) (replied c .cover-reply .ensures) (c .before .before .tell .ensures);
     }
 
 pub corrivume-cover-spec : {M : Type 1} → statement M

@@ -7,8 +7,22 @@ use borrow.Author.Needs.{needs}
 use Rattle.exports.proofs.corrivume_index.Statement.{statement}
 use Rattle.exports.proofs.corrivume_index.Tie as tie
 
+-- the start, seen from where the answer table is judged
+abbrev start : tie.After-slice-known6 → tie.Start
+start c = c .before .before .before .before .before .before .before .before .before
+
+-- where the reply is made, where the call is made, and where the answer table is long enough, seen from the end
+abbrev replied : tie.After-slice-known12 → tie.After-index-reply
+replied c = c .before .before .before .before
+
+abbrev called : tie.After-slice-known12 → tie.After-index
+called c = replied c .before .before .before .before .before .before .before .before .before .before .before
+
+abbrev enough : tie.After-slice-known12 → tie.Else1
+enough c = called c .before .before .before .before .before .before
+
 returns : tie.Need-returns
-returns c = let a = c .before .before .before .before .before .before .before .before .before .before .args in too-short (a .answer .now) _ _ (c .if1 .taken)
+returns c = let a = start (c .before) .args in too-short (a .answer .now) _ _ (c .if1 .taken)
 
 index-requires : tie.Need-index-requires
 index-requires c κs = search needs
@@ -39,9 +53,11 @@ same-length-6 c = search needs
 
 returns-2 : tie.Need-returns-2
 returns-2 c =
-    let a = c .before .before .before .before .before .before .before .before .before .before .before .before .before .before .before .before .before .before .before .before .before .before .before .before .before .before .before .before .before .before .before .args in
-    shown (a .answer .now) (lent (a .firsts .now) (a .positions .now) (a .numbers .now) (a .before .now) (a .work .now)) (c .before .before .before .before .before .before .before .before .before .before .before .before .before .before .before .before .before .before .before .before .before .if1 .left) (c .before .before .before .before .index-reply .ensures) (c .before .before .tell .ensures)
-    ∙ ap (indexExported (a .answer .now) (lent (a .firsts .now) (a .positions .now) (a .numbers .now) (a .before .now) (a .work .now))) (c .before .before .before .before .before .before .before .before .before .before .before .before .before .before .before .index .ensures)
+    let a = start (enough c .before) .args in
+    shown (a .answer .now) (lent (a .firsts .now) (a .positions .now) (a .numbers .now) (a .before .now) (a .work .now)) (enough c .if1 .left)
+    (replied c .index-reply .ensures) (c .before .before .tell .ensures)
+    ∙ ap (indexExported (a .answer .now) (lent (a .firsts .now) (a .positions .now) (a .numbers .now) (a .before .now) (a .work .now)))
+    (called c .index .ensures)
 
 pub corrivume-index-spec : {M : Type 1} → statement M
 corrivume-index-spec =

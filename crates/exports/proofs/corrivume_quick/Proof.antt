@@ -7,8 +7,22 @@ use borrow.Author.Needs.{needs}
 use Rattle.exports.proofs.corrivume_quick.Statement.{statement}
 use Rattle.exports.proofs.corrivume_quick.Tie as tie
 
+-- the start, seen from where the answer table is judged
+abbrev start : tie.After-slice-known → tie.Start
+start c = c .before .before .before .before .before .before .before
+
+-- where the reply is made, where the call is made, and where the answer table is long enough, seen from the end
+abbrev replied : tie.After-slice-known2 → tie.After-quick-reply
+replied c = c .before .before .before .before
+
+abbrev called : tie.After-slice-known2 → tie.After-quick
+called c = replied c .before
+
+abbrev enough : tie.After-slice-known2 → tie.Else1
+enough c = called c .before
+
 returns : tie.Need-returns
-returns c = too-short (c .before .before .before .before .before .before .before .before .args .answer .now) _ none (c .if1 .taken)
+returns c = too-short (start (c .before) .args .answer .now) _ none (c .if1 .taken)
 
 quick-requires : tie.Need-quick-requires
 quick-requires c κs = search needs
@@ -23,7 +37,9 @@ same-length : tie.Need-same-length
 same-length c = search needs
 
 returns-2 : tie.Need-returns-2
-returns-2 c = shown (c .before .before .before .before .before .before .before .before .before .before .before .before .before .before .args .answer .now) none (c .before .before .before .before .before .before .if1 .left) (c .before .before .before .before .quick-reply .ensures ∙ ap quickReply (c .before .before .before .before .before .quick .ensures)) (c .before .before .tell .ensures)
+returns-2 c =
+    shown (start (enough c .before) .args .answer .now) none (enough c .if1 .left)
+    (replied c .quick-reply .ensures ∙ ap quickReply (called c .quick .ensures)) (c .before .before .tell .ensures)
 
 pub corrivume-quick-spec : {M : Type 1} → statement M
 corrivume-quick-spec =

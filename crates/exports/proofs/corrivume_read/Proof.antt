@@ -1,13 +1,28 @@
 -- `corrivume_read` meets its contract: the answer table is judged, then the call is made and its answer told. Assumes nothing.
 use mathlib.Core.Path.{ap, _∙_}
+use Rattle.collection.specs.Tables.{tables}
 use Rattle.exports.specs.Calls.{readExported}
 use Rattle.exports_replies.proofs.Telling.{too-short, shown}
 use borrow.Author.Needs.{needs}
 use Rattle.exports.proofs.corrivume_read.Statement.{statement}
 use Rattle.exports.proofs.corrivume_read.Tie as tie
 
+-- the start, seen from where the answer table is judged
+abbrev start : tie.After-slice-known4 → tie.Start
+start c = c .before .before .before .before .before
+
+-- where the reply is made, where the call is made, and where the answer table is long enough, seen from the end
+abbrev replied : tie.After-slice-known8 → tie.After-read-reply
+replied c = c .before .before .before .before
+
+abbrev called : tie.After-slice-known8 → tie.After-read
+called c = replied c .before .before .before .before .before .before .before
+
+abbrev enough : tie.After-slice-known8 → tie.Else1
+enough c = called c .before .before .before .before
+
 returns : tie.Need-returns
-returns c = let a = c .before .before .before .before .before .before .args in too-short (a .answer .now) _ _ (c .if1 .taken)
+returns c = let a = start (c .before) .args in too-short (a .answer .now) _ _ (c .if1 .taken)
 
 read-requires : tie.Need-read-requires
 read-requires c κs = search needs
@@ -32,9 +47,10 @@ same-length-4 c = search needs
 
 returns-2 : tie.Need-returns-2
 returns-2 c =
-    let a = c .before .before .before .before .before .before .before .before .before .before .before .before .before .before .before .before .before .before .before .before .before .args in
-    shown (a .answer .now) (a .letters .now, a .ends .now, a .weights .now) (c .before .before .before .before .before .before .before .before .before .before .before .before .before .before .before .if1 .left) (c .before .before .before .before .read-reply .ensures) (c .before .before .tell .ensures)
-    ∙ ap (readExported (a .answer .now) (a .letters .now, a .ends .now, a .weights .now)) (c .before .before .before .before .before .before .before .before .before .before .before .read .ensures)
+    let a = start (enough c .before) .args in
+    shown (a .answer .now) (tables (a .letters .now) (a .ends .now) (a .weights .now)) (enough c .if1 .left) (replied c .read-reply .ensures)
+    (c .before .before .tell .ensures)
+    ∙ ap (readExported (a .answer .now) (tables (a .letters .now) (a .ends .now) (a .weights .now))) (called c .read .ensures)
 
 pub corrivume-read-spec : {M : Type 1} → statement M
 corrivume-read-spec =

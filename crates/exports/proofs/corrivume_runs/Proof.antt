@@ -6,8 +6,22 @@ use borrow.Author.Needs.{needs}
 use Rattle.exports.proofs.corrivume_runs.Statement.{statement}
 use Rattle.exports.proofs.corrivume_runs.Tie as tie
 
+-- the start, seen from where the answer table is judged
+abbrev start : tie.After-slice-known3 → tie.Start
+start c = c .before .before .before .before .before .before
+
+-- where the reply is made, where the call is made, and where the answer table is long enough, seen from the end
+abbrev replied : tie.After-slice-known6 → tie.After-runs-reply
+replied c = c .before .before .before .before
+
+abbrev called : tie.After-slice-known6 → tie.After-runs
+called c = replied c .before .before .before .before .before
+
+abbrev enough : tie.After-slice-known6 → tie.Else1
+enough c = called c .before .before .before
+
 returns : tie.Need-returns
-returns c = let a = c .before .before .before .before .before .before .before .args in too-short (a .answer .now) _ _ (c .if1 .taken)
+returns c = let a = start (c .before) .args in too-short (a .answer .now) _ _ (c .if1 .taken)
 
 runs-requires : tie.Need-runs-requires
 runs-requires c κs = search needs
@@ -29,9 +43,9 @@ same-length-3 c = search needs
 
 returns-2 : tie.Need-returns-2
 returns-2 c =
-    let a = c .before .before .before .before .before .before .before .before .before .before .before .before .before .before .before .before .before .before .before .args in
-    shown (a .answer .now) (a .run-weights .now, a .run-firsts .now) (c .before .before .before .before .before .before .before .before .before .before .before .before .if1 .left) (c .before .before .before .before .runs-reply .ensures) (c .before .before .tell .ensures)
-    ∙ ap (runsExported (a .answer .now) (a .run-weights .now, a .run-firsts .now)) (c .before .before .before .before .before .before .before .before .before .runs .ensures)
+    let a = start (enough c .before) .args in
+    shown (a .answer .now) (a .run-weights .now, a .run-firsts .now) (enough c .if1 .left) (replied c .runs-reply .ensures) (c .before .before .tell .ensures)
+    ∙ ap (runsExported (a .answer .now) (a .run-weights .now, a .run-firsts .now)) (called c .runs .ensures)
 
 pub corrivume-runs-spec : {M : Type 1} → statement M
 corrivume-runs-spec =

@@ -6,8 +6,22 @@ use borrow.Author.Needs.{needs}
 use Rattle.exports.proofs.corrivume_write.Statement.{statement}
 use Rattle.exports.proofs.corrivume_write.Tie as tie
 
+-- the start, seen from where the answer table is judged
+abbrev start : tie.After-slice-known2 → tie.Start
+start c = c .before .before .before .before .before
+
+-- where the reply is made, where the call is made, and where the answer table is long enough, seen from the end
+abbrev replied : tie.After-slice-known4 → tie.After-write-reply
+replied c = c .before .before .before .before
+
+abbrev called : tie.After-slice-known4 → tie.After-write
+called c = replied c .before .before .before
+
+abbrev enough : tie.After-slice-known4 → tie.Else1
+enough c = called c .before .before
+
 returns : tie.Need-returns
-returns c = let a = c .before .before .before .before .before .before .args in too-short (a .answer .now) _ _ (c .if1 .taken)
+returns c = let a = start (c .before) .args in too-short (a .answer .now) _ _ (c .if1 .taken)
 
 write-requires : tie.Need-write-requires
 write-requires c κs = search needs
@@ -26,9 +40,9 @@ same-length-2 c = search needs
 
 returns-2 : tie.Need-returns-2
 returns-2 c =
-    let a = c .before .before .before .before .before .before .before .before .before .before .before .before .before .before .before .args in
-    shown (a .answer .now) (a .sheet .now) (c .before .before .before .before .before .before .before .before .before .if1 .left) (c .before .before .before .before .write-reply .ensures) (c .before .before .tell .ensures)
-    ∙ ap (writeExported (a .answer .now) (a .sheet .now)) (c .before .before .before .before .before .before .before .write .ensures)
+    let a = start (enough c .before) .args in
+    shown (a .answer .now) (a .sheet .now) (enough c .if1 .left) (replied c .write-reply .ensures) (c .before .before .tell .ensures)
+    ∙ ap (writeExported (a .answer .now) (a .sheet .now)) (called c .write .ensures)
 
 pub corrivume-write-spec : {M : Type 1} → statement M
 corrivume-write-spec =

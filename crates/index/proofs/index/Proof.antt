@@ -6,17 +6,30 @@ use Rattle.index.proofs.Indexed.{index-refused, foreseen-judged, index-
 use borrow.Author.Needs.{needs}
 use Rattle.index.proofs.index.Statement.{statement}
 use Rattle.index.proofs.index.Tie as tie
-use Rattle.collection.specs.Collection.{collection}
+use Rattle.collection.specs.Collection.{Collection, collection}
 
--- the five tables at the start, seen from where the answer was foreseen, and what is foreseen for them
+-- the collection and the five tables at the start
+abbrev strings : tie.Start → Collection
+strings s = collection (s .args .k) (s .args .letters .now) (s .args .ends .now) (s .args .weights .now)
+
 abbrev tables : tie.Start → Lent
 tables s = lent (s .args .firsts .now) (s .args .positions .now) (s .args .numbers .now) (s .args .before .now) (s .args .work .now)
 
+-- the start, seen from where the answer was foreseen
 abbrev start : tie.After-foresee → tie.Start
 start c = c .before .before .before .before .before .before .before .before .before
 
-told : (c : tie.After-foresee) → let s = start c in c .foresee .result ≡ foreseen (collection (s .args .k) (s .args .letters .now) (s .args .ends .now) (s .args .weights .now)) (s .args .p) (tables s)
-told c = c .foresee .ensures (tables (start c)) (record { firsts-size = refl; positions-size = refl; numbers-size = refl; before-size = refl; work-size = refl })
+-- where nothing is refused, seen from the call of `index_judged`; what that gave, seen from where it returns
+abbrev judged : tie.After-index-judged-arg5 → tie.After-v
+judged c = c .before .before .before .before .before .before
+
+abbrev after-index-judged : tie.After-slice-known10 → tie.After-index-judged
+after-index-judged c = c .before .before .before .before .before .before .before .before .before .before
+
+-- what is foreseen for them
+told : (c : tie.After-foresee) → let s = start c in c .foresee .result ≡ foreseen (strings s) (s .args .p) (tables s)
+told c =
+    c .foresee .ensures (tables (start c)) (record { firsts-size = refl; positions-size = refl; numbers-size = refl; before-size = refl; work-size = refl })
 
 foresee-requires : tie.Need-foresee-requires
 foresee-requires c κs = search needs
@@ -30,14 +43,15 @@ enum-told c = search needs
 returns : tie.Need-returns
 returns c =
     let f = c .before .before in
-    let a = start f .args in
-    index-refused (collection (a .k) (a .letters .now) (a .ends .now) (a .weights .now)) (a .p) (tables (start f)) (told f) (c .enum-told .given .1)
+    let s = start f in
+    index-refused (strings s) (s .args .p) (tables s) (told f) (c .enum-told .given .1)
 
 index-judged-requires : tie.Need-index-judged-requires
 index-judged-requires c κs =
-    let f = c .before .before .before .before .before .before .before .before in
-    let a = start f .args in
-    foreseen-judged (collection (a .k) (a .letters .now) (a .ends .now) (a .weights .now)) (a .p) (tables (start f)) (told f) (c .before .before .before .before .before .before .v .given .1)
+    let g = judged c in
+    let f = g .before .before in
+    let s = start f in
+    foreseen-judged (strings s) (s .args .p) (tables s) (told f) (g .v .given .1)
 
 same-length : tie.Need-same-length
 same-length c = search needs
@@ -56,9 +70,11 @@ same-length-5 c = search needs
 
 returns-2 : tie.Need-returns-2
 returns-2 c =
-    let f = c .before .before .before .before .before .before .before .before .before .before .before .before .before .before .before .before .before .before .before in
-    let a = start f .args in
-    index-goes-on (collection (a .k) (a .letters .now) (a .ends .now) (a .weights .now)) (a .p) (tables (start f)) (told f) (c .before .before .before .before .before .before .before .before .before .before .before .before .before .before .before .before .before .v .given .1) (c .before .before .before .before .before .before .before .before .before .before .index-judged .ensures)
+    let g = judged (after-index-judged c .before) in
+    let f = g .before .before in
+    let s = start f in
+    index-goes-on (strings s) (s .args .p) (tables s) (told f) (g .v .given .1)
+    (after-index-judged c .index-judged .ensures)
 
 pub index-spec : {M : Type 1} → statement M
 index-spec =

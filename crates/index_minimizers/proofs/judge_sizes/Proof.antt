@@ -24,11 +24,13 @@ returns c = stops _ (c .before .before .judge-k .ensures) (c .enum-told2 .given 
 
 returns-2 : tie.Need-returns-2
 unfolding sizesVerdict
-returns-2 c = goes-on _ (c .before .before .before .judge-k .ensures) (c .before .enum-told .given .1) (sym (ap (λ (t : Bool). choose t Good (Bad 2 0)) (c .if1 .taken)))
+returns-2 c =
+    goes-on _ (c .before .before .before .judge-k .ensures) (c .before .enum-told .given .1) (sym (ap (λ (t : Bool). choose t Good (Bad 2 0)) (c .if1 .taken)))
 
 returns-3 : tie.Need-returns-3
 unfolding sizesVerdict
-returns-3 c = goes-on _ (c .before .before .before .judge-k .ensures) (c .before .enum-told .given .1) (sym (ap (λ (t : Bool). choose t Good (Bad 2 0)) (c .if1 .left)))
+returns-3 c =
+    goes-on _ (c .before .before .before .judge-k .ensures) (c .before .enum-told .given .1) (sym (ap (λ (t : Bool). choose t Good (Bad 2 0)) (c .if1 .left)))
 
 pub judge-sizes-spec : {M : Type 1} → statement M
 judge-sizes-spec =

@@ -29,14 +29,19 @@ enum-told-4 c = search needs
 
 returns-2 : tie.Need-returns-2
 unfolding askVerdict
-returns-2 c = goes-on _ (c .before .before .before .before .before .judge-sizes .ensures) (c .before .before .before .enum-told .given .1) (stops _ (c .before .before .judge-size .ensures) (c .enum-told4 .given .1))
+returns-2 c =
+    let e = c .before .before .before in
+    goes-on _ (e .before .before .judge-sizes .ensures) (e .enum-told .given .1) (stops _ (c .before .before .judge-size .ensures) (c .enum-told4 .given .1))
 
 judge-word-requires : tie.Need-judge-word-requires
 judge-word-requires c κs = search needs
 
 returns-3 : tie.Need-returns-3
 unfolding askVerdict
-returns-3 c = goes-on _ (c .before .before .before .before .before .before .judge-sizes .ensures) (c .before .before .before .before .enum-told .given .1) (goes-on _ (c .before .before .before .judge-size .ensures) (c .before .enum-told3 .given .1) (c .judge-word .ensures))
+returns-3 c =
+    let j = c .before .before .before in
+    goes-on _ (j .before .before .before .judge-sizes .ensures) (j .before .enum-told .given .1)
+    (goes-on _ (j .judge-size .ensures) (c .before .enum-told3 .given .1) (c .judge-word .ensures))
 
 pub judge-asked-spec : {M : Type 1} → statement M
 judge-asked-spec =

@@ -18,9 +18,12 @@ use Rattle.quick.proofs.quick.Statement.{statement}
 use Rattle.quick.proofs.quick.Tie as tie
 
 -- what is known once 2, 3 and 9 are judged and the question q is made
-module _ (k p : ℕ) (word letters : List ℕ) (index : Index) (judged : askVerdict k p word (length letters) ≡ Good) (q : Question) (is : q ≡ questionOf p (spell word)) where
+module _ (k p : ℕ) (word letters : List ℕ) (index : Index) (judged : askVerdict k p word (length letters) ≡ Good) (q : Question)
+    (is : q ≡ questionOf p (spell word)) where
   rows-below : (q .row < 4 ^ p) × (q .other < 4 ^ p)
-  rows-below = subst (λ (x : Question). (x .row < 4 ^ p) × (x .other < 4 ^ p)) (sym is) (row-below (ask-good k p word (length letters) judged), other-below (ask-good k p word (length letters) judged))
+  rows-below =
+      subst (λ (x : Question). (x .row < 4 ^ p) × (x .other < 4 ^ p)) (sym is)
+      (row-below (ask-good k p word (length letters) judged), other-below (ask-good k p word (length letters) judged))
 
   can-ask : Askable k letters q
   can-ask = subst (Askable k letters) (sym is) (askable (ask-good k p word (length letters) judged) letters refl)
@@ -31,6 +34,37 @@ module _ (k p : ℕ) (word letters : List ℕ) (index : Index) (judged : askVerd
   verdict : rowsVerdict (4 ^ p) k (length letters) index (q .row) (q .other) ≡ quickVerdict k p word letters index
   unfolding quickVerdict
   verdict = ap (λ (x : Question). rowsVerdict (4 ^ p) k (length letters) index (x .row) (x .other)) is ∙ sym (then-good _ judged refl)
+
+-- the start, seen from where the question is judged good; the index that was handed over
+abbrev start : tie.After-enum-told → tie.Start
+start c = c .before .before .before .before .before .before .before .before .before
+
+abbrev held : tie.Start → Index
+held s = tables (s .args .firsts .now) (s .args .positions .now) (s .args .numbers .now) (s .args .before .now)
+
+good : (c : tie.After-enum-told)
+    → let a = start c .args in
+    askVerdict (a .k) (a .p) (a .word .now) (length (a .letters .now)) ≡ Good
+good c = sym (c .before .before .judge-asked .ensures) ∙ c .enum-told .given .1
+
+-- once the question is made: its two rows are in the index, and their verdict is QUICK's
+rows : (c : tie.After-question)
+    → let q = c .question .result in
+    (q .row < 4 ^ start (c .before) .args .p) × (q .other < 4 ^ start (c .before) .args .p)
+rows c =
+    let s = start (c .before) in
+    let a = s .args in
+    rows-below (a .k) (a .p) (a .word .now) (a .letters .now) (held s) (good (c .before)) _ (c .question .ensures)
+
+told : (c : tie.After-question)
+    → let s = start (c .before) in
+    let a = s .args in
+    let q = c .question .result in
+    rowsVerdict (4 ^ a .p) (a .k) (length (a .letters .now)) (held s) (q .row) (q .other) ≡ quickVerdict (a .k) (a .p) (a .word .now) (a .letters .now) (held s)
+told c =
+    let s = start (c .before) in
+    let a = s .args in
+    verdict (a .k) (a .p) (a .word .now) (a .letters .now) (held s) (good (c .before)) _ (c .question .ensures)
 
 judge-asked-requires : tie.Need-judge-asked-requires
 judge-asked-requires c κs = search needs
@@ -47,16 +81,13 @@ enum-told c = search needs
 
 question-requires : tie.Need-question-requires
 question-requires c κs =
-    let g = ask-good _ _ _ _ (sym (c .before .before .judge-asked .ensures) ∙ c .enum-told .given .1) in
+    let g = ask-good _ _ _ _ (good c) in
     ((g .sizes .p-low, g .sizes .p-fits, g .sizes .k-high), (g .long, g .letters))
 
 judge-index-requires : tie.Need-judge-index-requires
 judge-index-requires c κs =
-    let a = c .before .before .before .before .before .before .before .before .before .before .args in
-    let e = sym (c .before .before .before .judge-asked .ensures) ∙ c .before .enum-told .given .1 in
-    let g = ask-good _ _ _ _ e in
-    let b = rows-below (a .k) (a .p) (a .word .now) (a .letters .now) (tables (a .firsts .now) (a .positions .now) (a .numbers .now) (a .before .now)) e _ (c .question .ensures) in
-    (g .sizes .k-high, g .sizes .p-high, g .few, b .0, b .1)
+    let g = ask-good _ _ _ _ (good (c .before)) in
+    (g .sizes .k-high, g .sizes .p-high, g .few, rows c .0, rows c .1)
 
 enum-known-b : tie.Need-enum-known-b
 enum-known-b c = search needs
@@ -64,33 +95,27 @@ enum-known-b c = search needs
 returns-2 : tie.Need-returns-2
 unfolding quickOf
 returns-2 c =
-    let a = c .before .before .before .before .before .before .before .before .before .before .before .before .before .before .args in
-    let e = sym (c .before .before .before .before .before .before .before .judge-asked .ensures) ∙ c .before .before .before .before .before .enum-told .given .1 in
-    let t = tables (a .firsts .now) (a .positions .now) (a .numbers .now) (a .before .now) in
-    refused _ _ (sym (verdict (a .k) (a .p) (a .word .now) (a .letters .now) t e _ (c .before .before .before .before .question .ensures)) ∙ (sym (c .before .before .before .judge-index .ensures) ∙ c .before .b .given .1))
+    refused _ _ (sym (told (c .before .before .before .before)) ∙ (sym (c .before .before .before .judge-index .ensures) ∙ c .before .b .given .1))
 
 enum-told-2 : tie.Need-enum-told-2
 enum-told-2 c = search needs
 
 ask-requires : tie.Need-ask-requires
 ask-requires c κs =
-    let a = c .before .before .before .before .before .before .before .before .before .before .before .before .before .args in
-    let e = sym (c .before .before .before .before .before .before .judge-asked .ensures) ∙ c .before .before .before .before .enum-told .given .1 in
-    let t = tables (a .firsts .now) (a .positions .now) (a .numbers .now) (a .before .now) in
-    let q = c .before .before .before .question .ensures in
-    let b = rows-below (a .k) (a .p) (a .word .now) (a .letters .now) t e _ q in
-    let r = rows-good _ _ _ t _ _ (b .0) (b .1) (sym (c .before .before .judge-index .ensures) ∙ c .enum-told2 .given .1) in
-    (can-ask (a .k) (a .p) (a .word .now) (a .letters .now) t e _ q, (r .0, r .1))
+    let q = c .before .before .before in
+    let s = start (q .before) in
+    let a = s .args in
+    let r = rows-good _ _ _ (held s) _ _ (rows q .0) (rows q .1) (sym (c .before .before .judge-index .ensures) ∙ c .enum-told2 .given .1) in
+    (can-ask (a .k) (a .p) (a .word .now) (a .letters .now) (held s) (good (q .before)) _ (q .question .ensures), (r .0, r .1))
 
 returns-3 : tie.Need-returns-3
 unfolding quickOf
 returns-3 c =
-    let a = c .before .before .before .before .before .before .before .before .before .before .before .before .before .before .args in
-    let e = sym (c .before .before .before .before .before .before .before .judge-asked .ensures) ∙ c .before .before .before .before .before .enum-told .given .1 in
-    let t = tables (a .firsts .now) (a .positions .now) (a .numbers .now) (a .before .now) in
-    let q = c .before .before .before .before .question .ensures in
-    settled _ (c .ask .ensures ∙ asked (a .k) (a .p) (a .word .now) (a .letters .now) t e _ q)
-    (sym (verdict (a .k) (a .p) (a .word .now) (a .letters .now) t e _ q) ∙ (sym (c .before .before .before .judge-index .ensures) ∙ c .before .enum-told2 .given .1))
+    let q = c .before .before .before .before in
+    let s = start (q .before) in
+    let a = s .args in
+    settled _ (c .ask .ensures ∙ asked (a .k) (a .p) (a .word .now) (a .letters .now) (held s) (good (q .before)) _ (q .question .ensures))
+    (sym (told q) ∙ (sym (c .before .before .before .judge-index .ensures) ∙ c .before .enum-told2 .given .1))
 
 pub quick-spec : {M : Type 1} → statement M
 quick-spec =

@@ -14,6 +14,10 @@ use borrow.Author.Needs.{needs}
 use Rattle.quick.proofs.weigh.Statement.{statement}
 use Rattle.quick.proofs.weigh.Tie as tie
 
+-- the start, seen from behind `quick`
+abbrev start : tie.After-quick → tie.Start
+start c = c .before .before .before .before .before .before .before .before .before
+
 -- an answer that is not the first variant, Found
 not-found-weighs : (runWeights runFirsts : List ℕ) (n : ℕ) (a : QuickAnswer) → (tagOf answers.the-type a ≡ 1) ⊎ (tagOf answers.the-type a ≡ 2)
     → unweighed a ≡ weighedOf a runWeights runFirsts n
@@ -34,7 +38,7 @@ not-found-requires c κs = search needs
 
 returns : tie.Need-returns
 returns c =
-    let a = c .before .before .before .before .before .before .before .before .before .before .before .args in
+    let a = start (c .before .before) .args in
     c .not-found .ensures
     ∙ (not-found-weighs (a .run-weights .now) (a .run-firsts .now) (a .n) _ (c .before .match .keys2)
     ∙ ap (λ (x : QuickAnswer). weighedOf x (a .run-weights .now) (a .run-firsts .now) (a .n)) (c .before .before .quick .ensures))
@@ -51,16 +55,20 @@ enum-known-number c = search needs
 returns-2 : tie.Need-returns-2
 unfolding weighs
 returns-2 c =
-    let a = c .before .before .before .before .before .before .before .before .before .before .before .before .before .before .before .before .args in
+    let w = c .before .before .before in
+    let a = start (w .before .before .before .before) .args in
     sym (ap weighs (c .before .weight2 .given .1))
-    ∙ found-weighs (a .run-weights .now) (a .run-firsts .now) (a .n) _ _ _ _ _ (sym (c .before .before .before .before .before .before .before .quick .ensures) ∙ c .before .before .before .before .before .answer .given .1) (c .before .before .before .weight .ensures)
+    ∙ found-weighs (a .run-weights .now) (a .run-firsts .now) (a .n) _ _ _ _ _
+    (sym (w .before .before .before .before .quick .ensures) ∙ w .before .before .answer .given .1) (w .weight .ensures)
 
 returns-3 : tie.Need-returns-3
 unfolding weighs
 returns-3 c =
-    let a = c .before .before .before .before .before .before .before .before .before .before .before .before .before .before .before .before .args in
+    let w = c .before .before .before in
+    let a = start (w .before .before .before .before) .args in
     sym (ap weighs (c .before .number .given .1))
-    ∙ found-weighs (a .run-weights .now) (a .run-firsts .now) (a .n) _ _ _ _ _ (sym (c .before .before .before .before .before .before .before .quick .ensures) ∙ c .before .before .before .before .before .answer .given .1) (c .before .before .before .weight .ensures)
+    ∙ found-weighs (a .run-weights .now) (a .run-firsts .now) (a .n) _ _ _ _ _
+    (sym (w .before .before .before .before .quick .ensures) ∙ w .before .before .answer .given .1) (w .weight .ensures)
 
 pub weigh-spec : {M : Type 1} → statement M
 weigh-spec =

@@ -15,8 +15,16 @@ use borrow.Author.Needs.{needs}
 use Rattle.repeats.proofs.check.Statement.{statement}
 use Rattle.repeats.proofs.check.Tie as tie
 
+-- the start, seen from where the verdict is good; that place, seen from the call of `zero_first`
+abbrev start : tie.After-enum-told → tie.Start
+start c = c .before .before .before .before .before .before .before
+
+abbrev good : tie.After-zero-first-arg → tie.After-enum-told
+good c = c .before .before .before .before .before
+
 -- the verdict is good
-started : (c : tie.After-enum-told) → let a = c .before .before .before .before .before .before .before .args in Started (collection (a .k) (a .letters .now) (a .ends .now) (a .weights .now)) (length (a .work .now))
+started : (c : tie.After-enum-told)
+    → let a = start c .args in Started (collection (a .k) (a .letters .now) (a .ends .now) (a .weights .now)) (length (a .work .now))
 started c = check-started _ _ (sym (c .before .before .judge-check .ensures) ∙ c .enum-told .given .1)
 
 judge-check-requires : tie.Need-judge-check-requires
@@ -36,10 +44,11 @@ first-repeat-requires : tie.Need-first-repeat-requires
 first-repeat-requires c κs = let s = started (c .before) in (s .ready, (s .each, omega (arith, s .enough, s .counted)))
 
 mul-zero-first : tie.Need-mul-zero-first
-mul-zero-first c = let s = started (c .before .before .before .before .before) in omega (arith, s .enough, s .counted)
+mul-zero-first c = let s = started (good c) in omega (arith, s .enough, s .counted)
 
 zero-first-requires : tie.Need-zero-first-requires
-zero-first-requires c κs = let s = started (c .before .before .before .before .before) in omega (arith, s .enough, s .counted, c .before .before .before .first-repeat .ensures .1 .size)
+zero-first-requires c κs =
+    let s = started (good c) in omega (arith, s .enough, s .counted, c .before .before .before .first-repeat .ensures .1 .size)
 
 answer-requires : tie.Need-answer-requires
 answer-requires c κs = search needs
@@ -50,16 +59,19 @@ same-length c = search needs
 returns-2 : tie.Need-returns-2
 unfolding checkOf
 returns-2 c =
-    let s = started (c .before .before .before .before .before .before .before .before .before) in
-    let a = c .before .before .before .before .before .before .before .before .before .before .before .before .before .before .before .before .args in
+    let z = c .before .before .before in
+    let g = z .before .before .before .before in
+    let s = started (g .before .before) in
+    let a = start (g .before .before) .args in
     let n = length (a .weights .now) in
-    let f = c .before .before .before .before .before .before .before .first-repeat in
+    let f = g .first-repeat in
     settled _
     (ap₂ outcome (c .answer .ensures ∙ ap₂ (λ (p m : ℕ). settle (atPlace 7 p) Refused (Checked m)) (f .ensures .0) (s .counted))
-    (c .before .before .before .zero-first .ensures
-    ∙ (only-fill (4 * n) (replicate (4 * n) 0) (a .work .now) (f .last .1 .1 .1 .1 .0) (length-replicate (4 * n) 0) (omega (arith, s .enough, s .counted)) (f .ensures .1)
+    (z .zero-first .ensures
+    ∙ (only-fill (4 * n) (replicate (4 * n) 0) (a .work .now) (f .last .1 .1 .1 .1 .0) (length-replicate (4 * n) 0)
+    (omega (arith, s .enough, s .counted)) (f .ensures .1)
     ∙ ap (λ (m : ℕ). fill (replicate (4 * m) 0) (a .work .now)) (s .counted))))
-    (sym (c .before .before .before .before .before .before .before .before .before .before .before .judge-check .ensures) ∙ c .before .before .before .before .before .before .before .before .before .enum-told .given .1)
+    (sym (g .before .before .before .before .judge-check .ensures) ∙ g .before .before .enum-told .given .1)
 
 pub check-spec : {M : Type 1} → statement M
 check-spec =

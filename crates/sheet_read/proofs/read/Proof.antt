@@ -1,8 +1,13 @@
 -- `read` meets its contract: judged, then filled. Assumes nothing.
+use Rattle.collection.specs.Tables.{tables}
 use Rattle.sheet_read.proofs.Outcomes.{read-refused, read-fits, read-filled}
 use borrow.Author.Needs.{needs}
 use Rattle.sheet_read.proofs.read.Statement.{statement}
 use Rattle.sheet_read.proofs.read.Tie as tie
+
+-- the start, seen from where the sheet is judged good
+abbrev start : tie.After-j → tie.Start
+start c = c .before .before .before .before .before .before .before
 
 judge-read-requires : tie.Need-judge-read-requires
 judge-read-requires c κs = search needs
@@ -13,8 +18,8 @@ enum-known-j c = search needs
 fill-lines-requires : tie.Need-fill-lines-requires
 fill-lines-requires c κs =
     let j = c .before .before .before .before in
-    let g = j .before .before .before .before .before .before .before .args in
-    read-fits (g .sheet .now) (g .letters .now) (g .ends .now) (g .weights .now) (j .before .before .judge-read .ensures) (j .j .given .1)
+    let g = start j .args in
+    read-fits (g .sheet .now) (tables (g .letters .now) (g .ends .now) (g .weights .now)) (j .before .before .judge-read .ensures) (j .j .given .1)
 
 enum-known-j-2 : tie.Need-enum-known-j-2
 enum-known-j-2 c = search needs
@@ -32,10 +37,12 @@ returns : tie.Need-returns
 returns c =
     let f = c .before .before .before .before .before .before in
     let j = f .before .before .before .before .before in
-    read-filled _ _ _ _ (j .before .before .judge-read .ensures) (j .j .given .1) (f .fill-lines .ensures .0) (f .fill-lines .ensures .1) (f .fill-lines .ensures .2)
+    let g = start j .args in
+    read-filled _ (tables (g .letters .now) (g .ends .now) (g .weights .now)) (j .before .before .judge-read .ensures) (j .j .given .1)
+    (f .fill-lines .ensures .0) (f .fill-lines .ensures .1) (f .fill-lines .ensures .2)
 
 returns-2 : tie.Need-returns-2
-returns-2 c = read-refused _ _ _ _ (c .before .before .before .judge-read .ensures) (c .before .j2 .given .1)
+returns-2 c = read-refused _ _ (c .before .before .before .judge-read .ensures) (c .before .j2 .given .1)
 
 pub read-spec : {M : Type 1} → statement M
 read-spec =

@@ -15,7 +15,8 @@ returns : tie.Need-returns
 returns c =
     let j = c .before .before .before in
     let g = j .before .before .before .before .before in
-    write-refused (collection (g .args .k) (g .args .letters .now) (g .args .ends .now) (g .args .weights .now)) (g .args .sheet .now) (j .judge-write .ensures) (c .before .v .given .1)
+    write-refused (collection (g .args .k) (g .args .letters .now) (g .args .ends .now) (g .args .weights .now)) (g .args .sheet .now) (j .judge-write .ensures)
+    (c .before .v .given .1)
 
 enum-told : tie.Need-enum-told
 enum-told c = search needs
@@ -24,7 +25,8 @@ put-sheet-requires : tie.Need-put-sheet-requires
 put-sheet-requires c κs =
     let j = c .before .before .before in
     let g = j .before .before .before .before .before in
-    write-ready (collection (g .args .k) (g .args .letters .now) (g .args .ends .now) (g .args .weights .now)) (g .args .sheet .now) (j .judge-write .ensures) (c .before .enum-told .given .1)
+    write-ready (collection (g .args .k) (g .args .letters .now) (g .args .ends .now) (g .args .weights .now)) (g .args .sheet .now) (j .judge-write .ensures)
+    (c .before .enum-told .given .1)
 
 same-length : tie.Need-same-length
 same-length c = search needs
@@ -35,7 +37,8 @@ returns-2 c =
     let t = p .before .before in
     let j = t .before .before in
     let g = j .before .before .before .before .before in
-    write-done (collection (g .args .k) (g .args .letters .now) (g .args .ends .now) (g .args .weights .now)) (g .args .sheet .now) (j .judge-write .ensures) (t .enum-told .given .1) (p .put-sheet .ensures .0) (p .put-sheet .ensures .1)
+    write-done (collection (g .args .k) (g .args .letters .now) (g .args .ends .now) (g .args .weights .now)) (g .args .sheet .now) (j .judge-write .ensures)
+    (t .enum-told .given .1) (p .put-sheet .ensures .0) (p .put-sheet .ensures .1)
 
 pub write-spec : {M : Type 1} → statement M
 write-spec =

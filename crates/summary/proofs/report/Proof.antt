@@ -38,8 +38,11 @@ returns : tie.Need-returns
 unfolding reportOf textOf
 returns c =
     let w = c .before .before in
-    let t = w .before .before .before .before .before .before .before in
-    (w .write-summary .ensures .0 ∙ ap (λ (s : Summary). writtenOf (textFor s) (t .before .before .before .before .before .before .before .before .args .text .now)) (t .tell .ensures), subst (λ (s : Summary). length (textFor s) ≤ 247) (t .tell .ensures) (w .write-summary .ensures .1))
+    let t = w .before .before .before .before .before .before .before in (
+      w .write-summary .ensures .0
+          ∙ ap (λ (s : Summary). writtenOf (textFor s) (t .before .before .before .before .before .before .before .before .args .text .now)) (t .tell .ensures),
+      subst (λ (s : Summary). length (textFor s) ≤ 247) (t .tell .ensures) (w .write-summary .ensures .1),
+    )
 
 pub report-spec : {M : Type 1} → statement M
 report-spec =

@@ -16,7 +16,7 @@ slice-aggregate-put-lines-3 c = search needs
 put-lines-requires : tie.Need-put-lines-requires
 put-lines-requires c κs =
     let g = c .before .before .before .before .before in
-    first-room _ _ _ _ _ _ _ _ _ (g .args .text .now) (g .pre)
+    first-room _ (g .args .text .now) (g .pre)
 
 slice-aggregate-put-lines-4 : tie.Need-slice-aggregate-put-lines-4
 slice-aggregate-put-lines-4 c = search needs
@@ -30,7 +30,7 @@ slice-aggregate-put-lines-6 c = search needs
 put-lines-requires-2 : tie.Need-put-lines-requires-2
 put-lines-requires-2 c κs =
     let p = c .before .before .before .before .before .before in
-    next-room _ _ _ _ _ _ _ _ _ _ (p .before .before .before .before .before .before .pre) (p .put-lines .ensures .0) (p .put-lines .ensures .1)
+    next-room _ _ (p .before .before .before .before .before .before .pre) (p .put-lines .ensures .0) (p .put-lines .ensures .1)
 
 slice-aggregate-put-lines-7 : tie.Need-slice-aggregate-put-lines-7
 slice-aggregate-put-lines-7 c = search needs
@@ -45,7 +45,8 @@ put-lines-requires-3 : tie.Need-put-lines-requires-3
 put-lines-requires-3 c κs =
     let q = c .before .before .before .before .before .before in
     let p = q .before .before .before .before .before .before .before in
-    last-room _ _ _ _ _ _ _ _ _ _ (p .before .before .before .before .before .before .pre) (p .put-lines .ensures .0) (p .put-lines .ensures .1) (q .put-lines2 .ensures .0) (q .put-lines2 .ensures .1)
+    last-room _ _ (p .before .before .before .before .before .before .pre) (p .put-lines .ensures .0) (p .put-lines .ensures .1) (q .put-lines2 .ensures .0)
+    (q .put-lines2 .ensures .1)
 
 same-length : tie.Need-same-length
 same-length c = search needs
@@ -55,7 +56,8 @@ returns c =
     let r = c .before .before in
     let q = r .before .before .before .before .before .before .before in
     let p = q .before .before .before .before .before .before .before in
-    counted-end _ _ _ _ _ _ _ _ _ _ (p .before .before .before .before .before .before .pre) (p .put-lines .ensures .0) (p .put-lines .ensures .1) (q .put-lines2 .ensures .0) (q .put-lines2 .ensures .1) (r .put-lines3 .ensures .0) (r .put-lines3 .ensures .1)
+    counted-end _ _ (p .before .before .before .before .before .before .pre) (p .put-lines .ensures .0) (p .put-lines .ensures .1) (q .put-lines2 .ensures .0)
+    (q .put-lines2 .ensures .1) (r .put-lines3 .ensures .0) (r .put-lines3 .ensures .1)
 
 pub put-counted-spec : {M : Type 1} → statement M
 put-counted-spec =

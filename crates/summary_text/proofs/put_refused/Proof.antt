@@ -27,7 +27,8 @@ returns : tie.Need-returns
 returns c =
     let q = c .before .before in
     let p = q .before .before .before .before .before in
-    refused-end _ _ _ (p .before .before .before .before .pre) (p .put-entry .ensures .0) (p .put-entry .ensures .1) (q .put-line .ensures .0) (q .put-line .ensures .1)
+    refused-end _ _ _ (p .before .before .before .before .pre) (p .put-entry .ensures .0) (p .put-entry .ensures .1) (q .put-line .ensures .0)
+    (q .put-line .ensures .1)
 
 pub put-refused-spec : {M : Type 1} → statement M
 put-refused-spec =

@@ -37,8 +37,10 @@ returns c =
     let z = j .before in
     let y = z .before in
     let x = y .before in
-    let n = counted-length _ _ _ _ _ _ _ _ _ (x .numbers-length .ensures .0) (y .numbers-length2 .ensures .0) (z .numbers-length3 .ensures .0) in
-    (written-refused _ _ n (j .judge-room .ensures) (c .before .v .given .1), omega (arith, n, x .numbers-length .ensures .1, y .numbers-length2 .ensures .1, z .numbers-length3 .ensures .1))
+    let n = counted-length (x .before .before .args .n) (x .numbers-length .ensures .0) (y .numbers-length2 .ensures .0) (z .numbers-length3 .ensures .0) in (
+      written-refused _ _ n (j .judge-room .ensures) (c .before .v .given .1),
+      omega (arith, n, x .numbers-length .ensures .1, y .numbers-length2 .ensures .1, z .numbers-length3 .ensures .1),
+    )
 
 enum-told : tie.Need-enum-told
 enum-told c = search needs
@@ -49,10 +51,10 @@ put-counted-requires c κs =
     let z = j .before in
     let y = z .before in
     let x = y .before in
-    let n = counted-length _ _ _ _ _ _ _ _ _ (x .numbers-length .ensures .0) (y .numbers-length2 .ensures .0) (z .numbers-length3 .ensures .0) in
+    let n = counted-length (x .before .before .args .n) (x .numbers-length .ensures .0) (y .numbers-length2 .ensures .0) (z .numbers-length3 .ensures .0) in
     let g = x .before .before in
     let a = g .args in
-    written-room (countedText (a .strings) (a .kmers) (a .total) (a .inner) (a .given) (a .paths) (a .least) (a .distinct) (a .bits)) (a .text .now) n (j .judge-room .ensures) (c .before .enum-told .given .1)
+    written-room (countedText (a .n)) (a .text .now) n (j .judge-room .ensures) (c .before .enum-told .given .1)
 
 same-length : tie.Need-same-length
 same-length c = search needs
@@ -63,9 +65,12 @@ returns-2 c =
     let z = j .before in
     let y = z .before in
     let x = y .before in
-    let n = counted-length _ _ _ _ _ _ _ _ _ (x .numbers-length .ensures .0) (y .numbers-length2 .ensures .0) (z .numbers-length3 .ensures .0) in
-    let p = c .before .before in
-    (written-done _ _ n (j .judge-room .ensures) (c .before .before .before .before .enum-told .given .1) (p .put-counted .ensures .0) (p .put-counted .ensures .1), omega (arith, n, x .numbers-length .ensures .1, y .numbers-length2 .ensures .1, z .numbers-length3 .ensures .1))
+    let n = counted-length (x .before .before .args .n) (x .numbers-length .ensures .0) (y .numbers-length2 .ensures .0) (z .numbers-length3 .ensures .0) in
+    let p = c .before .before in (
+      written-done _ _ n (j .judge-room .ensures) (c .before .before .before .before .enum-told .given .1) (p .put-counted .ensures .0)
+          (p .put-counted .ensures .1),
+      omega (arith, n, x .numbers-length .ensures .1, y .numbers-length2 .ensures .1, z .numbers-length3 .ensures .1),
+    )
 
 pub write-counted-spec : {M : Type 1} → statement M
 write-counted-spec =

@@ -54,8 +54,11 @@ returns-2 c =
     let y = j .before in
     let x = y .before in
     let n = refused-length _ _ (x .digit-count .ensures .0) (y .digit-count2 .ensures .0) in
-    let p = c .before .before in
-    (written-done _ _ n (j .judge-room .ensures) (c .before .before .before .before .enum-told .given .1) (p .put-refused .ensures .0) (p .put-refused .ensures .1), omega (arith, n, x .digit-count .ensures .1, y .digit-count2 .ensures .1))
+    let p = c .before .before in (
+      written-done _ _ n (j .judge-room .ensures) (c .before .before .before .before .enum-told .given .1) (p .put-refused .ensures .0)
+          (p .put-refused .ensures .1),
+      omega (arith, n, x .digit-count .ensures .1, y .digit-count2 .ensures .1),
+    )
 
 pub write-refused-spec : {M : Type 1} → statement M
 write-refused-spec =

@@ -6,6 +6,10 @@ use borrow.Author.Needs.{needs}
 use Rattle.tally_cases.proofs.tell.Statement.{statement}
 use Rattle.tally_cases.proofs.tell.Tie as tie
 
+-- what `report` gave, seen from where its answer is known
+abbrev after-report : tie.After-known-told → tie.After-report
+after-report c = c .before .before .before .before
+
 slice-aggregate-report : tie.Need-slice-aggregate-report
 slice-aggregate-report c = search needs
 
@@ -22,10 +26,11 @@ returns : tie.Need-returns
 returns c = search needs
 
 array-share-prefix-text : tie.Need-array-share-prefix-text
-array-share-prefix-text c = report-writes _ _ (c .before .before .before .before .report .ensures .0) (c .before .answer .given .1) .0
+array-share-prefix-text c = report-writes _ _ (after-report c .report .ensures .0) (c .before .answer .given .1) .0
 
 slice-aggregate-write-all : tie.Need-slice-aggregate-write-all
-slice-aggregate-write-all c = sym (length-take-le _ _ (report-writes _ _ (c .before .before .before .before .before .report .ensures .0) (c .before .before .answer .given .1) .0))
+slice-aggregate-write-all c =
+    sym (length-take-le _ _ (report-writes _ _ (after-report (c .before) .report .ensures .0) (c .before .before .answer .given .1) .0))
 
 write-all-requires : tie.Need-write-all-requires
 write-all-requires c κs = search needs

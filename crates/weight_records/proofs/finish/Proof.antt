@@ -28,9 +28,10 @@ enum-known-b c = search needs
 returns-2 : tie.Need-returns-2
 unfolding finished
 returns-2 c =
+    let j = c .before .before .before in
     refused _ _
-    (then-good _ (sym (c .before .before .before .before .before .before .judge-read .ensures) ∙ c .before .before .before .before .enum-told .given .1)
-    (sym (c .before .before .before .judge-handle .ensures) ∙ c .before .b .given .1))
+    (then-good _ (sym (j .before .before .before .judge-read .ensures) ∙ j .before .enum-told .given .1)
+    (sym (j .judge-handle .ensures) ∙ c .before .b .given .1))
 
 enum-told-2 : tie.Need-enum-told-2
 enum-told-2 c = search needs
@@ -38,8 +39,9 @@ enum-told-2 c = search needs
 returns-3 : tie.Need-returns-3
 unfolding finished
 returns-3 c =
+    let e = c .before .before .before in
     settled _ refl
-    (then-good _ (sym (c .before .before .before .before .before .judge-read .ensures) ∙ c .before .before .before .enum-told .given .1)
+    (then-good _ (sym (e .before .before .judge-read .ensures) ∙ e .enum-told .given .1)
     (sym (c .before .before .judge-handle .ensures) ∙ c .enum-told2 .given .1))
 
 pub finish-spec : {M : Type 1} → statement M

@@ -11,10 +11,14 @@ cast-if1 : tie.Need-cast-if1
 cast-if1 c = search needs
 
 returns : tie.Need-returns
-returns c = let a = c .before .before .before .args in sym (ap (λ (t : Bool). choose t (a .r .weight) (a .s .found)) (le-leb (a .r .first) (a .s .handle) (c .if1 .taken)))
+returns c =
+    let a = c .before .before .before .args in
+    sym (ap (λ (t : Bool). choose t (a .r .weight) (a .s .found)) (le-leb (a .r .first) (a .s .handle) (c .if1 .taken)))
 
 returns-2 : tie.Need-returns-2
-returns-2 c = let a = c .before .before .before .args in sym (ap (λ (t : Bool). choose t (a .r .weight) (a .s .found)) (lt-leb (a .r .first) (a .s .handle) (c .if1 .left)))
+returns-2 c =
+    let a = c .before .before .before .args in
+    sym (ap (λ (t : Bool). choose t (a .r .weight) (a .s .found)) (lt-leb (a .r .first) (a .s .handle) (c .if1 .left)))
 
 pub found-next-spec : {M : Type 1} → statement M
 found-next-spec = tie.close (tie.spec cast-if1 returns returns-2)

@@ -1,4 +1,4 @@
-//! Document 01 written down plainly: every call over lent tables, in linear or n log n time, with no thought of proofs.
+//! The specification written down plainly: every call over lent tables, in linear or n log n time, with no thought of proofs.
 //!
 //! The signatures are those of `corrivume::raw`, so that a test can lend the same tables to both and compare everything.
 //! It shares no code with the library.

@@ -31,7 +31,10 @@ judge-handle-requires c κs = search needs
 
 returns-2 : tie.Need-returns-2
 unfolding accessVerdict
-returns-2 c = goes-on _ (c .before .before .before .before .judge-shape .ensures) (c .before .before .enum-told .given .1) (c .judge-handle .ensures ∙ ap (λ (n : ℕ). handleVerdict n (c .before .before .before .before .before .before .before .args .handle)) (c .before .kmer-count .ensures))
+returns-2 c =
+    let j = c .before .before .before .before in
+    goes-on _ (j .judge-shape .ensures) (c .before .before .enum-told .given .1)
+    (c .judge-handle .ensures ∙ ap (λ (n : ℕ). handleVerdict n (j .before .before .before .args .handle)) (c .before .kmer-count .ensures))
 
 pub judge-access-spec : {M : Type 1} → statement M
 judge-access-spec =

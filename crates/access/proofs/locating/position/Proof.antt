@@ -15,10 +15,12 @@ sub-result-2 : tie.Need-sub-result-2
 sub-result-2 c = search needs
 
 mul-result : tie.Need-mul-result
-mul-result c = omega (arith, position-small (c .before .before .pre .0) _ _ (c .string-of .ensures), c .before .shared-slice-known .given (c .string-of .result))
+mul-result c =
+    omega (arith, position-small (c .before .before .pre .0) _ _ (c .string-of .ensures), c .before .shared-slice-known .given (c .string-of .result))
 
 add-result : tie.Need-add-result
-add-result c = omega (arith, position-small (c .before .before .pre .0) _ _ (c .string-of .ensures), c .before .shared-slice-known .given (c .string-of .result))
+add-result c =
+    omega (arith, position-small (c .before .before .pre .0) _ _ (c .string-of .ensures), c .before .shared-slice-known .given (c .string-of .result))
 
 returns : tie.Need-returns
 returns c = position-in (c .before .before .pre .0) _ _ (c .string-of .ensures)

@@ -1,4 +1,4 @@
--- `judge_tables` meets its contract: the collection, then the rooms. Assumes nothing.
+-- `judge_tables` meets its contract: the collection, the new tables, then work. Assumes nothing.
 use Rattle.collection.proofs.Verdicts.{stops, goes-on}
 use Rattle.apply.specs.Apply.{tablesVerdict}
 use borrow.Author.Needs.{needs}
@@ -21,9 +21,31 @@ returns c = stops _ (c .before .before .judge-collection .ensures) (c .enum-told
 judge-rooms-requires : tie.Need-judge-rooms-requires
 judge-rooms-requires c κs = search needs
 
+enum-told-3 : tie.Need-enum-told-3
+enum-told-3 c = search needs
+
+enum-told-4 : tie.Need-enum-told-4
+enum-told-4 c = search needs
+
+-- where the collection is good, seen from the judgement of the new tables
+abbrev good : tie.After-judge-rooms → tie.After-enum-told
+good c = c .before
+
 returns-2 : tie.Need-returns-2
 unfolding tablesVerdict
-returns-2 c = goes-on _ (c .before .before .before .judge-collection .ensures) (c .before .enum-told .given .1) (c .judge-rooms .ensures)
+returns-2 c =
+    let r = c .before .before in
+    goes-on _ (good r .before .before .judge-collection .ensures) (good r .enum-told .given .1) (stops _ (r .judge-rooms .ensures) (c .enum-told4 .given .1))
+
+judge-room-requires : tie.Need-judge-room-requires
+judge-room-requires c κs = search needs
+
+returns-3 : tie.Need-returns-3
+unfolding tablesVerdict
+returns-3 c =
+    let r = c .before .before .before in
+    goes-on _ (good r .before .before .judge-collection .ensures) (good r .enum-told .given .1)
+    (goes-on _ (r .judge-rooms .ensures) (c .before .enum-told3 .given .1) (c .judge-room .ensures))
 
 pub judge-tables-spec : {M : Type 1} → statement M
 judge-tables-spec =
@@ -34,4 +56,8 @@ judge-tables-spec =
     enum-told-2
     returns
     judge-rooms-requires
-    returns-2)
+    enum-told-3
+    enum-told-4
+    returns-2
+    judge-room-requires
+    returns-3)

@@ -6,6 +6,14 @@ use borrow.Author.Needs.{needs}
 use Rattle.apply_places.proofs.inner.judge_places.Statement.{statement}
 use Rattle.apply_places.proofs.inner.judge_places.Tie as tie
 
+-- where there are m places, seen from the call of `mark_places`
+abbrev enough : tie.After-mark-places-arg → tie.Else1
+enough c = c .before .before .before .before .before
+
+-- what `zero_first` gave, seen from the second `if`
+abbrev after-zero-first : tie.After-slice-known3 → tie.After-zero-first
+after-zero-first c = c .before .before .before .before .before .before
+
 returns : tie.Need-returns
 returns c = judged-number _ _ _ (c .if1 .taken)
 
@@ -14,21 +22,33 @@ zero-first-requires c κs = search needs
 
 mark-places-requires : tie.Need-mark-places-requires
 mark-places-requires c κs =
-    let e = c .before .before .before .before .before .if1 .left in
-    let z = zeros-ready _ _ _ _ e (c .before .before .before .before .before .before .before .pre .1) (c .before .before .before .zero-first .ensures) in
-    (omega (arith, e, c .before .before .before .before .before .before .before .pre .0), z .0, z .1)
+    let g = enough c in
+    let p = g .before .before .pre in
+    let e = g .if1 .left in
+    let z = zeros-ready _ _ _ _ e (p .1) (c .before .before .before .zero-first .ensures) in
+    (omega (arith, e, p .0), z .0, z .1)
 
 same-length : tie.Need-same-length
 same-length c = search needs
 
 returns-2 : tie.Need-returns-2
-returns-2 c = judged-each (c .before .before .before .before .before .before .before .before .before .before .before .args .m) _ (c .before .before .before .before .before .before .before .before .before .before .before .args .work .now) _ _ _ _ (c .before .before .before .before .before .before .before .before .before .if1 .left) (c .before .before .before .before .before .before .before .before .before .before .before .pre .1) (c .before .before .before .before .before .before .before .zero-first .ensures) (c .before .before .before .mark-places .ensures) (place-some 8 _ (c .if2 .taken)) (λ q. absurd (bad-good q))
+returns-2 c =
+    let z = after-zero-first (c .before) in
+    let s = z .before .before .before .before in
+    let a = s .args in
+    judged-each (a .m) _ (a .work .now) _ _ _ _ (z .before .before .if1 .left) (s .pre .1) (z .zero-first .ensures)
+    (c .before .before .before .mark-places .ensures) (place-some 8 _ (c .if2 .taken)) (λ q. absurd (bad-good q))
 
 same-length-2 : tie.Need-same-length-2
 same-length-2 c = search needs
 
 returns-3 : tie.Need-returns-3
-returns-3 c = judged-each (c .before .before .before .before .before .before .before .before .before .before .before .args .m) _ (c .before .before .before .before .before .before .before .before .before .before .before .args .work .now) _ _ _ _ (c .before .before .before .before .before .before .before .before .before .if1 .left) (c .before .before .before .before .before .before .before .before .before .before .before .pre .1) (c .before .before .before .before .before .before .before .zero-first .ensures) (c .before .before .before .mark-places .ensures) (place-none 8 (c .if2 .left)) (λ q. c .if2 .left)
+returns-3 c =
+    let z = after-zero-first (c .before) in
+    let s = z .before .before .before .before in
+    let a = s .args in
+    judged-each (a .m) _ (a .work .now) _ _ _ _ (z .before .before .if1 .left) (s .pre .1) (z .zero-first .ensures)
+    (c .before .before .before .mark-places .ensures) (place-none 8 (c .if2 .left)) (λ q. c .if2 .left)
 
 pub judge-places-spec : {M : Type 1} → statement M
 judge-places-spec =

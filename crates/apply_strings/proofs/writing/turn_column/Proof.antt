@@ -19,7 +19,11 @@ abbrev μ-loop : tie.MeasureT-loop
 μ-loop from to₀ left₀ at₀ to left at = left
 
 loop-holds : tie.Need-loop-holds Inv-loop μ-loop
-loop-holds c = (omega arith, restated (ap reverse (sym (take-length (c .args .from .now)))) (begin _ (reverse (c .args .from .now)) (omega (arith, c .pre, length-reverse (c .args .from .now)))))
+loop-holds c = (
+  omega arith,
+  restated (ap reverse (sym (take-length (c .args .from .now))))
+      (begin _ (reverse (c .args .from .now)) (omega (arith, c .pre, length-reverse (c .args .from .now)))),
+)
 
 sub-left : tie.Need-sub-left Inv-loop μ-loop
 sub-left c = search needs
@@ -34,7 +38,9 @@ mul-to-2 : tie.Need-mul-to-2 Inv-loop μ-loop
 mul-to-2 c = search needs
 
 slice-write-to : tie.Need-slice-write-to Inv-loop μ-loop
-slice-write-to c = inside (restated (reversed-last (c .before .before .before .args .from .now) (c .before .before .loop .left) (c .before .loop-test .taken) (c .before .before .loop .inv .0)) (c .before .before .loop .inv .1))
+slice-write-to c =
+    inside (restated (reversed-last (c .before .before .before .args .from .now) (c .before .before .loop .left) (c .before .loop-test .taken)
+    (c .before .before .loop .inv .0)) (c .before .before .loop .inv .1))
 
 add-at : tie.Need-add-at Inv-loop μ-loop
 add-at c = search needs
@@ -43,7 +49,11 @@ loop-less : tie.Need-loop-less Inv-loop μ-loop
 loop-less c = search needs
 
 loop-again : tie.Need-loop-again Inv-loop μ-loop
-loop-again c = (omega arith, store (restated (reversed-last (c .before .before .before .args .from .now) (c .before .before .loop .left) (c .before .loop-test .taken) (c .before .before .loop .inv .0)) (c .before .before .loop .inv .1)))
+loop-again c = (
+  omega arith,
+  store (restated (reversed-last (c .before .before .before .args .from .now) (c .before .before .loop .left) (c .before .loop-test .taken)
+      (c .before .before .loop .inv .0)) (c .before .before .loop .inv .1)),
+)
 
 same-length : tie.Need-same-length Inv-loop μ-loop
 same-length c = c .before .loop .inv .1 .size-kept

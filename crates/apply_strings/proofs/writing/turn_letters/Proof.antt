@@ -21,8 +21,17 @@ Inv-loop from to₀ left₀ at₀ to left at = (left ≤ length from) × Storing
 abbrev μ-loop : tie.MeasureT-loop
 μ-loop from to₀ left₀ at₀ to left at = left
 
+-- the start, seen from the loop
+abbrev start : tie.At-loop Inv-loop μ-loop → tie.Start Inv-loop μ-loop
+start c = c .before .before .before
+
 loop-holds : tie.Need-loop-holds Inv-loop μ-loop
-loop-holds c = (omega arith, restated (ap turnLetters (sym (take-length (c .before .before .args .from .now)))) (begin _ (turnLetters (c .before .before .args .from .now)) (omega (arith, c .before .before .pre .0, length-turned (c .before .before .args .from .now)))))
+loop-holds c =
+    let a = c .before .before .args in (
+      omega arith,
+      restated (ap turnLetters (sym (take-length (a .from .now))))
+          (begin _ (turnLetters (a .from .now)) (omega (arith, c .before .before .pre .0, length-turned (a .from .now)))),
+    )
 
 sub-left : tie.Need-sub-left Inv-loop μ-loop
 sub-left c = search needs
@@ -34,7 +43,11 @@ turned-letter-requires : tie.Need-turned-letter-requires Inv-loop μ-loop
 turned-letter-requires c κs = search needs
 
 slice-write-to : tie.Need-slice-write-to Inv-loop μ-loop
-slice-write-to c = inside (restated (turned-last (c .before .before .before .before .before .before .args .from .now) (every-all isLetter _ (c .before .before .before .before .before .before .pre .1)) (c .before .before .before .loop .left) _ (c .before .before .loop-test .taken) (c .before .before .before .loop .inv .0) (c .turned-letter .ensures)) (c .before .before .before .loop .inv .1))
+slice-write-to c =
+    let l = c .before .before .before .loop in
+    let s = start (c .before .before .before) in
+    inside (restated (turned-last (s .args .from .now) (every-all isLetter _ (s .pre .1)) (l .left) _ (c .before .before .loop-test .taken)
+    (l .inv .0) (c .turned-letter .ensures)) (l .inv .1))
 
 add-at : tie.Need-add-at Inv-loop μ-loop
 add-at c = search needs
@@ -43,7 +56,13 @@ loop-less : tie.Need-loop-less Inv-loop μ-loop
 loop-less c = search needs
 
 loop-again : tie.Need-loop-again Inv-loop μ-loop
-loop-again c = (omega arith, store (restated (turned-last (c .before .before .before .before .before .before .args .from .now) (every-all isLetter _ (c .before .before .before .before .before .before .pre .1)) (c .before .before .before .loop .left) _ (c .before .before .loop-test .taken) (c .before .before .before .loop .inv .0) (c .turned-letter .ensures)) (c .before .before .before .loop .inv .1)))
+loop-again c =
+    let l = c .before .before .before .loop in
+    let s = start (c .before .before .before) in (
+      omega arith,
+      store (restated (turned-last (s .args .from .now) (every-all isLetter _ (s .pre .1)) (l .left) _ (c .before .before .loop-test .taken)
+          (l .inv .0) (c .turned-letter .ensures)) (l .inv .1)),
+    )
 
 same-length : tie.Need-same-length Inv-loop μ-loop
 same-length c = c .before .loop .inv .1 .size-kept

@@ -1,13 +1,10 @@
 -- `write_column` meets its contract: the part from `at` on was lent and filled. Assumes nothing.
-use mathlib.Core.Path.{sym, ap, _∙_}
-use mathlib.Core.Bool.{Bool}
-use mathlib.Core.List.{reverse}
-use Rattle.lists.specs.Fill.{put}
-use Rattle.lists.proofs.Storing.{put-lent}
+use mathlib.Core.Bool.{true, false}
 use Rattle.apply_strings.specs.Turned.{columnBy}
 use borrow.Author.Needs.{needs}
 use Rattle.apply_strings.proofs.writing.write_column.Statement.{statement}
 use Rattle.apply_strings.proofs.writing.write_column.Tie as tie
+use Rattle.apply_strings.proofs.Turning.{written-by}
 
 mul-turn-column : tie.Need-mul-turn-column
 mul-turn-column c = search needs
@@ -43,13 +40,17 @@ same-length : tie.Need-same-length
 same-length c = search needs
 
 returns : tie.Need-returns
-returns c = put-lent (c .before .before .before .before .before .before .before .args .at) (reverse (c .before .before .before .before .before .before .before .args .from .now)) (c .before .before .before .before .before .before .before .args .to .now) (c .before .before .turn-column .ensures) ∙ ap (λ (t : Bool). put (c .before .before .before .before .before .before .before .args .at) (columnBy t (c .before .before .before .before .before .before .before .args .from .now)) (c .before .before .before .before .before .before .before .args .to .now)) (sym (c .before .before .before .before .if1 .taken))
+returns c =
+    let a = c .before .before .before .before .before .before .before .args in
+    written-by columnBy (a .at) (a .from .now) (a .to .now) true (c .before .before .before .before .if1 .taken) (c .before .before .turn-column .ensures)
 
 same-length-2 : tie.Need-same-length-2
 same-length-2 c = search needs
 
 returns-2 : tie.Need-returns-2
-returns-2 c = put-lent (c .before .before .before .before .before .before .before .args .at) (c .before .before .before .before .before .before .before .args .from .now) (c .before .before .before .before .before .before .before .args .to .now) (c .before .before .copy-column .ensures) ∙ ap (λ (t : Bool). put (c .before .before .before .before .before .before .before .args .at) (columnBy t (c .before .before .before .before .before .before .before .args .from .now)) (c .before .before .before .before .before .before .before .args .to .now)) (sym (c .before .before .before .before .if1 .left))
+returns-2 c =
+    let a = c .before .before .before .before .before .before .before .args in
+    written-by columnBy (a .at) (a .from .now) (a .to .now) false (c .before .before .before .before .if1 .left) (c .before .before .copy-column .ensures)
 
 pub write-column-spec : {M : Type 1} → statement M
 write-column-spec =

@@ -1,12 +1,10 @@
 -- `write_letters` meets its contract: the part from `at` on was lent and filled. Assumes nothing.
-use mathlib.Core.Path.{sym, ap, _∙_}
-use mathlib.Core.Bool.{Bool}
-use Rattle.lists.specs.Fill.{put}
-use Rattle.lists.proofs.Storing.{put-lent}
-use Rattle.apply_strings.specs.Turned.{turnLetters, lettersBy}
+use mathlib.Core.Bool.{true, false}
+use Rattle.apply_strings.specs.Turned.{lettersBy}
 use borrow.Author.Needs.{needs}
 use Rattle.apply_strings.proofs.writing.write_letters.Statement.{statement}
 use Rattle.apply_strings.proofs.writing.write_letters.Tie as tie
+use Rattle.apply_strings.proofs.Turning.{written-by}
 
 sub-turn-letters : tie.Need-sub-turn-letters
 sub-turn-letters c = search needs
@@ -36,13 +34,17 @@ same-length : tie.Need-same-length
 same-length c = search needs
 
 returns : tie.Need-returns
-returns c = put-lent (c .before .before .before .before .before .before .before .args .at) (turnLetters (c .before .before .before .before .before .before .before .args .from .now)) (c .before .before .before .before .before .before .before .args .to .now) (c .before .before .turn-letters .ensures) ∙ ap (λ (t : Bool). put (c .before .before .before .before .before .before .before .args .at) (lettersBy t (c .before .before .before .before .before .before .before .args .from .now)) (c .before .before .before .before .before .before .before .args .to .now)) (sym (c .before .before .before .before .if1 .taken))
+returns c =
+    let a = c .before .before .before .before .before .before .before .args in
+    written-by lettersBy (a .at) (a .from .now) (a .to .now) true (c .before .before .before .before .if1 .taken) (c .before .before .turn-letters .ensures)
 
 same-length-2 : tie.Need-same-length-2
 same-length-2 c = search needs
 
 returns-2 : tie.Need-returns-2
-returns-2 c = put-lent (c .before .before .before .before .before .before .before .args .at) (c .before .before .before .before .before .before .before .args .from .now) (c .before .before .before .before .before .before .before .args .to .now) (c .before .before .copy-letters .ensures) ∙ ap (λ (t : Bool). put (c .before .before .before .before .before .before .before .args .at) (lettersBy t (c .before .before .before .before .before .before .before .args .from .now)) (c .before .before .before .before .before .before .before .args .to .now)) (sym (c .before .before .before .before .if1 .left))
+returns-2 c =
+    let a = c .before .before .before .before .before .before .before .args in
+    written-by lettersBy (a .at) (a .from .now) (a .to .now) false (c .before .before .before .before .if1 .left) (c .before .before .copy-letters .ensures)
 
 pub write-letters-spec : {M : Type 1} → statement M
 write-letters-spec =

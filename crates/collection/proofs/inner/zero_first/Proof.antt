@@ -26,7 +26,8 @@ abbrev μ-loop : tie.MeasureT-loop
 μ-loop work₀ n i₀ work i = n - i
 
 loop-holds : tie.Need-loop-holds Inv-loop μ-loop
-loop-holds c = (omega arith, restated (zeros-all (c .args .n)) (begin _ (replicate (c .args .n) 0) (omega (arith, c .pre, length-replicate {A = ℕ} (c .args .n) 0))))
+loop-holds c =
+    (omega arith, restated (zeros-all (c .args .n)) (begin _ (replicate (c .args .n) 0) (omega (arith, c .pre, length-replicate {A = ℕ} (c .args .n) 0))))
 
 mul-work : tie.Need-mul-work Inv-loop μ-loop
 mul-work c = search needs

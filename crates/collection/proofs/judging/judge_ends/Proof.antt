@@ -23,11 +23,15 @@ add-t8 c = search needs
 
 returns-2 : tie.Need-returns-2
 unfolding endsVerdict
-returns-2 c = goes-on _ (place-none 4 (c .before .before .if1 .left) ∙ ap (atPlace 4) (c .before .before .before .first-short .ensures)) refl (rw (ne-eqb _ _ (λ e. c .if2 .taken (c .before .last-end .ensures ∙ e))))
+returns-2 c =
+    goes-on _ (place-none 4 (c .before .before .if1 .left) ∙ ap (atPlace 4) (c .before .before .before .first-short .ensures)) refl
+    (rw (ne-eqb _ _ (λ e. c .if2 .taken (c .before .last-end .ensures ∙ e))))
 
 returns-3 : tie.Need-returns-3
 unfolding endsVerdict
-returns-3 c = goes-on _ (place-none 4 (c .before .before .if1 .left) ∙ ap (atPlace 4) (c .before .before .before .first-short .ensures)) refl (rw (eq-eqb _ _ (sym (c .before .last-end .ensures) ∙ c .if2 .left)))
+returns-3 c =
+    goes-on _ (place-none 4 (c .before .before .if1 .left) ∙ ap (atPlace 4) (c .before .before .before .first-short .ensures)) refl
+    (rw (eq-eqb _ _ (sym (c .before .last-end .ensures) ∙ c .if2 .left)))
 
 pub judge-ends-spec : {M : Type 1} → statement M
 judge-ends-spec =

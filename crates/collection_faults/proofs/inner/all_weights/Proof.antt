@@ -1,24 +1,20 @@
--- `all_weights` meets its contract. Invariant: what was seen and the test of the rest together are the test of all. Assumes nothing.
-use mathlib.Core.Path.{_≡_, refl}
-use mathlib.Core.Bool.{_&&_}
-use Prim.Native.Nat.{_-_, _≤_}
-use native.Mathlib.Omega.{arith}
-use lib.ListN.{length, drop}
-use Rattle.lists.specs.Every.{every}
-use Rattle.lists.proofs.Every.{every-next, every-end}
+-- `all_weights` meets its contract. Invariant: the first i were tested. Assumes nothing.
+use Prim.Native.Nat.{_-_}
+use lib.ListN.{length}
+use Rattle.lists.proofs.Every.{Tested, tested-none, tested-next, tested-all}
 use Rattle.collection_faults.specs.Faults.{isWeight}
 use borrow.Author.Needs.{needs}
 use Rattle.collection_faults.proofs.inner.all_weights.Statement.{statement}
 use Rattle.collection_faults.proofs.inner.all_weights.Tie as tie
 
 abbrev Inv-loop : tie.InvT-loop
-Inv-loop weights good₀ i₀ good i = (i ≤ length weights) × (every isWeight weights ≡ (good && every isWeight (drop i weights)))
+Inv-loop weights good₀ i₀ good i = Tested isWeight weights good i
 
 abbrev μ-loop : tie.MeasureT-loop
 μ-loop weights good₀ i₀ good i = length weights - i
 
 loop-holds : tie.Need-loop-holds Inv-loop μ-loop
-loop-holds c = (omega arith, refl)
+loop-holds c = tested-none _ _
 
 mul-is-weight : tie.Need-mul-is-weight Inv-loop μ-loop
 mul-is-weight c = search needs
@@ -36,10 +32,10 @@ loop-less : tie.Need-loop-less Inv-loop μ-loop
 loop-less c = search needs
 
 loop-again : tie.Need-loop-again Inv-loop μ-loop
-loop-again c = (omega arith, every-next isWeight (c .before .before .before .before .before .args .weights .now) (c .before .before .before .loop .i) 0 (c .before .before .before .loop .good) (c .before .before .loop-test .taken) _ (c .is-weight .ensures) (c .before .before .before .loop .inv .1))
+loop-again c = tested-next (c .before .before .before .loop .inv) 0 (c .before .before .loop-test .taken) (c .is-weight .ensures)
 
 returns : tie.Need-returns Inv-loop μ-loop
-returns c = every-end isWeight (c .before .before .before .args .weights .now) (c .before .loop .i) 0 (c .before .loop .good) (c .loop-test .left) (c .before .loop .inv .1)
+returns c = tested-all (c .before .loop .inv) (c .loop-test .left)
 
 pub all-weights-spec : {M : Type 1} → statement M
 all-weights-spec =

@@ -50,7 +50,11 @@ loop-less : tie.Need-loop-less Inv-loop μ-loop
 loop-less c = search needs
 
 loop-again : tie.Need-loop-again Inv-loop μ-loop
-loop-again c = (omega arith, c .before .before .before .loop .inv .1 ∙ short-next _ _ _ _ (c .before .before .loop-test .taken) (c .if2 .left), omega (arith, c .before .shared-slice-known2 .given (c .before .before .before .loop .i)))
+loop-again c = (
+  omega arith,
+  c .before .before .before .loop .inv .1 ∙ short-next _ _ _ _ (c .before .before .loop-test .taken) (c .if2 .left),
+  omega (arith, c .before .shared-slice-known2 .given (c .before .before .before .loop .i)),
+)
 
 returns-3 : tie.Need-returns-3 Inv-loop μ-loop
 returns-3 c = sym (c .before .loop .inv .1 ∙ short-end _ _ _ _ (c .loop-test .left))

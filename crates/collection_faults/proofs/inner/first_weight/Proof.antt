@@ -41,7 +41,10 @@ add-result : tie.Need-add-result Inv-loop μ-loop
 add-result c = search needs
 
 returns-2 : tie.Need-returns-2 Inv-loop μ-loop
-returns-2 c = sym (c .before .before .before .before .loop .inv .1 ∙ first-here (λ w. not (isWeight w)) _ _ 0 (c .before .before .before .loop-test .taken) (ap not (sym (c .before .is-weight .ensures)) ∙ c .if2 .taken))
+returns-2 c =
+    sym (c .before .before .before .before .loop .inv .1
+    ∙ first-here (λ w. not (isWeight w)) _ _ 0 (c .before .before .before .loop-test .taken)
+    (ap not (sym (c .before .is-weight .ensures)) ∙ c .if2 .taken))
 
 add-i : tie.Need-add-i Inv-loop μ-loop
 add-i c = search needs
@@ -50,7 +53,11 @@ loop-less : tie.Need-loop-less Inv-loop μ-loop
 loop-less c = search needs
 
 loop-again : tie.Need-loop-again Inv-loop μ-loop
-loop-again c = (omega arith, c .before .before .before .before .loop .inv .1 ∙ first-next (λ w. not (isWeight w)) _ _ 0 (c .before .before .before .loop-test .taken) (ap not (sym (c .before .is-weight .ensures)) ∙ c .if2 .left))
+loop-again c = (
+  omega arith,
+  c .before .before .before .before .loop .inv .1
+      ∙ first-next (λ w. not (isWeight w)) _ _ 0 (c .before .before .before .loop-test .taken) (ap not (sym (c .before .is-weight .ensures)) ∙ c .if2 .left),
+)
 
 returns-3 : tie.Need-returns-3 Inv-loop μ-loop
 returns-3 c = sym (c .before .loop .inv .1 ∙ first-end (λ w. not (isWeight w)) _ _ (c .loop-test .left))

@@ -12,7 +12,8 @@ use Rattle.collection_faults.proofs.inner.none_short.Statement.{stateme
 use Rattle.collection_faults.proofs.inner.none_short.Tie as tie
 
 abbrev Inv-loop : tie.InvT-loop
-Inv-loop k ends good₀ before₀ i₀ good before i = (i ≤ length ends) × (eqb (firstShort k 0 0 ends) 0 ≡ (good && noneShort k before ends i)) × (before < 4294967296)
+Inv-loop k ends good₀ before₀ i₀ good before i =
+    (i ≤ length ends) × (eqb (firstShort k 0 0 ends) 0 ≡ (good && noneShort k before ends i)) × (before < 4294967296)
 
 abbrev μ-loop : tie.MeasureT-loop
 μ-loop k ends good₀ before₀ i₀ good before i = length ends - i
@@ -41,12 +42,15 @@ loop-less c = search needs
 loop-again : tie.Need-loop-again Inv-loop μ-loop
 loop-again c = (
   omega arith,
-  none-short-next (c .before .before .before .args .k) (c .before .before .loop .before) (c .before .before .before .args .ends .now) (c .before .before .loop .i) (c .before .loop-test .taken) _ (c .before .before .loop .good) (c .before .before .loop .inv .1),
+  none-short-next (c .before .before .before .args .k) (c .before .before .loop .before) (c .before .before .before .args .ends .now)
+      (c .before .before .loop .i) (c .before .loop-test .taken) _ (c .before .before .loop .good) (c .before .before .loop .inv .1),
   omega (arith, c .shared-slice-known .given (c .before .before .loop .i)),
 )
 
 returns : tie.Need-returns Inv-loop μ-loop
-returns c = none-short-end (c .before .before .args .k) (c .before .loop .before) (c .before .before .args .ends .now) (c .before .loop .i) (c .loop-test .left) _ (c .before .loop .good) (c .before .loop .inv .1)
+returns c =
+    none-short-end (c .before .before .args .k) (c .before .loop .before) (c .before .before .args .ends .now) (c .before .loop .i)
+    (c .loop-test .left) _ (c .before .loop .good) (c .before .loop .inv .1)
 
 pub none-short-spec : {M : Type 1} → statement M
 none-short-spec =

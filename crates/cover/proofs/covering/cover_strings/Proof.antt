@@ -5,6 +5,20 @@ use borrow.Author.Needs.{needs}
 use Rattle.cover.proofs.covering.cover_strings.Statement.{statement}
 use Rattle.cover.proofs.covering.cover_strings.Tie as tie
 
+-- what the stages gave, seen from where the answer is made
+abbrev after-write-places : tie.After-slice-known4 → tie.After-write-places
+after-write-places c = c .before .before .before .before .before
+
+abbrev after-walk-all : tie.After-slice-known4 → tie.After-walk-all
+after-walk-all c = after-write-places c .before .before .before .before .before
+
+abbrev after-lay-out : tie.After-slice-known4 → tie.After-lay-out
+after-lay-out c = after-walk-all c .before .before .before .before
+
+-- the start, seen from where it returns
+abbrev start : tie.After-struct-known → tie.Start
+start c = after-lay-out (c .before) .before .before .before .before .before
+
 lay-out-requires : tie.Need-lay-out-requires
 lay-out-requires c κs = search needs
 
@@ -24,10 +38,15 @@ mul-result : tie.Need-mul-result
 mul-result c = search needs
 
 sub-result : tie.Need-sub-result
-sub-result c = start-low (c .before .before .before .before .before .before .before .before .before .before .before .before .before .before .lay-out .ensures .begun .ready .between .graph) (c .before .before .before .before .before .before .before .before .before .before .walk-all .ensures)
+sub-result c = start-low (after-lay-out c .lay-out .ensures .begun .ready .between .graph) (after-walk-all c .walk-all .ensures)
 
 add-result : tie.Need-add-result
-add-result c = omega (arith, paths-low (c .before .before .before .before .before .before .before .before .before .before .before .before .before .before .before .lay-out .ensures .begun .ready .between .graph) (c .before .before .before .before .before .before .before .before .before .before .before .walk-all .ensures), c .before .before .before .before .before .before .before .before .before .before .before .before .before .before .before .before .before .before .before .before .pre .1 .few)
+add-result c =
+    omega (
+      arith,
+      paths-low (after-lay-out (c .before) .lay-out .ensures .begun .ready .between .graph) (after-walk-all (c .before) .walk-all .ensures),
+      start c .pre .1 .few,
+    )
 
 same-length : tie.Need-same-length
 same-length c = search needs
@@ -37,8 +56,12 @@ same-length-2 c = search needs
 
 returns : tie.Need-returns
 returns c =
-    let l = c .before .before .before .before .before .before .before .before .before .before .before .before .before .before .before .lay-out .ensures in
-    covering (l .begun .ready .between .graph) (c .before .before .before .before .before .before .before .before .before .before .before .walk-all .ensures) (c .before .before .before .before .before .before .before .before .before .before .before .before .before .before .before .before .before .before .before .before .args .places .now) (c .before .before .before .before .before .before .before .before .before .before .before .before .before .before .before .before .before .before .before .before .pre .2) (l .renamed) _ (c .before .before .before .before .before .before .write-places .ensures) (c .before .before .before .zero-first .ensures) (omega (arith, c .before .before .before .before .before .before .before .before .before .before .before .before .before .before .before .before .before .before .before .before .pre .1 .size))
+    let s = start c in
+    let p = s .pre in
+    let l = after-lay-out (c .before) .lay-out .ensures in
+    covering (l .begun .ready .between .graph) (after-walk-all (c .before) .walk-all .ensures) (s .args .places .now) (p .2) (l .renamed) _
+    (after-write-places (c .before) .write-places .ensures) (c .before .before .before .zero-first .ensures)
+    (omega (arith, p .1 .size))
 
 pub cover-strings-spec : {M : Type 1} → statement M
 cover-strings-spec =

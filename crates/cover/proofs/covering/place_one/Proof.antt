@@ -3,7 +3,7 @@ use mathlib.Core.Path.{sym, ap, _∙_}
 use lib.IntN.{ℤ}
 use lib.ListN.{set}
 use Prim.Native.Nat.{_/_}
-use Rattle.cover.proofs.Signs.{kept}
+use Rattle.cover_trails.proofs.Signed.{kept}
 use Rattle.cover.proofs.PlacedHalves.{string-placed, spoke-placed, string-counted, spoke-counted}
 use borrow.Author.Needs.{needs}
 use Rattle.cover.proofs.covering.place_one.Statement.{statement}
@@ -32,12 +32,16 @@ same-length c = search needs
 
 returns : tie.Need-returns
 returns c =
-    let a = c .before .before .args in
-    (ap (λ (x : ℤ). set (a .places .now) (a .c / 2) x) (kept (c .place-for .result) (c .place-for .ok) ∙ c .place-for .ensures) ∙ sym (string-placed (a .m) (a .n) (a .c) (a .places .now) (c .before .if1 .taken)), sym (string-counted (a .m) (a .n) (a .c) (c .before .if1 .taken)))
+    let a = c .before .before .args in (
+      ap (λ (x : ℤ). set (a .places .now) (a .c / 2) x) (kept (c .place-for .result) (c .place-for .ok) ∙ c .place-for .ensures)
+          ∙ sym (string-placed (a .m) (a .n) (a .c) (a .places .now) (c .before .if1 .taken)),
+      sym (string-counted (a .m) (a .n) (a .c) (c .before .if1 .taken)),
+    )
 
 returns-2 : tie.Need-returns-2
 returns-2 c =
-    let a = c .before .args in (sym (spoke-placed (a .m) (a .n) (a .c) (a .places .now) (c .if1 .left)), sym (spoke-counted (a .m) (a .n) (a .c) (c .if1 .left)))
+    let a = c .before .args in
+    (sym (spoke-placed (a .m) (a .n) (a .c) (a .places .now) (c .if1 .left)), sym (spoke-counted (a .m) (a .n) (a .c) (c .if1 .left)))
 
 pub place-one-spec : {M : Type 1} → statement M
 place-one-spec =

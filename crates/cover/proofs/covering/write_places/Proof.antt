@@ -15,11 +15,15 @@ Inv-loop work m start places₀ n₀ p₀ places n p = Giving m start (tables m 
 abbrev μ-loop : tie.MeasureT-loop
 μ-loop work m start places₀ n₀ p₀ places n p = 3 * m - p
 
+-- the start, seen from the loop
+abbrev start-from-loop : tie.At-loop Inv-loop μ-loop → tie.Start Inv-loop μ-loop
+start-from-loop c = c .before .before
+
 loop-holds : tie.Need-loop-holds Inv-loop μ-loop
 loop-holds c = record { inside = c .before .pre .1; few = omega arith; size = c .before .pre .2; rest = refl }
 
 mul-loop : tie.Need-mul-loop Inv-loop μ-loop
-mul-loop c = omega (arith, c .before .before .pre .0 .few)
+mul-loop c = omega (arith, start-from-loop c .pre .0 .few)
 
 mul-wide : tie.Need-mul-wide Inv-loop μ-loop
 mul-wide c = search needs
@@ -37,7 +41,10 @@ wide-requires : tie.Need-wide-requires Inv-loop μ-loop
 wide-requires c κs = search needs
 
 place-one-requires : tie.Need-place-one-requires Inv-loop μ-loop
-place-one-requires c κs = (c .before .before .before .before .loop .inv .size, omega (arith, c .before .before .before .before .before .before .pre .0 .few, c .before .before .before .before .loop .inv .few))
+place-one-requires c κs =
+    let t = c .before .before .before .before in
+    let l = t .loop in
+    (l .inv .size, omega (arith, start-from-loop t .pre .0 .few, l .inv .few))
 
 add-p : tie.Need-add-p Inv-loop μ-loop
 add-p c = search needs
@@ -46,13 +53,17 @@ loop-less : tie.Need-loop-less Inv-loop μ-loop
 loop-less c = search needs
 
 loop-again : tie.Need-loop-again Inv-loop μ-loop
-loop-again c = giving-on (c .before .before .before .before .before .before .loop .inv) (stack-size (c .before .before .before .before .before .before .before .before .pre .0)) (c .before .before .before .before .before .loop-test .taken) _ (c .before .before .before .wide .ensures ∙ stack-at _ _ _ (c .before .before .before .before .before .loop-test .taken)) (c .before .place-one .ensures .0) (c .before .place-one .ensures .1)
+loop-again c =
+    let t = c .before .before .before .before .before in
+    giving-on (t .before .loop .inv) (stack-size (start-from-loop (t .before) .pre .0)) (t .loop-test .taken) _
+    (c .before .before .before .wide .ensures ∙ stack-at _ _ _ (t .loop-test .taken)) (c .before .place-one .ensures .0)
+    (c .before .place-one .ensures .1)
 
 same-length : tie.Need-same-length Inv-loop μ-loop
-same-length c = omega (arith, c .before .loop .inv .size, c .before .before .before .pre .2)
+same-length c = omega (arith, c .before .loop .inv .size, start-from-loop (c .before) .pre .2)
 
 returns : tie.Need-returns Inv-loop μ-loop
-returns c = giving-end (c .before .loop .inv) (stack-size (c .before .before .before .pre .0)) (c .loop-test .left)
+returns c = giving-end (c .before .loop .inv) (stack-size (start-from-loop (c .before) .pre .0)) (c .loop-test .left)
 
 pub write-places-spec : {M : Type 1} → statement M
 write-places-spec =

@@ -11,12 +11,20 @@ use borrow.Author.Needs.{needs}
 use Rattle.cover_tours.proofs.inner.find.Statement.{statement}
 use Rattle.cover_tours.proofs.inner.find.Tie as tie
 
+-- the start, seen from the call of `seek`
+abbrev start : tie.After-seek-arg → tie.Start
+start c = c .before .before .before .before
+
 -- the search starts at the cursor
 from-cursor : (c : tie.After-wide) → let a = c .before .before .before .args in c .wide .result ≡ getD (tables (a .m) (a .work .now) .cursors) (a .v) 0
 from-cursor c = c .wide .ensures ∙ cursor-at _ _ _ (omega (arith, c .before .before .before .pre .0 .1, c .before .before .before .pre .0 .0 .some))
 
-sought : (c : tie.After-seek) → let a = c .before .before .before .before .before .args in Sought (a .m) (tables (a .m) (a .work .now)) (a .v) (getD (tables (a .m) (a .work .now) .cursors) (a .v) 0) (c .seek .result)
-sought c = let a = c .before .before .before .before .before .args in subst (λ (x : ℕ). Sought (a .m) (tables (a .m) (a .work .now)) (a .v) x (c .seek .result)) (from-cursor (c .before .before)) (c .seek .ensures)
+sought : (c : tie.After-seek)
+    → let a = start (c .before) .args in Sought (a .m) (tables (a .m) (a .work .now)) (a .v) (getD (tables (a .m) (a .work .now) .cursors) (a .v) 0)
+    (c .seek .result)
+sought c =
+    let a = start (c .before) .args in
+    subst (λ (x : ℕ). Sought (a .m) (tables (a .m) (a .work .now)) (a .v) x (c .seek .result)) (from-cursor (c .before .before)) (c .seek .ensures)
 
 mul-at : tie.Need-mul-at
 mul-at c = search needs
@@ -34,10 +42,12 @@ wide-requires : tie.Need-wide-requires
 wide-requires c κs = search needs
 
 seek-requires : tie.Need-seek-requires
-seek-requires c κs = ((c .before .before .before .before .pre .0 .0, rw (from-cursor (c .before)) (c .before .before .before .before .pre .1 .1 _ (c .before .before .before .before .pre .0 .1) .high)), c .before .before .before .before .pre .1 .0)
+seek-requires c κs =
+    let p = start c .pre in
+    ((p .0 .0, rw (from-cursor (c .before)) (p .1 .1 _ (p .0 .1) .high)), p .1 .0)
 
 found-at-requires : tie.Need-found-at-requires
-found-at-requires c κs = let p = c .before .before .before .before .before .before .pre in (p .0, (p .1 .0, (p .1 .1 _ (p .0 .1), sought (c .before))))
+found-at-requires c κs = let p = start (c .before .before) .pre in (p .0, (p .1 .0, (p .1 .1 _ (p .0 .1), sought (c .before))))
 
 cast-work : tie.Need-cast-work
 cast-work c = search needs
@@ -53,12 +63,14 @@ same-length c = search needs
 
 returns : tie.Need-returns
 returns c =
-    let p = c .before .before .before .before .before .before .before .pre in
+    let p = start (c .before .before .before) .pre in
     let s = sought (c .before .before) in
     record {
       cursor = c .before .before .seek .result;
       moves = tables-cursor _ _ _ _ (omega (arith, p .0 .1, p .0 .0 .some));
-      kept = subst (Cursors _) (sym (tables-cursor _ _ _ _ (omega (arith, p .0 .1, p .0 .0 .some)))) (cursors-moved (p .1 .1 _ (p .0 .1)) s (p .1 .1) (omega (arith, cursors-size (p .0 .0), p .0 .1, p .0 .0 .some)));
+      kept =
+          subst (Cursors _) (sym (tables-cursor _ _ _ _ (omega (arith, p .0 .1, p .0 .0 .some))))
+          (cursors-moved (p .1 .1 _ (p .0 .1)) s (p .1 .1) (omega (arith, cursors-size (p .0 .0), p .0 .1, p .0 .0 .some)));
       answer = c .found-at .ensures;
     }
 

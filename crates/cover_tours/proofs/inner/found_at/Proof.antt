@@ -51,10 +51,12 @@ near-requires c κs = search needs
 
 returns : tie.Need-returns
 returns c =
-    let p = c .before .before .before .before .before .before .pre in
-    let h = c .before .before .wide .ensures ∙ row-at _ _ _ (c .before .before .before .before .if1 .taken) in
-    let a = c .before .before .before .before .before .before .args in
-    subst (Answer (a .m) (tables (a .m) (a .work .now)) (a .v)) (sym h) (present (p .1 .1 .0) (p .1 .1 .1) (p .1 .0) (c .before .before .before .before .if1 .taken) (sym (ap (near _ _) h) ∙ (sym (c .before .near .ensures) ∙ c .if2 .taken)))
+    let t = c .before .before .before .before in
+    let p = t .before .before .pre in
+    let h = c .before .before .wide .ensures ∙ row-at _ _ _ (t .if1 .taken) in
+    let a = t .before .before .args in
+    subst (Answer (a .m) (tables (a .m) (a .work .now)) (a .v)) (sym h)
+    (present (p .1 .1 .0) (p .1 .1 .1) (p .1 .0) (t .if1 .taken) (sym (ap (near _ _) h) ∙ (sym (c .before .near .ensures) ∙ c .if2 .taken)))
 
 mul-if3 : tie.Need-mul-if3
 mul-if3 c = search needs
@@ -81,7 +83,10 @@ add-result-2 : tie.Need-add-result-2
 add-result-2 c = search needs
 
 returns-2 : tie.Need-returns-2
-returns-2 c = let a = c .before .before .before .before .before .args in own-spoke (a .m) (tables (a .m) (a .work .now)) (a .v) (c .before .before .if3 .taken) (sym (own-flag _ _ _ (c .before .before .if3 .taken)) ∙ c .if4 .taken)
+returns-2 c =
+    let a = c .before .before .before .before .before .args in
+    own-spoke (a .m) (tables (a .m) (a .work .now)) (a .v) (c .before .before .if3 .taken)
+    (sym (own-flag _ _ _ (c .before .before .if3 .taken)) ∙ c .if4 .taken)
 
 mul-result-2 : tie.Need-mul-result-2
 mul-result-2 c = search needs

@@ -40,7 +40,9 @@ same-length : tie.Need-same-length
 same-length c = search needs
 
 returns : tie.Need-returns
-returns c = (tables-returned _ _ _ _ (c .before .before .before .before .before .pre .1) (c .before .before .before .before .before .pre .2), c .near .ensures ∙ ap (near _ _) (c .before .wide .ensures ∙ stack-at _ _ _ (c .before .before .before .before .before .pre .1)))
+returns c =
+    let p = c .before .before .before .before .before .pre in
+    (tables-returned _ _ _ _ (p .1) (p .2), c .near .ensures ∙ ap (near _ _) (c .before .wide .ensures ∙ stack-at _ _ _ (p .1)))
 
 pub give-back-spec : {M : Type 1} → statement M
 give-back-spec =

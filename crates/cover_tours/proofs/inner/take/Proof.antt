@@ -8,6 +8,10 @@ use borrow.Author.Needs.{needs}
 use Rattle.cover_tours.proofs.inner.take.Statement.{statement}
 use Rattle.cover_tours.proofs.inner.take.Tie as tie
 
+-- the start, seen from where it returns
+abbrev start : tie.After-near → tie.Start
+start c = c .before .before .before .before
+
 other-requires : tie.Need-other-requires
 other-requires c κs = search needs
 
@@ -39,13 +43,15 @@ mul-work-4 : tie.Need-mul-work-4
 mul-work-4 c = search needs
 
 slice-write-work-2 : tie.Need-slice-write-work-2
-slice-write-work-2 c = simp length-set (omega (arith, c .before .before .before .before .pre .0 .size))
+slice-write-work-2 c = simp length-set (omega (arith, start c .pre .0 .size))
 
 same-length : tie.Need-same-length
 same-length c = search needs
 
 returns : tie.Need-returns
-returns c = (tables-taken _ _ _ _ (c .before .before .before .before .pre .1) (omega (arith, c .before .before .before .before .pre .2)), c .near .ensures ∙ ap (near _ _) (c .before .other .ensures))
+returns c =
+    let p = start c .pre in
+    (tables-taken _ _ _ _ (p .1) (omega (arith, p .2)), c .near .ensures ∙ ap (near _ _) (c .before .other .ensures))
 
 pub take-spec : {M : Type 1} → statement M
 take-spec =

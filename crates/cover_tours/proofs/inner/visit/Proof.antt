@@ -7,6 +7,10 @@ use borrow.Author.Needs.{needs}
 use Rattle.cover_tours.proofs.inner.visit.Statement.{statement}
 use Rattle.cover_tours.proofs.inner.visit.Tie as tie
 
+-- the start, seen from the call of `walk`
+abbrev start : tie.After-walk-arg → tie.Start
+start c = c .before .before .before .before .before .before
+
 mul-if1 : tie.Need-mul-if1
 mul-if1 c = search needs
 
@@ -20,7 +24,9 @@ slice-read-if1 : tie.Need-slice-read-if1
 slice-read-if1 c = search needs
 
 returns : tie.Need-returns
-returns c = (omega arith, visited-used (c .before .before .before .pre .1 .1) _ (c .before .before .before .pre .0 .1) (λ q. c .if1 .taken (used-at _ _ _ (omega (arith, c .before .before .before .pre .0 .1)) ∙ q)))
+returns c =
+    let p = c .before .before .before .pre in
+    (omega arith, visited-used (p .1 .1) _ (p .0 .1) (λ q. c .if1 .taken (used-at _ _ _ (omega (arith, p .0 .1)) ∙ q)))
 
 mul-near : tie.Need-mul-near
 mul-near c = search needs
@@ -29,7 +35,14 @@ near-requires : tie.Need-near-requires
 near-requires c κs = search needs
 
 walk-requires : tie.Need-walk-requires
-walk-requires c κs = ((c .before .before .before .before .before .before .pre .0 .0, rw (c .before .near .ensures) (at-vertex (c .before .before .before .before .before .before .pre .1 .1) _ (c .before .before .before .before .before .before .pre .0 .1) (sym (used-at _ _ _ (omega (arith, c .before .before .before .before .before .before .pre .0 .1))) ∙ c .before .before .before .if1 .left))), c .before .before .before .before .before .before .pre .1 .1 .ready)
+walk-requires c κs =
+    let p = start c .pre in (
+      (
+        p .0 .0,
+        rw (c .before .near .ensures) (at-vertex (p .1 .1) _ (p .0 .1) (sym (used-at _ _ _ (omega (arith, p .0 .1))) ∙ c .before .before .before .if1 .left)),
+      ),
+      p .1 .1 .ready,
+    )
 
 add-t9 : tie.Need-add-t9
 add-t9 c = search needs
@@ -38,7 +51,13 @@ same-length : tie.Need-same-length
 same-length c = search needs
 
 returns-2 : tie.Need-returns-2
-returns-2 c = (omega arith, visited-from (c .before .before .before .before .before .before .before .before .before .before .pre .1 .1) _ (c .before .before .before .before .before .before .before .before .before .before .pre .0 .1) (sym (used-at _ _ _ (omega (arith, c .before .before .before .before .before .before .before .before .before .before .pre .0 .1))) ∙ c .before .before .before .before .before .before .before .if1 .left) (c .before .before .before .before .before .near .ensures) (c .before .before .before .walk .ensures))
+returns-2 c =
+    let w = c .before .before .before in
+    let e = w .before .before .before .before in
+    let p = start (w .before) .pre in (
+      omega arith,
+      visited-from (p .1 .1) _ (p .0 .1) (sym (used-at _ _ _ (omega (arith, p .0 .1))) ∙ e .if1 .left) (w .before .before .near .ensures) (w .walk .ensures),
+    )
 
 pub visit-spec : {M : Type 1} → statement M
 visit-spec =

@@ -12,7 +12,13 @@ use Rattle.cover_tours.proofs.inner.walk_all.Statement.{statement}
 use Rattle.cover_tours.proofs.inner.walk_all.Tie as tie
 
 abbrev Inv-loop : tie.InvT-loop
-Inv-loop work₀ m start tour₀ i₀ work tour i = Fits m work × (i ≤ m) × (tour .walks ≤ i) × Same (tables m work₀) (tables m work) × Touring m (tables m work) (tour .start) (tour .walks) × ((e : ℕ) → e < i → getD (tables m work .used) e 0 ≡ 0 → ⊥)
+Inv-loop work₀ m start tour₀ i₀ work tour i =
+    Fits m work
+    × (i ≤ m)
+    × (tour .walks ≤ i)
+    × Same (tables m work₀) (tables m work)
+    × Touring m (tables m work) (tour .start) (tour .walks)
+    × ((e : ℕ) → e < i → getD (tables m work .used) e 0 ≡ 0 → ⊥)
 
 abbrev μ-loop : tie.MeasureT-loop
 μ-loop work₀ m start tour₀ i₀ work tour i = m - i
@@ -27,10 +33,20 @@ walk-requires : tie.Need-walk-requires Inv-loop μ-loop
 walk-requires c κs = ((c .before .before .pre .0, omega arith), c .before .before .pre .1 .ready)
 
 loop-holds : tie.Need-loop-holds Inv-loop μ-loop
-loop-holds c = (fits-same (c .before .before .before .before .before .pre .0) (omega arith), omega arith, omega arith, record { verts = refl; rows = refl }, touring-first (c .before .before .before .before .before .pre .1) (c .before .before .walk .ensures), λ e l. absurd (omega arith))
+loop-holds c =
+    let p = c .before .before .before .before .before .pre in (
+      fits-same (p .0) (omega arith),
+      omega arith,
+      omega arith,
+      record { verts = refl; rows = refl },
+      touring-first (p .1) (c .before .before .walk .ensures),
+      λ e l. absurd (omega arith),
+    )
 
 visit-requires : tie.Need-visit-requires Inv-loop μ-loop
-visit-requires c κs = ((c .before .before .loop .inv .0, c .before .loop-test .taken), (c .before .before .loop .inv .2, c .before .before .loop .inv .4))
+visit-requires c κs =
+    let l = c .before .before .loop in
+    ((l .inv .0, c .before .loop-test .taken), (l .inv .2, l .inv .4))
 
 add-i : tie.Need-add-i Inv-loop μ-loop
 add-i c = search needs
@@ -48,7 +64,9 @@ same-length : tie.Need-same-length Inv-loop μ-loop
 same-length c = search needs
 
 returns : tie.Need-returns Inv-loop μ-loop
-returns c = tour-done (same-trans (c .before .before .before .before .walk .ensures .same) (c .before .loop .inv .3)) (c .before .loop .inv .4) (λ e l. c .before .loop .inv .5 e (omega arith))
+returns c =
+    tour-done (same-trans (c .before .before .before .before .walk .ensures .same) (c .before .loop .inv .3)) (c .before .loop .inv .4)
+    (λ e l. c .before .loop .inv .5 e (omega arith))
 
 pub walk-all-spec : {M : Type 1} → statement M
 walk-all-spec =

@@ -5,6 +5,18 @@ use borrow.Author.Needs.{needs}
 use Rattle.cover_vertices.proofs.inner.blank.Statement.{statement}
 use Rattle.cover_vertices.proofs.inner.blank.Tie as tie
 
+-- what the third `write_ladder` gave, seen from where it returns
+abbrev after-write-ladder3 : tie.After-slice-known5 → tie.After-write-ladder3
+after-write-ladder3 c = c .before .before .before .before .before .before
+
+-- what the second `write_ladder` gave, seen from where it returns
+abbrev after-write-ladder2 : tie.After-slice-known5 → tie.After-write-ladder2
+after-write-ladder2 c = after-write-ladder3 c .before .before .before .before
+
+-- what the first `write_ladder` gave, seen from where it returns
+abbrev after-write-ladder : tie.After-slice-known5 → tie.After-write-ladder
+after-write-ladder c = after-write-ladder2 c .before .before .before .before
+
 mul-write-ladder : tie.Need-mul-write-ladder
 mul-write-ladder c = search needs
 
@@ -48,7 +60,10 @@ same-length : tie.Need-same-length
 same-length c = search needs
 
 returns : tie.Need-returns
-returns c = blanked (c .before .before .before .before .before .before .before .before .before .before .before .before .before .before .before .before .before .pre) (c .before .before .before .before .before .before .before .before .before .before .before .before .before .before .write-ladder .ensures) (c .before .before .before .before .before .before .before .before .before .before .write-ladder2 .ensures) (c .before .before .before .before .before .before .write-ladder3 .ensures) (c .before .before .write-ladder4 .ensures) (omega arith) (omega arith) (omega arith)
+returns c =
+    let w = after-write-ladder c in
+    blanked (w .before .before .before .pre) (w .write-ladder .ensures) (after-write-ladder2 c .write-ladder2 .ensures)
+    (after-write-ladder3 c .write-ladder3 .ensures) (c .before .before .write-ladder4 .ensures) (omega arith) (omega arith) (omega arith)
 
 pub blank-spec : {M : Type 1} → statement M
 blank-spec =

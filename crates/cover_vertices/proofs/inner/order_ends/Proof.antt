@@ -12,6 +12,14 @@ use borrow.Author.Needs.{needs}
 use Rattle.cover_vertices.proofs.inner.order_ends.Statement.{statement}
 use Rattle.cover_vertices.proofs.inner.order_ends.Tie as tie
 
+-- what `write_weights` gave, seen from the call of `sort_by_weight`
+abbrev after-write-weights : tie.After-sort-by-weight-arg → tie.After-write-weights
+after-write-weights c = c .before .before .before .before .before .before .before
+
+-- the start, seen from the call of `sort_by_weight`
+abbrev start : tie.After-sort-by-weight-arg → tie.Start
+start c = after-write-weights c .before .before .before .before .before
+
 mul-write-weights : tie.Need-mul-write-weights
 mul-write-weights c = search needs
 
@@ -41,13 +49,19 @@ mul-sort-by-weight-4 c = search needs
 
 sort-by-weight-requires : tie.Need-sort-by-weight-requires
 sort-by-weight-requires c κs =
-    let a = c .before .before .before .before .before .before .before .before .before .before .before .before .args in
-    let f = c .before .before .before .before .before .before .before .before .before .before .before .before .pre .1 in
+    let write-weights = after-write-weights c .write-weights in
+    let s = start c in
+    let p = s .pre in
+    let a = s .args in
+    let f = p .1 in
     let l = length-keys (a .k) (a .ends .now) (a .weights .now) in (
       laid (length (a .ends .now)) _ (f .few) (omega (arith, f .size)),
       (
-        ids-low (allEndWeights (endsFrom (a .k) 0 (a .ends .now) (a .weights .now))) f l (c .before .before .before .before .before .before .before .write-weights .ensures) (c .before .before .before .write-ladder .ensures) (omega arith),
-        subst (All (λ k. k < 16777216)) (sym (keys-then (allEndWeights (endsFrom (a .k) 0 (a .ends .now) (a .weights .now))) f l (c .before .before .before .before .before .before .before .write-weights .ensures) (c .before .before .before .write-ladder .ensures) (omega arith))) (keys-low (a .k) (a .ends .now) (a .weights .now) (c .before .before .before .before .before .before .before .before .before .before .before .before .pre .0)),
+        ids-low (allEndWeights (endsFrom (a .k) 0 (a .ends .now) (a .weights .now))) f l (write-weights .ensures)
+            (c .before .before .before .write-ladder .ensures) (omega arith),
+        subst (All (λ k. k < 16777216)) (sym (keys-then (allEndWeights (endsFrom (a .k) 0 (a .ends .now) (a .weights .now))) f l
+            (write-weights .ensures) (c .before .before .before .write-ladder .ensures) (omega arith)))
+            (keys-low (a .k) (a .ends .now) (a .weights .now) (p .0)),
       ),
     )
 
@@ -56,8 +70,13 @@ same-length c = search needs
 
 returns : tie.Need-returns
 returns c =
-    let a = c .before .before .before .before .before .before .before .before .before .before .before .before .before .before .before .args in
-    ordered _ (c .before .before .before .before .before .before .before .before .before .before .before .before .before .before .before .pre .1) (length-keys (a .k) (a .ends .now) (a .weights .now)) (c .before .before .before .before .before .before .before .before .before .before .write-weights .ensures) (c .before .before .before .before .before .before .write-ladder .ensures) (omega arith) (omega arith) (c .before .before .sort-by-weight .ensures)
+    let q = c .before .before .before in
+    let s = start q in
+    let a = s .args in
+    ordered _ (s .pre .1) (length-keys (a .k) (a .ends .now) (a .weights .now))
+    (after-write-weights q .write-weights .ensures)
+    (q .before .before .before .write-ladder .ensures) (omega arith) (omega arith)
+    (c .before .before .sort-by-weight .ensures)
 
 pub order-ends-spec : {M : Type 1} → statement M
 order-ends-spec =

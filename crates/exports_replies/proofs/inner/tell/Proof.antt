@@ -70,19 +70,26 @@ same-length-3 : tie.Need-same-length-3
 same-length-3 c = search needs
 
 returns-3 : tie.Need-returns-3
-returns-3 c = let a = c .before .before .before in let g = c .before .reply3 .given in tells _ (g .1) (stored-two (a .args .answer .now) (g .0 .0) (g .0 .1 .0) (a .pre))
+returns-3 c =
+    let a = c .before .before .before in let g = c .before .reply3 .given in tells _ (g .1) (stored-two (a .args .answer .now) (g .0 .0) (g .0 .1 .0) (a .pre))
 
 same-length-4 : tie.Need-same-length-4
 same-length-4 c = search needs
 
 returns-4 : tie.Need-returns-4
-returns-4 c = let a = c .before .before .before in let g = c .before .reply4 .given in tells _ (g .1) (stored-three (a .args .answer .now) (g .0 .0) (g .0 .1 .0) (g .0 .1 .1 .0) (a .pre))
+returns-4 c =
+    let a = c .before .before .before in
+    let g = c .before .reply4 .given in
+    tells _ (g .1) (stored-three (a .args .answer .now) (g .0 .0) (g .0 .1 .0) (g .0 .1 .1 .0) (a .pre))
 
 same-length-5 : tie.Need-same-length-5
 same-length-5 c = search needs
 
 returns-5 : tie.Need-returns-5
-returns-5 c = let a = c .before .before .before in let g = c .before .reply5 .given in tells _ (g .1) (stored-four (a .args .answer .now) (g .0 .0) (g .0 .1 .0) (g .0 .1 .1 .0) (g .0 .1 .1 .1 .0) (a .pre))
+returns-5 c =
+    let a = c .before .before .before in
+    let g = c .before .reply5 .given in
+    tells _ (g .1) (stored-four (a .args .answer .now) (g .0 .0) (g .0 .1 .0) (g .0 .1 .1 .0) (g .0 .1 .1 .1 .0) (a .pre))
 
 pub tell-spec : {M : Type 1} → statement M
 tell-spec =

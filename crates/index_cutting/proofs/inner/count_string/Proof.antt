@@ -18,17 +18,24 @@ Inv-loop k p letters a n c₀ v₀ count₀ i₀ c v count i = (1 ≤ i) × (i �
 abbrev μ-loop : tie.MeasureT-loop
 μ-loop k p letters a n c₀ v₀ count₀ i₀ c v count i = n - i
 
+-- the start, seen from the loop; a turn of the loop, seen from where it has the next minimizer
+abbrev start : tie.At-loop Inv-loop μ-loop → tie.Start Inv-loop μ-loop
+start c = c .before .before .before .before .before
+
+abbrev turn : tie.After-slide Inv-loop μ-loop → tie.In-loop Inv-loop μ-loop
+turn c = c .before .before .before .before
+
 -- the minimizer of the k-mer that a turn of the loop comes to, and how the pass goes on from it
 came : (c : tie.After-slide Inv-loop μ-loop) (w : ℕ) → w ≡ c .slide .result
-    → let a = c .before .before .before .before .before .before .before .before .before .before .args in
-    let i = c .before .before .before .before .before .loop .i in
+    → let a = start (turn c .before) .args in
+    let i = turn c .before .loop .i in
     (w ≡ minimizerAt (a .k) (a .p) (a .letters .now) (a .a + i)) × Carried (a .k) (a .p) (a .letters .now) (a .a + (i + 1)) (c .before .roll .result) w
 came c w e =
-    let t = c .before .before .before .before .before .before .before .before .before .before in
+    let t = start (turn c .before) in
     let a = t .args in
-    let l = c .before .before .before .before .before .loop in
-    carried-on (a .k) (a .p) (a .letters .now) (t .pre .1 .1) (every-all isLetter _ (t .pre .0)) (omega arith) (t .pre .1 .2) (a .a) (l .i) _ _ _ _ w (omega arith)
-    (l .inv .2) (c .before .before .letter-code .ensures) (c .before .roll .ensures) (e ∙ c .slide .ensures)
+    let l = turn c .before .loop in
+    carried-on (a .k) (a .p) (a .letters .now) (t .pre .1 .1) (every-all isLetter _ (t .pre .0)) (omega arith) (t .pre .1 .2) (a .a) (l .i)
+    _ _ _ _ w (omega arith) (l .inv .2) (c .before .before .letter-code .ensures) (c .before .roll .ensures) (e ∙ c .slide .ensures)
 
 add-word-code : tie.Need-add-word-code Inv-loop μ-loop
 add-word-code c = search needs
@@ -56,7 +63,8 @@ loop-holds c =
     let t = c .before .before .before .before in
     let a = t .args in
     let r = t .pre .1 in
-    let e = carried-begin (a .k) (a .p) (a .letters .now) (r .1) (every-all isLetter _ (t .pre .0)) (omega arith) (r .2) (a .a) _ _ (omega arith) (c .before .word-code .ensures) (c .find .ensures) in
+    let e = carried-begin (a .k) (a .p) (a .letters .now) (r .1) (every-all isLetter _ (t .pre .0)) (omega arith) (r .2) (a .a) _ _ (omega arith)
+    (c .before .word-code .ensures) (c .find .ensures) in
     (omega arith, r .3, e .1, counting-begin (minimizerAt (a .k) (a .p) (a .letters .now)) (a .a) (a .n) _ (r .3) (e .0))
 
 add-letter-code : tie.Need-add-letter-code Inv-loop μ-loop
@@ -75,43 +83,58 @@ letter-code-requires : tie.Need-letter-code-requires Inv-loop μ-loop
 letter-code-requires c κs = search needs
 
 roll-requires : tie.Need-roll-requires Inv-loop μ-loop
-roll-requires c κs = roll-fits _ _ _ _ _ (c .before .before .before .loop .inv .2) (c .before .before .before .before .before .before .before .before .pre .1 .2) (c .letter-code .ensures)
+roll-requires c κs =
+    roll-fits _ _ _ _ _ (c .before .before .before .loop .inv .2) (start (c .before .before .before) .pre .1 .2) (c .letter-code .ensures)
 
 sub-slide : tie.Need-sub-slide Inv-loop μ-loop
 sub-slide c = search needs
 
 slide-requires : tie.Need-slide-requires Inv-loop μ-loop
-slide-requires c κs = slide-fits _ _ _ _ _ (c .before .before .before .before .loop .inv .2) (c .before .before .before .before .before .before .before .before .before .pre .1 .2) (c .before .letter-code .ensures) _ (c .before .before .before .before .before .before .before .before .before .pre .1 .1) (c .roll .ensures)
+slide-requires c κs =
+    let l = c .before .before .before .before in
+    let p = start l .pre in
+    slide-fits _ _ _ _ _ (l .loop .inv .2) (p .1 .2) (c .before .letter-code .ensures) _ (p .1 .1) (c .roll .ensures)
 
 add-i : tie.Need-add-i Inv-loop μ-loop
 add-i c = search needs
 
 add-count : tie.Need-add-count Inv-loop μ-loop
-add-count c = omega (arith, c .before .before .before .before .before .before .loop .inv .3 .small)
+add-count c = omega (arith, turn (c .before) .before .loop .inv .3 .small)
 
 loop-less : tie.Need-loop-less Inv-loop μ-loop
 loop-less c = search needs
 
 loop-again : tie.Need-loop-again Inv-loop μ-loop
 loop-again c =
-    let a = c .before .before .before .before .before .before .before .before .before .before .before .args in
-    let l = c .before .before .before .before .before .before .loop in
-    let e = came (c .before) _ refl in
-    (omega arith, omega arith, e .1, counting-cut (minimizerAt (a .k) (a .p) (a .letters .now)) (a .a) (a .n) (l .count) (l .v) (l .i) (l .inv .3) _ (c .before .before .before .before .before .loop-test .taken) (e .0) (c .if1 .taken))
+    let t = turn (c .before) in
+    let a = start (t .before) .args in
+    let l = t .before .loop in
+    let e = came (c .before) _ refl in (
+      omega arith,
+      omega arith,
+      e .1,
+      counting-cut (minimizerAt (a .k) (a .p) (a .letters .now)) (a .a) (a .n) (l .count) (l .v) (l .i) (l .inv .3) _ (t .loop-test .taken) (e .0)
+          (c .if1 .taken),
+    )
 
 loop-less-2 : tie.Need-loop-less-2 Inv-loop μ-loop
 loop-less-2 c = search needs
 
 loop-again-2 : tie.Need-loop-again-2 Inv-loop μ-loop
 loop-again-2 c =
-    let a = c .before .before .before .before .before .before .before .before .before .before .before .args in
-    let l = c .before .before .before .before .before .before .loop in
-    let e = came (c .before) _ (sym (c .if1 .left)) in
-    (omega arith, omega arith, e .1, counting-on (minimizerAt (a .k) (a .p) (a .letters .now)) (a .a) (a .n) (l .count) (l .v) (l .i) (l .inv .3) _ (c .before .before .before .before .before .loop-test .taken) (e .0) refl)
+    let t = turn (c .before) in
+    let a = start (t .before) .args in
+    let l = t .before .loop in
+    let e = came (c .before) _ (sym (c .if1 .left)) in (
+      omega arith,
+      omega arith,
+      e .1,
+      counting-on (minimizerAt (a .k) (a .p) (a .letters .now)) (a .a) (a .n) (l .count) (l .v) (l .i) (l .inv .3) _ (t .loop-test .taken) (e .0) refl,
+    )
 
 returns : tie.Need-returns Inv-loop μ-loop
 returns c =
-    let a = c .before .before .before .before .before .before .args in
+    let a = start (c .before) .args in
     let l = c .before .loop in
     counting-end (minimizerAt (a .k) (a .p) (a .letters .now)) (a .a) (a .n) (l .count) (l .v) (l .i) (l .inv .3) (omega arith)
 

@@ -16,12 +16,20 @@ Inv-loop k p letters ends firsts₀ positions₀ numbers₀ keys₀ at₀ h₀ o
 abbrev μ-loop : tie.MeasureT-loop
 μ-loop k p letters ends firsts₀ positions₀ numbers₀ keys₀ at₀ h₀ o₀ i₀ firsts positions numbers keys at h o i = length ends - i
 
--- the loop, seen from where a string is cut, and the start, seen from the loop
-abbrev turn : tie.After-cut-string Inv-loop μ-loop → tie.At-loop Inv-loop μ-loop
-turn c = c .before .before .before .before .before .before .before
-
+-- the start, seen from the loop
 abbrev start : tie.At-loop Inv-loop μ-loop → tie.Start Inv-loop μ-loop
 start c = c .before .before .before .before .before .before .before
+
+-- a turn of the loop, seen from the call of `cut_string`
+abbrev turn : tie.After-cut-string-arg4 Inv-loop μ-loop → tie.In-loop Inv-loop μ-loop
+turn c = c .before .before .before .before .before
+
+-- what `cut_string` gave, and the turn, seen from the turn's end
+abbrev after-cut-string : tie.After-slice-known8 Inv-loop μ-loop → tie.After-cut-string Inv-loop μ-loop
+after-cut-string c = c .before .before .before .before .before .before .before .before
+
+abbrev turn-from-end : tie.After-slice-known8 Inv-loop μ-loop → tie.In-loop Inv-loop μ-loop
+turn-from-end c = turn (after-cut-string c .before)
 
 loop-holds : tie.Need-loop-holds Inv-loop μ-loop
 loop-holds c = let r = c .before .before .before .before .before .before .pre in passed-begin (r .0 .ends-long) (r .0 .ends-last) (r .1 .1)
@@ -39,18 +47,19 @@ add-n : tie.Need-add-n Inv-loop μ-loop
 add-n c = omega (arith, c .shared-slice-known3 .given (c .before .before .loop .i))
 
 add-n-2 : tie.Need-add-n-2 Inv-loop μ-loop
-add-n-2 c = omega (arith, next-string (c .before .before .loop .inv .strings) (c .before .loop-test .taken), c .before .before .before .before .before .before .before .before .before .pre .0 .few-letters)
+add-n-2 c = omega (arith, next-string (c .before .before .loop .inv .strings) (c .before .loop-test .taken), start (c .before .before) .pre .0 .few-letters)
 
 sub-n : tie.Need-sub-n Inv-loop μ-loop
 sub-n c = omega (arith, next-string (c .before .before .loop .inv .strings) (c .before .loop-test .taken))
 
 cut-string-requires : tie.Need-cut-string-requires Inv-loop μ-loop
 cut-string-requires c κs =
-    let l = c .before .before .before .before .before .before in
+    let u = turn c in
+    let l = u .before in
     let r = start l .pre in
     let p = r .1 .0 in
     let i = l .loop .inv in
-    let t = c .before .before .before .before .before .loop-test .taken in
+    let t = u .loop-test .taken in
     let e = next-string (i .strings) t in
     let d = r .0 .few-letters in (
       r .0 .all-letters,
@@ -72,21 +81,23 @@ cut-string-requires c κs =
 
 add-h : tie.Need-add-h Inv-loop μ-loop
 add-h c =
-    let l = turn (c .before .before .before .before .before .before .before .before) in
+    let t = turn-from-end c in
+    let l = t .before in
     let i = l .loop .inv in
-    omega (arith, next-string (i .strings) (c .before .before .before .before .before .before .before .before .before .before .before .before .before .before .loop-test .taken), i .strings .few, i .few, start l .pre .0 .few-letters)
+    omega (arith, next-string (i .strings) (t .loop-test .taken), i .strings .few, i .few, start l .pre .0 .few-letters)
 
 add-i : tie.Need-add-i Inv-loop μ-loop
-add-i c = omega (arith, c .before .before .before .before .before .before .before .before .before .before .before .before .before .before .loop-test .taken)
+add-i c = omega (arith, turn-from-end c .loop-test .taken)
 
 loop-less : tie.Need-loop-less Inv-loop μ-loop
 loop-less c = search needs
 
 loop-again : tie.Need-loop-again Inv-loop μ-loop
 loop-again c =
-    let s = c .before .before .before .before .before .before .before .before in
-    let l = turn s in
-    passed-on (l .loop .inv) (c .before .before .before .before .before .before .before .before .before .before .before .before .before .before .loop-test .taken) (start l .pre .0 .ends-long .k-low) _ (s .cut-string .ensures .0) (s .cut-string .ensures .1)
+    let s = after-cut-string c in
+    let t = turn (s .before) in
+    let e = s .cut-string .ensures in
+    passed-on (t .before .loop .inv) (t .loop-test .taken) (start (t .before) .pre .0 .ends-long .k-low) _ (e .0) (e .1)
 
 same-length : tie.Need-same-length Inv-loop μ-loop
 same-length c = c .before .loop .inv .filling .firsts .size-kept

@@ -30,7 +30,8 @@ returns-3 c =
     let s = c .before .before .before .before in
     let a = s .args in
     let e = c .before .before .before .piece .ensures ∙ last-piece (a .p) (a .d) in
-    old-least (a .p) (a .n) (a .v) (a .c) (a .d) (a .x) (s .pre .1) (s .pre .2) (s .pre .3) (omega (arith, e, c .before .before .if1 .left)) (λ q. c .if2 .left (c .before .piece2 .ensures ∙ q))
+    old-least (a .p) (a .n) (a .v) (a .c) (a .d) (a .x) (s .pre .1) (s .pre .2) (s .pre .3) (omega (arith, e, c .before .before .if1 .left))
+    (λ q. c .if2 .left (c .before .piece2 .ensures ∙ q))
 
 pub slide-spec : {M : Type 1} → statement M
 slide-spec =

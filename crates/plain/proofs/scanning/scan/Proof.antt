@@ -1,11 +1,13 @@
 -- `scan` meets its contract. Invariant: the pass over the strings that are left gives the answer. Assumes nothing.
+use mathlib.Core.List.{List}
 use mathlib.Core.Path.{_≡_, refl, sym, ap, _∙_}
-use Prim.Native.Nat.{_-_}
+use Prim.Native.Nat.{ℕ, _-_}
 use native.Mathlib.Omega.{arith}
 use lib.Dec.{eqb}
 use lib.ListN.{length, drop}
 use Rattle.words.specs.Word.{code, wordAt}
 use Rattle.collection.specs.Kmers.{kmers, kmersFrom}
+use Rattle.plain.specs.declared.Seen.{Seen}
 use Rattle.plain.specs.Scan.{scanFrom}
 use Rattle.collection.proofs.Kmers.{Strings-left, strings-begin, strings-on, next-string, kmers-next, kmers-end}
 use Rattle.plain.proofs.Scans.{scan-found, scan-row-on, scan-none}
@@ -21,6 +23,24 @@ Inv-loop k letters ends asked turned at₀ passed₀ first₀ i₀ at passed fir
 
 abbrev μ-loop : tie.MeasureT-loop
 μ-loop k letters ends asked turned at₀ passed₀ first₀ i₀ at passed first i = length ends - i
+
+-- the start, seen from the loop
+abbrev start : tie.At-loop Inv-loop μ-loop → tie.Start Inv-loop μ-loop
+start c = c .before .before .before
+
+-- a turn of the loop, seen from where the pass over a string found the asked word, and from the end of a turn
+abbrev turn-from-found : tie.After-enum-told Inv-loop μ-loop → tie.In-loop Inv-loop μ-loop
+turn-from-found c = c .before .before .before .before
+
+abbrev turn : tie.After-known-told Inv-loop μ-loop → tie.In-loop Inv-loop μ-loop
+turn c = c .before .before .before .before .before
+
+-- the pass from a turn of the loop on, over the k-mers that are left
+abbrev pass : tie.At-loop Inv-loop μ-loop → List ℕ → Seen
+pass c =
+    let b = start c .args in
+    scanFrom (λ a. eqb (code (wordAt (b .k) (b .letters .now) a)) (b .asked)) (λ a. eqb (code (wordAt (b .k) (b .letters .now) a)) (b .turned))
+    (c .loop .passed) (c .loop .first)
 
 loop-holds : tie.Need-loop-holds Inv-loop μ-loop
 loop-holds c = (strings-begin (c .before .before .pre .ends-long) (c .before .before .pre .ends-last), refl)
@@ -38,13 +58,18 @@ add-number : tie.Need-add-number Inv-loop μ-loop
 add-number c = omega (arith, c .shared-slice-known3 .given (c .before .before .loop .i))
 
 add-number-2 : tie.Need-add-number-2 Inv-loop μ-loop
-add-number-2 c = omega (arith, next-string (c .before .before .loop .inv .0) (c .before .loop-test .taken), c .before .before .before .before .before .pre .few-letters)
+add-number-2 c = omega (arith, next-string (c .before .before .loop .inv .0) (c .before .loop-test .taken), start (c .before .before) .pre .few-letters)
 
 sub-number : tie.Need-sub-number Inv-loop μ-loop
 sub-number c = omega (arith, next-string (c .before .before .loop .inv .0) (c .before .loop-test .taken))
 
 scan-string-requires : tie.Need-scan-string-requires Inv-loop μ-loop
-scan-string-requires c κs = let g = c .before .before .before .before .before .pre .ends-long in let n = next-string (c .before .before .loop .inv .0) (c .before .loop-test .taken) in let i = c .before .before .loop .inv .0 in (c .before .before .before .before .before .pre .all-letters, (g .k-low, g .k-high, omega (arith, n .long, n .inside), omega (arith, n .long, n .inside, i .few, c .before .before .before .before .before .pre .few-letters)))
+scan-string-requires c κs =
+    let p = start (c .before .before) .pre in
+    let g = p .ends-long in
+    let n = next-string (c .before .before .loop .inv .0) (c .before .loop-test .taken) in
+    let i = c .before .before .loop .inv .0 in
+    (p .all-letters, (g .k-low, g .k-high, omega (arith, n .long, n .inside), omega (arith, n .long, n .inside, i .few, p .few-letters)))
 
 enum-known-s : tie.Need-enum-known-s Inv-loop μ-loop
 enum-known-s c = search needs
@@ -53,27 +78,33 @@ enum-told : tie.Need-enum-told Inv-loop μ-loop
 enum-told c = search needs
 
 returns : tie.Need-returns Inv-loop μ-loop
-returns c = sym (c .before .before .before .before .before .loop .inv .1 ∙ (ap (scanFrom (λ a. eqb (code (wordAt (c .before .before .before .before .before .before .before .before .args .k) (c .before .before .before .before .before .before .before .before .args .letters .now) a)) (c .before .before .before .before .before .before .before .before .args .asked)) (λ a. eqb (code (wordAt (c .before .before .before .before .before .before .before .before .args .k) (c .before .before .before .before .before .before .before .before .args .letters .now) a)) (c .before .before .before .before .before .before .before .before .args .turned)) (c .before .before .before .before .before .loop .passed) (c .before .before .before .before .before .loop .first)) (kmers-next _ _ _ _ (c .before .before .before .before .loop-test .taken)) ∙ (scan-found _ _ _ _ _ _ _ (sym (c .before .before .scan-string .ensures) ∙ c .enum-told .given .1) ∙ sym (c .enum-told .given .1))))
+returns c =
+    sym (turn-from-found c .before .loop .inv .1
+    ∙ (ap (pass (turn-from-found c .before)) (kmers-next _ _ _ _ (turn-from-found c .loop-test .taken))
+    ∙ (scan-found _ _ _ _ _ _ _ (sym (c .before .before .scan-string .ensures) ∙ c .enum-told .given .1) ∙ sym (c .enum-told .given .1))))
 
 add-passed : tie.Need-add-passed Inv-loop μ-loop
-add-passed c = omega (arith, next-string (c .before .before .before .before .before .before .loop .inv .0) (c .before .before .before .before .before .loop-test .taken), c .before .before .before .before .before .before .loop .inv .0 .few, c .before .before .before .before .before .before .before .before .before .pre .few-letters)
+add-passed c =
+    let t = turn c in
+    let l = t .before .loop in
+    omega (arith, next-string (l .inv .0) (t .loop-test .taken), l .inv .0 .few, start (t .before) .pre .few-letters)
 
 add-i : tie.Need-add-i Inv-loop μ-loop
-add-i c = omega (arith, c .before .before .before .before .before .loop-test .taken)
+add-i c = omega (arith, turn c .loop-test .taken)
 
 loop-less : tie.Need-loop-less Inv-loop μ-loop
 loop-less c = search needs
 
 loop-again : tie.Need-loop-again Inv-loop μ-loop
 loop-again c = (
-  strings-on (c .before .before .before .before .before .before .loop .inv .0) (c .before .before .before .before .before .loop-test .taken) (c .before .before .before .before .before .before .before .before .before .pre .ends-long .k-low) _ refl,
-  c .before .before .before .before .before .before .loop .inv .1
-      ∙ (ap (scanFrom (λ a. eqb (code (wordAt (c .before .before .before .before .before .before .before .before .before .args .k) (c .before .before .before .before .before .before .before .before .before .args .letters .now) a)) (c .before .before .before .before .before .before .before .before .before .args .asked)) (λ a. eqb (code (wordAt (c .before .before .before .before .before .before .before .before .before .args .k) (c .before .before .before .before .before .before .before .before .before .args .letters .now) a)) (c .before .before .before .before .before .before .before .before .before .args .turned)) (c .before .before .before .before .before .before .loop .passed) (c .before .before .before .before .before .before .loop .first)) (kmers-next _ _ _ _ (c .before .before .before .before .before .loop-test .taken))
+  strings-on (turn c .before .loop .inv .0) (turn c .loop-test .taken) (start (turn c .before) .pre .ends-long .k-low) _ refl,
+  turn c .before .loop .inv .1
+      ∙ (ap (pass (turn c .before)) (kmers-next _ _ _ _ (turn c .loop-test .taken))
       ∙ scan-row-on _ _ _ _ _ _ _ _ (sym (c .before .before .before .scan-string .ensures) ∙ c .before .s .given .1)),
 )
 
 returns-2 : tie.Need-returns-2 Inv-loop μ-loop
-returns-2 c = sym (c .before .loop .inv .1 ∙ (ap (scanFrom (λ a. eqb (code (wordAt (c .before .before .before .before .args .k) (c .before .before .before .before .args .letters .now) a)) (c .before .before .before .before .args .asked)) (λ a. eqb (code (wordAt (c .before .before .before .before .args .k) (c .before .before .before .before .args .letters .now) a)) (c .before .before .before .before .args .turned)) (c .before .loop .passed) (c .before .loop .first)) (kmers-end _ _ _ _ (c .loop-test .left)) ∙ scan-none _ _ _ _))
+returns-2 c = sym (c .before .loop .inv .1 ∙ (ap (pass (c .before)) (kmers-end _ _ _ _ (c .loop-test .left)) ∙ scan-none _ _ _ _))
 
 pub scan-spec : {M : Type 1} → statement M
 scan-spec =

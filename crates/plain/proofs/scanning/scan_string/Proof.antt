@@ -28,6 +28,10 @@ Inv-loop k letters at number asked turned passed seen before c₀ first₀ i₀ 
 abbrev μ-loop : tie.MeasureT-loop
 μ-loop k letters at number asked turned passed seen before c₀ first₀ i₀ c first i = number - i
 
+-- the start, seen from the loop
+abbrev start : tie.At-loop Inv-loop μ-loop → tie.Start Inv-loop μ-loop
+start c = c .before .before .before .before
+
 sub-before : tie.Need-sub-before Inv-loop μ-loop
 sub-before c = search needs
 
@@ -44,7 +48,9 @@ part-word-code-end : tie.Need-part-word-code-end Inv-loop μ-loop
 part-word-code-end c = search needs
 
 word-code-requires : tie.Need-word-code-requires Inv-loop μ-loop
-word-code-requires c κs = omega (arith, length-take (c .before .before .args .at + (c .before .before .args .k - 1) - c .before .before .args .at) (drop (c .before .before .args .at) (c .before .before .args .letters .now)))
+word-code-requires c κs =
+    let a = c .before .before .args in
+    omega (arith, length-take (a .at + (a .k - 1) - a .at) (drop (a .at) (a .letters .now)))
 
 loop-holds : tie.Need-loop-holds Inv-loop μ-loop
 loop-holds c =
@@ -66,7 +72,11 @@ letter-code-requires c κs = search needs
 
 roll-requires : tie.Need-roll-requires Inv-loop μ-loop
 roll-requires c κs =
-    (omega arith, c .before .before .before .loop .inv .1 .small, omega (arith, c .letter-code .ensures, bits-lt (getD (c .before .before .before .before .before .before .before .args .letters .now) (c .before .before .before .before .before .before .before .args .at + (c .before .before .before .before .before .before .before .args .k - 1) + c .before .before .before .loop .i) 0)))
+    let a = start (c .before .before .before) .args in (
+      omega arith,
+      c .before .before .before .loop .inv .1 .small,
+      omega (arith, c .letter-code .ensures, bits-lt (getD (a .letters .now) (a .at + (a .k - 1) + c .before .before .before .loop .i) 0)),
+    )
 
 add-i : tie.Need-add-i Inv-loop μ-loop
 add-i c = search needs
@@ -76,8 +86,15 @@ add-t22 c = search needs
 
 returns : tie.Need-returns Inv-loop μ-loop
 returns c =
-    let e = (c .before .roll .ensures ∙ word-here (c .before .before .before .before .before .before .before .before .before .args .k) (c .before .before .before .before .before .before .before .before .before .args .letters .now) (c .before .before .before .before .before .before .before .before .before .pre .1 .0) (c .before .before .before .before .before .before .before .before .before .pre .1 .1) (every-all isLetter _ (c .before .before .before .before .before .before .before .before .before .pre .0)) (c .before .before .before .before .before .before .before .before .before .args .at) (c .before .before .before .before .before .loop .i) _ _ (omega arith) (c .before .before .before .before .before .loop .inv .1) (c .before .before .letter-code .ensures)) in
-    sym (c .before .before .before .before .before .loop .inv .2 ∙ string-asked _ _ _ _ _ _ _ (c .before .before .before .before .loop-test .taken) (eq-eqb _ _ (sym e ∙ c .if1 .taken)))
+    let t = c .before .before .before .before in
+    let l = t .before .loop in
+    let s = start (t .before) in
+    let a = s .args in
+    let p = s .pre in
+    let e = (c .before .roll .ensures
+    ∙ word-here (a .k) (a .letters .now) (p .1 .0) (p .1 .1) (every-all isLetter _ (p .0)) (a .at) (l .i) _ _ (omega arith) (l .inv .1)
+    (c .before .before .letter-code .ensures)) in
+    sym (l .inv .2 ∙ string-asked _ _ _ _ _ _ _ (t .loop-test .taken) (eq-eqb _ _ (sym e ∙ c .if1 .taken)))
 
 add-first-turned : tie.Need-add-first-turned Inv-loop μ-loop
 add-first-turned c = search needs
@@ -90,10 +107,19 @@ loop-less c = search needs
 
 loop-again : tie.Need-loop-again Inv-loop μ-loop
 loop-again c =
-    let e = (c .before .before .roll .ensures ∙ word-here (c .before .before .before .before .before .before .before .before .before .before .args .k) (c .before .before .before .before .before .before .before .before .before .before .args .letters .now) (c .before .before .before .before .before .before .before .before .before .before .pre .1 .0) (c .before .before .before .before .before .before .before .before .before .before .pre .1 .1) (every-all isLetter _ (c .before .before .before .before .before .before .before .before .before .before .pre .0)) (c .before .before .before .before .before .before .before .before .before .before .args .at) (c .before .before .before .before .before .before .loop .i) _ _ (omega arith) (c .before .before .before .before .before .before .loop .inv .1) (c .before .before .before .letter-code .ensures)) in (
+    let t = c .before .before .before .before .before in
+    let l = t .before .loop in
+    let s = start (t .before) in
+    let a = s .args in
+    let p = s .pre in
+    let e = (c .before .before .roll .ensures
+    ∙ word-here (a .k) (a .letters .now) (p .1 .0) (p .1 .1) (every-all isLetter _ (p .0)) (a .at) (l .i) _ _ (omega arith) (l .inv .1)
+    (c .before .before .before .letter-code .ensures)) in (
       omega arith,
-      word-on (c .before .before .before .before .before .before .before .before .before .before .args .k) (c .before .before .before .before .before .before .before .before .before .before .args .letters .now) (c .before .before .before .before .before .before .before .before .before .before .pre .1 .0) (c .before .before .before .before .before .before .before .before .before .before .pre .1 .1) (every-all isLetter _ (c .before .before .before .before .before .before .before .before .before .before .pre .0)) (c .before .before .before .before .before .before .before .before .before .before .args .at) (c .before .before .before .before .before .before .loop .i) _ (omega arith) e,
-      c .before .before .before .before .before .before .loop .inv .2 ∙ string-other _ _ _ _ _ _ _ (c .before .before .before .before .before .loop-test .taken) (ne-eqb _ _ (λ q. c .before .if1 .left (e ∙ q))) _ (ap (λ (n : ℕ). eqb n (c .before .before .before .before .before .before .before .before .before .before .args .turned)) e) _ (c .first-turned .ensures),
+      word-on (a .k) (a .letters .now) (p .1 .0) (p .1 .1) (every-all isLetter _ (p .0)) (a .at) (l .i) _ (omega arith) e,
+      l .inv .2
+          ∙ string-other _ _ _ _ _ _ _ (t .loop-test .taken) (ne-eqb _ _ (λ q. c .before .if1 .left (e ∙ q))) _ (ap (λ (n : ℕ). eqb n (a .turned)) e) _
+          (c .first-turned .ensures),
     )
 
 returns-2 : tie.Need-returns-2 Inv-loop μ-loop

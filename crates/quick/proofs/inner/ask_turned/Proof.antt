@@ -5,7 +5,9 @@ use Rattle.quick.proofs.inner.ask_turned.Statement.{statement}
 use Rattle.quick.proofs.inner.ask_turned.Tie as tie
 
 walk-row-requires : tie.Need-walk-row-requires
-walk-row-requires c κs = let a = c .before .before .before .before .before .pre .0 .0 in ((a .k-low, a .k-high, a .turned-small, a .few-letters, c .before .before .before .before .before .pre .0 .1), c .before .before .before .before .before .pre .1)
+walk-row-requires c κs =
+    let p = c .before .before .before .before .before .pre in
+    let a = p .0 .0 in ((a .k-low, a .k-high, a .turned-small, a .few-letters, p .0 .1), p .1)
 
 enum-known-met : tie.Need-enum-known-met
 enum-known-met c = search needs

@@ -26,7 +26,8 @@ find-requires-2 c κs = search needs
 returns : tie.Need-returns
 returns c =
     let p = c .before .before .before .before .before .pre in
-    question-is _ (p .0 .1) (p .1 .0) (p .1 .1) _ _ _ _ (c .before .before .before .word-code .ensures) (c .before .before .turned-code .ensures) (c .before .find .ensures) (c .find2 .ensures)
+    question-is _ (p .0 .1) (p .1 .0) (p .1 .1) _ _ _ _ (c .before .before .before .word-code .ensures) (c .before .before .turned-code .ensures)
+    (c .before .find .ensures) (c .find2 .ensures)
 
 pub question-spec : {M : Type 1} → statement M
 question-spec = tie.close (tie.spec word-code-requires turned-code-requires sub-find find-requires sub-find-2 find-requires-2 returns)

@@ -36,13 +36,15 @@ all-letters-requires c κs = search needs
 
 returns-2 : tie.Need-returns-2
 returns-2 c =
-    let a = c .before .before .before .before .args in
-    let p = c .before .before .before .before .pre in
+    let s = c .before .before .before .before in
+    let a = s .args in
+    let p = s .pre in
     let n : a .a + a .k - a .a ≡ a .k = omega arith in
     let t : Bool = every isLetter (take (a .k) (drop (a .a) (a .letters .now))) in
     c .all-letters .ensures
     ∙ (ap (λ (m : ℕ). every isLetter (take m (drop (a .a) (a .letters .now)))) n
-    ∙ sym (word-test (a .k) (a .letters .now) (a .a) (a .w) (a .c) (p .0 .0) (p .0 .1) (p .1) ∙ ap (λ (b : Bool). b && t) (eq-eqb (a .c) (a .w) (c .before .before .if1 .left))))
+    ∙ sym (word-test (a .k) (a .letters .now) (a .a) (a .w) (a .c) (p .0 .0) (p .0 .1) (p .1)
+    ∙ ap (λ (b : Bool). b && t) (eq-eqb (a .c) (a .w) (c .before .before .if1 .left))))
 
 pub is-word-spec : {M : Type 1} → statement M
 is-word-spec =

@@ -47,7 +47,8 @@ loop-again c =
     let l = c .before .before .before .loop in (
       omega arith,
       length-set (l .key) (l .t) _ ∙ l .inv .1,
-      holds-more (λ u. getD (map capital (spelled (a .k) (a .w))) (getD (a .places .now) u 0) 0) (l .key) (l .t) _ (omega arith) (l .inv .2) (c .letter-at .ensures),
+      holds-more (λ u. getD (map capital (spelled (a .k) (a .w))) (getD (a .places .now) u 0) 0) (l .key) (l .t) _ (omega arith) (l .inv .2)
+          (c .letter-at .ensures),
     )
 
 returns : tie.Need-returns Inv-loop μ-loop
@@ -55,7 +56,9 @@ returns c =
     let a = c .before .before .args in
     let full : c .before .loop .t ≡ 8 = omega arith in
     record {
-      within = subst (λ (n : ℕ). Within n (a .places .now)) (sym (length-map (spelled (a .k) (a .w)) capital ∙ length-spelled (a .k) (a .w))) (c .before .before .pre .1);
+      within =
+          subst (λ (n : ℕ). Within n (a .places .now)) (sym (length-map (spelled (a .k) (a .w)) capital ∙ length-spelled (a .k) (a .w)))
+          (c .before .before .pre .1);
       holds = λ t l. c .before .loop .inv .2 t (omega arith);
     }
 

@@ -48,8 +48,9 @@ loop-less c = search needs
 
 loop-again : tie.Need-loop-again Inv-loop μ-loop
 loop-again c =
-    let a = c .before .before .before .before .before .before .args in
-    (omega arith, nowhere-more (a .places .now) (a .key .now) (a .letters .now) (a .at) _ 16 _ (c .before .before .before .before .loop .inv .1) (c .before .any-meets .ensures) (c .if2 .left))
+    let t = c .before .before .before .before in
+    let a = t .before .before .args in
+    (omega arith, nowhere-more (a .places .now) (a .key .now) (a .letters .now) (a .at) _ 16 _ (t .loop .inv .1) (c .before .any-meets .ensures) (c .if2 .left))
 
 returns-3 : tie.Need-returns-3 Inv-loop μ-loop
 returns-3 c = λ i l m. absurd (c .before .loop .inv .1 i (omega arith) m)

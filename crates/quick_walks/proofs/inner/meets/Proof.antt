@@ -41,7 +41,9 @@ loop-less : tie.Need-loop-less Inv-loop μ-loop
 loop-less c = search needs
 
 loop-again : tie.Need-loop-again Inv-loop μ-loop
-loop-again c = (omega arith, λ m. and-both (c .before .before .before .before .loop .inv .1 m) (eq-eqb _ _ (m (c .before .before .before .before .loop .t) (omega arith))))
+loop-again c =
+    let l = c .before .before .before .before .loop in
+    (omega arith, λ m. and-both (l .inv .1 m) (eq-eqb _ _ (m (l .t) (omega arith))))
 
 returns : tie.Need-returns Inv-loop μ-loop
 returns c = c .before .loop .inv .1

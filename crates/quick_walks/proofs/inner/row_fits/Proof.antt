@@ -14,10 +14,15 @@ use Rattle.quick_walks.proofs.inner.row_fits.Tie as tie
 abbrev Inv-loop : tie.InvT-loop
 Inv-loop k n firsts positions numbers before v start end good₀ i₀ good i =
     (getD before (v + 1) 0 ≤ length firsts)
-    × (rowFits k n (tables firsts positions numbers before) v ≡ (good && every (stretchFits k n) (entries (tables firsts positions numbers before) i (getD before (v + 1) 0 - i))))
+    × (rowFits k n (tables firsts positions numbers before) v
+    ≡ (good && every (stretchFits k n) (entries (tables firsts positions numbers before) i (getD before (v + 1) 0 - i))))
 
 abbrev μ-loop : tie.MeasureT-loop
 μ-loop k n firsts positions numbers before v start end good₀ i₀ good i = getD before (v + 1) 0 - i
+
+-- the start, seen from where the row's start is read
+abbrev start-from-read : tie.After-shared-slice-known5 Inv-loop μ-loop → tie.Start Inv-loop μ-loop
+start-from-read c = c .before .before .before .before .before
 
 mul-start : tie.Need-mul-start Inv-loop μ-loop
 mul-start c = search needs
@@ -26,7 +31,7 @@ shared-slice-read-start : tie.Need-shared-slice-read-start Inv-loop μ-loop
 shared-slice-read-start c = search needs
 
 cast-start : tie.Need-cast-start Inv-loop μ-loop
-cast-start c = omega (arith, c .shared-slice-known5 .given (c .before .before .before .before .before .args .v))
+cast-start c = omega (arith, c .shared-slice-known5 .given (start-from-read c .args .v))
 
 add-end : tie.Need-add-end Inv-loop μ-loop
 add-end c = search needs
@@ -38,7 +43,7 @@ shared-slice-read-end : tie.Need-shared-slice-read-end Inv-loop μ-loop
 shared-slice-read-end c = search needs
 
 cast-end : tie.Need-cast-end Inv-loop μ-loop
-cast-end c = omega (arith, c .shared-slice-known6 .given (c .before .before .before .before .before .before .args .v + 1))
+cast-end c = omega (arith, c .shared-slice-known6 .given (start-from-read (c .before) .args .v + 1))
 
 returns : tie.Need-returns Inv-loop μ-loop
 returns c = row-wrong _ _ _ _ (λ p q. omega (arith, p, c .if1 .taken))
@@ -78,9 +83,11 @@ loop-less c = search needs
 
 loop-again : tie.Need-loop-again Inv-loop μ-loop
 loop-again c =
-    let a = c .before .before .before .before .before .before .before .before .before .before .before .before .before .before .args in
+    let u = c .before .before .before .before in
+    let l = u .before .loop in
+    let a = start-from-read (u .before .before .before .before .before) .args in
     let t = tables (a .firsts .now) (a .positions .now) (a .numbers .now) (a .before .now) in
-    (c .before .before .before .before .before .loop .inv .0, fit-next t _ _ _ _ (c .before .before .before .before .loop-test .taken) _ (c .before .before .before .before .before .loop .good) _ (c .stretch-fits .ensures) (c .before .before .before .before .before .loop .inv .1))
+    (l .inv .0, fit-next t _ _ _ _ (u .loop-test .taken) _ (l .good) _ (c .stretch-fits .ensures) (l .inv .1))
 
 returns-3 : tie.Need-returns-3 Inv-loop μ-loop
 returns-3 c = fit-end _ _ _ _ _ (c .loop-test .left) _ _ (c .before .loop .inv .1)

@@ -33,7 +33,9 @@ add-t12 c = search needs
 returns-2 : tie.Need-returns-2
 returns-2 c =
     let a = c .before .before .before .args in
-    sym (left-none _ (a .compared) (a .first) (a .at) (a .number) (not-found (a .k) (a .w) (a .places .now) (a .key .now) (a .letters .now) (a .at) (a .number) _ (c .before .before .before .pre .1 .1) (c .before .may-stand .ensures) (c .if1 .left)))
+    sym (left-none _ (a .compared) (a .first) (a .at) (a .number)
+    (not-found (a .k) (a .w) (a .places .now) (a .key .now) (a .letters .now) (a .at) (a .number) _ (c .before .before .before .pre .1 .1)
+    (c .before .may-stand .ensures) (c .if1 .left)))
 
 pub stretch-by-key-spec : {M : Type 1} → statement M
 stretch-by-key-spec =

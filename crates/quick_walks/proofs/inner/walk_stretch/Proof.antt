@@ -23,6 +23,18 @@ Inv-loop k letters w first at number compared before c₀ i₀ c i =
 abbrev μ-loop : tie.MeasureT-loop
 μ-loop k letters w first at number compared before c₀ i₀ c i = number - i
 
+-- the start, seen from the loop
+abbrev start : tie.At-loop Inv-loop μ-loop → tie.Start Inv-loop μ-loop
+start c = c .before .before .before .before
+
+-- a turn of the loop, seen from behind `roll`
+abbrev turn-from-roll : tie.After-roll Inv-loop μ-loop → tie.At-loop Inv-loop μ-loop
+turn-from-roll c = c .before .before .before .before
+
+-- a turn of the loop, seen from behind `is_word`
+abbrev turn-from-is-word : tie.After-is-word Inv-loop μ-loop → tie.In-loop Inv-loop μ-loop
+turn-from-is-word c = c .before .before .before .before
+
 sub-before : tie.Need-sub-before Inv-loop μ-loop
 sub-before c = search needs
 
@@ -39,7 +51,9 @@ part-word-code-end : tie.Need-part-word-code-end Inv-loop μ-loop
 part-word-code-end c = search needs
 
 word-code-requires : tie.Need-word-code-requires Inv-loop μ-loop
-word-code-requires c κs = omega (arith, length-take (c .before .before .args .at + (c .before .before .args .k - 1) - c .before .before .args .at) (drop (c .before .before .args .at) (c .before .before .args .letters .now)))
+word-code-requires c κs =
+    let a = c .before .before .args in
+    omega (arith, length-take (a .at + (a .k - 1) - a .at) (drop (a .at) (a .letters .now)))
 
 loop-holds : tie.Need-loop-holds Inv-loop μ-loop
 loop-holds c =
@@ -58,17 +72,24 @@ letter-code-requires c κs = search needs
 
 roll-requires : tie.Need-roll-requires Inv-loop μ-loop
 roll-requires c κs =
-    let a = c .before .before .before .before .before .before .before .args in
-    (omega arith, c .before .before .before .loop .inv .1 .small, omega (arith, c .letter-code .ensures, bits-lt (getD (a .letters .now) (a .at + (a .k - 1) + c .before .before .before .loop .i) 0)))
+    let a = start (c .before .before .before) .args in (
+      omega arith,
+      c .before .before .before .loop .inv .1 .small,
+      omega (arith, c .letter-code .ensures, bits-lt (getD (a .letters .now) (a .at + (a .k - 1) + c .before .before .before .loop .i) 0)),
+    )
 
 add-is-word : tie.Need-add-is-word Inv-loop μ-loop
 add-is-word c = search needs
 
 is-word-requires : tie.Need-is-word-requires Inv-loop μ-loop
 is-word-requires c κs =
-    let a = c .before .before .before .before .before .before .before .before .args in
-    let p = c .before .before .before .before .before .before .before .before .pre in
-    ((p .0 .2, omega arith, p .0 .3, p .0 .1), c .roll .ensures ∙ rolls-here (a .k) (a .letters .now) (p .0 .0) (p .0 .1) (a .at) (c .before .before .before .before .loop .i) _ _ (omega arith) (c .before .before .before .before .loop .inv .1) (c .before .letter-code .ensures))
+    let l = turn-from-roll c .loop in
+    let s = start (turn-from-roll c) in
+    let a = s .args in
+    let p = s .pre in (
+      (p .0 .2, omega arith, p .0 .3, p .0 .1),
+      c .roll .ensures ∙ rolls-here (a .k) (a .letters .now) (p .0 .0) (p .0 .1) (a .at) (l .i) _ _ (omega arith) (l .inv .1) (c .before .letter-code .ensures),
+    )
 
 add-t21 : tie.Need-add-t21 Inv-loop μ-loop
 add-t21 c = search needs
@@ -80,7 +101,9 @@ add-t24 : tie.Need-add-t24 Inv-loop μ-loop
 add-t24 c = search needs
 
 returns : tie.Need-returns Inv-loop μ-loop
-returns c = sym (c .before .before .before .before .before .before .loop .inv .2 ∙ left-hit _ _ _ _ _ _ (c .before .before .before .before .before .loop-test .taken) (sym (c .before .is-word .ensures) ∙ c .if1 .taken))
+returns c =
+    sym (turn-from-is-word (c .before) .before .loop .inv .2
+    ∙ left-hit _ _ _ _ _ _ (turn-from-is-word (c .before) .loop-test .taken) (sym (c .before .is-word .ensures) ∙ c .if1 .taken))
 
 add-i : tie.Need-add-i Inv-loop μ-loop
 add-i c = search needs
@@ -90,12 +113,16 @@ loop-less c = search needs
 
 loop-again : tie.Need-loop-again Inv-loop μ-loop
 loop-again c =
-    let a = c .before .before .before .before .before .before .before .before .before .before .args in
-    let p = c .before .before .before .before .before .before .before .before .before .before .pre in
-    let e = c .before .before .roll .ensures ∙ rolls-here (a .k) (a .letters .now) (p .0 .0) (p .0 .1) (a .at) (c .before .before .before .before .before .before .loop .i) _ _ (omega arith) (c .before .before .before .before .before .before .loop .inv .1) (c .before .before .before .letter-code .ensures) in (
+    let t = turn-from-is-word (c .before) in
+    let l = t .before .loop in
+    let s = start (t .before) in
+    let a = s .args in
+    let p = s .pre in
+    let e = c .before .before .roll .ensures ∙ rolls-here (a .k) (a .letters .now) (p .0 .0) (p .0 .1) (a .at) (l .i) _ _ (omega arith) (l .inv .1)
+    (c .before .before .before .letter-code .ensures) in (
       omega arith,
-      rolls-on (a .k) (a .letters .now) (p .0 .0) (p .0 .1) (a .at) (c .before .before .before .before .before .before .loop .i) _ (omega arith) e,
-      c .before .before .before .before .before .before .loop .inv .2 ∙ left-on _ _ _ _ _ _ (c .before .before .before .before .before .loop-test .taken) (sym (c .before .is-word .ensures) ∙ c .if1 .left),
+      rolls-on (a .k) (a .letters .now) (p .0 .0) (p .0 .1) (a .at) (l .i) _ (omega arith) e,
+      l .inv .2 ∙ left-on _ _ _ _ _ _ (t .loop-test .taken) (sym (c .before .is-word .ensures) ∙ c .if1 .left),
     )
 
 add-t26 : tie.Need-add-t26 Inv-loop μ-loop

@@ -18,6 +18,10 @@ Inv-loop work n m ids least₀ i₀ least i = (1 ≤ i) × Least (heldAt n work)
 abbrev μ-loop : tie.MeasureT-loop
 μ-loop work n m ids least₀ i₀ least i = m - i
 
+-- the start, seen from the loop
+abbrev start : tie.At-loop Inv-loop μ-loop → tie.Start Inv-loop μ-loop
+start c = c .before .before
+
 add-ids : tie.Need-add-ids Inv-loop μ-loop
 add-ids c = search needs
 
@@ -37,7 +41,9 @@ shared-slice-read-x : tie.Need-shared-slice-read-x Inv-loop μ-loop
 shared-slice-read-x c = search needs
 
 cast-x : tie.Need-cast-x Inv-loop μ-loop
-cast-x c = omega (arith, c .shared-slice-known2 .given (c .before .before .before .before .args .n + c .before .before .before .before .args .n + (c .before .before .loop .i - 1)))
+cast-x c =
+    let a = start (c .before .before) .args in
+    omega (arith, c .shared-slice-known2 .given (a .n + a .n + (c .before .before .loop .i - 1)))
 
 add-y : tie.Need-add-y Inv-loop μ-loop
 add-y c = search needs
@@ -49,11 +55,13 @@ shared-slice-read-y : tie.Need-shared-slice-read-y Inv-loop μ-loop
 shared-slice-read-y c = search needs
 
 cast-y : tie.Need-cast-y Inv-loop μ-loop
-cast-y c = omega (arith, c .shared-slice-known3 .given (c .before .before .before .before .before .args .n + c .before .before .before .before .before .args .n + c .before .before .before .loop .i))
+cast-y c =
+    let a = start (c .before .before .before) .args in
+    omega (arith, c .shared-slice-known3 .given (a .n + a .n + c .before .before .before .loop .i))
 
 same-code-requires : tie.Need-same-code-requires Inv-loop μ-loop
 same-code-requires c κs =
-    let s = c .before .before .before .before .before in
+    let s = start (c .before .before .before) in
     let i = c .before .before .before .loop .i in
     (s .pre .1 (i - 1) (omega arith), s .pre .1 i (omega arith), omega arith)
 
@@ -65,8 +73,9 @@ loop-less c = search needs
 
 loop-again : tie.Need-loop-again Inv-loop μ-loop
 loop-again c =
-    let s = c .before .before .before .before .before .before .before in
-    let l = c .before .before .before .before .before .loop in
+    let u = c .before .before .before .before in
+    let s = start (u .before) in
+    let l = u .before .loop in
     let w = s .args .work .now in
     let n = s .args .n in
     let i = l .i in
@@ -75,12 +84,14 @@ loop-again c =
     (λ f. (
       omega arith,
       subst (Least (heldAt n w) (idAt n w) n (s .args .m) (i + 1)) (sym (f .1))
-          (least-take (heldAt n w) (idAt n w) n (s .args .m) i (l .least) (l .inv .0) (c .before .before .before .before .loop-test .taken) (l .inv .1) (ap test (sym (c .before .same-code .ensures)) ∙ f .0 .taken)),
+          (least-take (heldAt n w) (idAt n w) n (s .args .m) i (l .least) (l .inv .0) (u .loop-test .taken) (l .inv .1)
+          (ap test (sym (c .before .same-code .ensures)) ∙ f .0 .taken)),
     ))
     (λ f. (
       omega arith,
       subst (Least (heldAt n w) (idAt n w) n (s .args .m) (i + 1)) (sym (f .1))
-          (least-keep (heldAt n w) (idAt n w) n (s .args .m) i (l .least) (l .inv .0) (c .before .before .before .before .loop-test .taken) (l .inv .1) (ap test (sym (c .before .same-code .ensures)) ∙ f .0 .left)),
+          (least-keep (heldAt n w) (idAt n w) n (s .args .m) i (l .least) (l .inv .0) (u .loop-test .taken) (l .inv .1)
+          (ap test (sym (c .before .same-code .ensures)) ∙ f .0 .left)),
     ))
     (c .if1 .came)
 

@@ -26,7 +26,8 @@ shared-slice-read-if1-2 c = search needs
 returns : tie.Need-returns
 returns c =
     let a = c .before .before .before .args in
-    lower-differs _ _ _ _ (c .before .shared-slice-known2 .given (a .n + a .x) .fits) (c .before .shared-slice-known2 .given (a .n + a .y) .fits) (c .if1 .taken)
+    lower-differs _ _ _ _ (c .before .shared-slice-known2 .given (a .n + a .x) .fits) (c .before .shared-slice-known2 .given (a .n + a .y) .fits)
+    (c .if1 .taken)
 
 mul-result : tie.Need-mul-result
 mul-result c = search needs

@@ -11,10 +11,19 @@ use Rattle.repeats_canonical.proofs.inner.code_all.Statement.{statement
 use Rattle.repeats_canonical.proofs.inner.code_all.Tie as tie
 
 abbrev Inv-loop : tie.InvT-loop
-Inv-loop k letters ends n work₀ at₀ passed₀ i₀ work at passed i = Strings-left k (length letters) ends i at passed × Coding (spelling k letters ends) n i at passed work₀ work
+Inv-loop k letters ends n work₀ at₀ passed₀ i₀ work at passed i =
+    Strings-left k (length letters) ends i at passed × Coding (spelling k letters ends) n i at passed work₀ work
 
 abbrev μ-loop : tie.MeasureT-loop
 μ-loop k letters ends n work₀ at₀ passed₀ i₀ work at passed i = length ends - i
+
+-- the start, seen from the loop
+abbrev start : tie.At-loop Inv-loop μ-loop → tie.Start Inv-loop μ-loop
+start c = c .before .before .before .before
+
+-- a turn of the loop, seen from the end of a turn
+abbrev turn : tie.After-slice-known2 Inv-loop μ-loop → tie.In-loop Inv-loop μ-loop
+turn c = c .before .before .before .before .before
 
 loop-holds : tie.Need-loop-holds Inv-loop μ-loop
 loop-holds c = let s = c .before .before .before in (strings-begin (s .pre .0 .ends-long) (s .pre .0 .ends-last), coding-begin _ _ _)
@@ -32,14 +41,14 @@ add-number : tie.Need-add-number Inv-loop μ-loop
 add-number c = omega (arith, c .shared-slice-known3 .given (c .before .before .loop .i))
 
 add-number-2 : tie.Need-add-number-2 Inv-loop μ-loop
-add-number-2 c = omega (arith, next-string (c .before .before .loop .inv .0) (c .before .loop-test .taken), c .before .before .before .before .before .before .pre .0 .few-letters)
+add-number-2 c = omega (arith, next-string (c .before .before .loop .inv .0) (c .before .loop-test .taken), start (c .before .before) .pre .0 .few-letters)
 
 sub-number : tie.Need-sub-number Inv-loop μ-loop
 sub-number c = omega (arith, next-string (c .before .before .loop .inv .0) (c .before .loop-test .taken))
 
 code-string-requires : tie.Need-code-string-requires Inv-loop μ-loop
 code-string-requires c κs =
-    let s = c .before .before .before .before .before .before .before in
+    let s = start (c .before .before .before) in
     let l = c .before .before .before .loop in
     let t = c .before .before .loop-test .taken in
     let e = next-string (l .inv .0) t in (
@@ -51,19 +60,23 @@ code-string-requires c κs =
     )
 
 add-passed : tie.Need-add-passed Inv-loop μ-loop
-add-passed c = omega (arith, next-string (c .before .before .before .before .before .before .loop .inv .0) (c .before .before .before .before .before .loop-test .taken), c .before .before .before .before .before .before .loop .inv .0 .few, c .before .before .before .before .before .before .before .before .before .before .pre .0 .few-letters)
+add-passed c =
+    let t = turn c in
+    let l = t .before .loop in
+    omega (arith, next-string (l .inv .0) (t .loop-test .taken), l .inv .0 .few, start (t .before) .pre .0 .few-letters)
 
 add-i : tie.Need-add-i Inv-loop μ-loop
-add-i c = omega (arith, c .before .before .before .before .before .loop-test .taken)
+add-i c = omega (arith, turn c .loop-test .taken)
 
 loop-less : tie.Need-loop-less Inv-loop μ-loop
 loop-less c = search needs
 
 loop-again : tie.Need-loop-again Inv-loop μ-loop
 loop-again c =
-    let s = c .before .before .before .before .before .before .before .before .before .before in
-    let l = c .before .before .before .before .before .before .loop in
-    let t = c .before .before .before .before .before .loop-test .taken in
+    let u = turn c in
+    let s = start (u .before) in
+    let l = u .before .loop in
+    let t = u .loop-test .taken in
     (strings-on (l .inv .0) t (s .pre .0 .ends-long .k-low) _ refl, coding-on _ _ _ (l .inv .1) (s .pre .1 .0) t (c .before .before .code-string .ensures))
 
 same-length : tie.Need-same-length Inv-loop μ-loop

@@ -24,7 +24,8 @@ shl-result : tie.Need-shl-result
 shl-result c = search needs
 
 add-result : tie.Need-add-result
-add-result c = let a = c .before .args in omega (arith, one-shl 32 (bitOf (a .s)) (omega arith), grow-fits (a .v) (bitOf (a .s)) (omega arith) (omega arith) (omega arith))
+add-result c =
+    let a = c .before .args in omega (arith, one-shl 32 (bitOf (a .s)) (omega arith), grow-fits (a .v) (bitOf (a .s)) (omega arith) (omega arith) (omega arith))
 
 returns-2 : tie.Need-returns-2
 returns-2 c = let a = c .before .args in rw (one-shl 32 (bitOf (a .s)) (omega arith)) (grown-more (a .v) (bitOf (a .s)) (omega arith))

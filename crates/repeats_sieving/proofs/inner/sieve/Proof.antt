@@ -8,6 +8,10 @@ use Rattle.repeats_sieving.proofs.Sifting.{left-all, left-next}
 use Rattle.repeats_sieving.proofs.inner.sieve.Statement.{statement}
 use Rattle.repeats_sieving.proofs.inner.sieve.Tie as tie
 
+-- what the first `sift` gave, seen from the second call of `sift`
+abbrev after-sift : tie.After-sift-arg2 → tie.After-sift
+after-sift c = c .before .before .before .before
+
 -- the table holds numbers of 32 bits
 fits : (c : tie.After-slice-known) (i : ℕ) → getD (c .before .args .work .now) i 0 < 2 ^ 32
 fits c i = c .slice-known .given i .fits
@@ -28,8 +32,10 @@ add-entries c = search needs
 
 sift-requires : tie.Need-sift-requires
 sift-requires c κs =
-    let s = c .before .before in
-    (sifting _ (s .args .n) _ _ _ (s .pre .0 .0) (s .pre .0 .1) (omega arith) (omega arith) (omega arith), left-all (s .args .n) (s .args .work .now) (s .pre .1) .sieved .inside)
+    let s = c .before .before in (
+      sifting _ (s .args .n) _ _ _ (s .pre .0 .0) (s .pre .0 .1) (omega arith) (omega arith) (omega arith),
+      left-all (s .args .n) (s .args .work .now) (s .pre .1) .sieved .inside,
+    )
 
 same-length : tie.Need-same-length
 same-length c = search needs
@@ -39,9 +45,11 @@ returns c = first (c .before .before .before)
 
 sift-requires-2 : tie.Need-sift-requires-2
 sift-requires-2 c κs =
-    let z = c .before .before .before .before in
-    let s = z .before .before .before in
-    (sifting _ (s .args .n) _ _ _ (s .pre .0 .0) (omega (arith, s .pre .0 .1, first z .rest .size)) (first z .few) (omega arith) (omega arith), first z .sieved .inside)
+    let z = after-sift c in
+    let s = z .before .before .before in (
+      sifting _ (s .args .n) _ _ _ (s .pre .0 .0) (omega (arith, s .pre .0 .1, first z .rest .size)) (first z .few) (omega arith) (omega arith),
+      first z .sieved .inside,
+    )
 
 same-length-2 : tie.Need-same-length-2
 same-length-2 c = search needs
@@ -49,7 +57,7 @@ same-length-2 c = search needs
 returns-2 : tie.Need-returns-2
 returns-2 c =
     let t = c .before .before in
-    let z = t .before .before .before .before .before in
+    let z = after-sift (t .before) in
     let k = z .before .before in
     left-next 0x42b2ae3d 0x27d4eb2f (fits k) (k .before .pre .0 .1) (omega arith) (first z) (t .sift2 .ensures)
 

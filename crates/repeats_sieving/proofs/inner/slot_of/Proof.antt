@@ -33,7 +33,8 @@ returns c =
     let a = c .before .before .before .before .args in
     let w = a .work .now in
     c .slot .ensures
-    ∙ ap₂ (slotOf (a .slots) (a .a) (a .c)) (sym (part-at 0 (a .n) w (a .x) 0 (omega arith) ∙ ap (λ (j : ℕ). getD w j 0) (zero-add (a .x)))) (sym (part-at (a .n) (a .n) w (a .x) 0 (omega arith)))
+    ∙ ap₂ (slotOf (a .slots) (a .a) (a .c)) (sym (part-at 0 (a .n) w (a .x) 0 (omega arith) ∙ ap (λ (j : ℕ). getD w j 0) (zero-add (a .x))))
+    (sym (part-at (a .n) (a .n) w (a .x) 0 (omega arith)))
 
 pub slot-of-spec : {M : Type 1} → statement M
 slot-of-spec =

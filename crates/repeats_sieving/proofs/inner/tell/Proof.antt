@@ -1,66 +1,73 @@
 -- `tell` meets its contract. The loop's invariant: only the counters differ from the first table, and they tell of the first i ids.
 use Prim.Native.Nat.{ℕ, _+_, _-_, _*_, _/_, _<_, _≤_}
-use mathlib.Core.Path.{_≡_, sym, ap, ap₂, _∙_}
+use mathlib.Core.Path.{_≡_, sym, ap, _∙_}
 use mathlib.Core.Logic.{inl}
 use mathlib.Core.List.{List}
 use native.Mathlib.Omega.{arith}
 use lib.ListN.{length, getD, take}
 use lib.Seq.{take-length}
 use Rattle.lists.specs.Regions.{part, Only}
-use Rattle.lists.proofs.Every.{all-at}
-use Rattle.lists.proofs.Regions.{part-length, part-at, part-set, among-refl, only-set, only-at, only-part}
-use Rattle.repeats_sieving.specs.Slots.{slotAt, slotIn, Told}
-use Rattle.repeats_sieving.proofs.Telling.{slot-lt, told-none, told-more}
+use Rattle.lists.proofs.Regions.{part-length, part-at, part-set, among-refl, only-set, only-at}
+use Rattle.repeats_sieving.specs.Slots.{slotIn, Told}
+use Rattle.repeats_sieving.proofs.Telling.{told-none, told-more}
 use borrow.Author.Needs.{needs}
 use Rattle.repeats_sieving.proofs.inner.tell.Statement.{statement}
 use Rattle.repeats_sieving.proofs.inner.tell.Tie as tie
+use Rattle.repeats_sieving.proofs.Sifting.{id-low, slot-same, slot-inside}
 
 abbrev Inv-loop : tie.InvT-loop
 Inv-loop work₀ n m entries a c ids tab slots i₀ work i =
-    (i ≤ m) × Only (n + n + n) entries work₀ work × Told (slotIn n work₀ (16 * entries) a c) (16 * entries) (take i (part (n + n) m work₀)) (part (n + n + n) entries work)
+    (i ≤ m)
+    × Only (n + n + n) entries work₀ work
+    × Told (slotIn n work₀ (16 * entries) a c) (16 * entries) (take i (part (n + n) m work₀)) (part (n + n + n) entries work)
 
 abbrev μ-loop : tie.MeasureT-loop
 μ-loop work₀ n m entries a c ids tab slots i₀ work i = m - i
 
+-- the start, seen from the loop
+abbrev start : tie.At-loop Inv-loop μ-loop → tie.Start Inv-loop μ-loop
+start c = c .before .before
+
+-- a turn of the loop, seen from behind `slot_of`
+abbrev turn : tie.After-slot-of Inv-loop μ-loop → tie.At-loop Inv-loop μ-loop
+turn c = c .before .before .before .before
+
 -- the id of this turn is the one that the region held at first
 id-is : (c : tie.In-loop Inv-loop μ-loop)
-    → let a = c .before .before .before .args in
+    → let a = start (c .before) .args in
     getD (c .before .loop .work) (a .n + a .n + c .before .loop .i) 0 ≡ getD (part (a .n + a .n) (a .m) (a .work .now)) (c .before .loop .i) 0
 id-is c =
-    let s = c .before .before .before in
+    let l = c .before .loop in
+    let s = start (c .before) in
     let n = s .args .n in
-    only-at (n + n + n) (s .args .entries) (s .args .work .now) (c .before .loop .work) (c .before .loop .inv .1) (n + n) (s .args .m) (inl (omega (arith, s .pre .0 .ids))) (c .before .loop .i) 0 (c .loop-test .taken)
+    only-at (n + n + n) (s .args .entries) (s .args .work .now) (l .work) (l .inv .1) (n + n) (s .args .m) (inl (omega (arith, s .pre .0 .ids)))
+    (l .i) 0 (c .loop-test .taken)
 
 id-lt : (c : tie.In-loop Inv-loop μ-loop) → let a = c .before .before .before .args in getD (c .before .loop .work) (a .n + a .n + c .before .loop .i) 0 < a .n
-id-lt c =
-    let s = c .before .before .before in
-    let a = s .args in
-    let z = part-length (a .n + a .n) (a .m) (a .work .now) (omega (arith, s .pre .0 .room, s .pre .0 .ids)) in
-    rw (id-is c) (all-at (λ x. x < a .n) (part (a .n + a .n) (a .m) (a .work .now)) (s .pre .1 .0) (c .before .loop .i) 0 (omega (arith, z, c .loop-test .taken)))
+id-lt c = let s = c .before .before .before in
+    id-low (s .args .work .now) (c .before .loop .work) (c .before .loop .i) (s .pre .0) (s .pre .1 .0) (c .loop-test .taken) (id-is c)
 
 -- its slot is that of its codes, which stand as at first
 slot-is : (c : tie.After-slot-of Inv-loop μ-loop)
-    → let l = c .before .before .before .before in
+    → let l = turn c in
     let a = l .before .before .args in
     c .slot-of .result ≡ slotIn (a .n) (a .work .now) (16 * a .entries) (a .a) (a .c) (getD (part (a .n + a .n) (a .m) (a .work .now)) (l .loop .i) 0)
 slot-is c =
-    let l = c .before .before .before .before in
+    let u = c .before .before .before in
+    let l = u .before in
     let s = l .before .before in
-    let a = s .args in
-    let n = a .n in
-    let x = getD (l .loop .work) (n + n + l .loop .i) 0 in
-    let r = s .pre .0 in
-    c .slot-of .ensures
-    ∙ (ap₂ (λ (hi lo : List ℕ). slotAt hi lo (16 * a .entries) (a .a) (a .c) x)
-    (only-part (n + n + n) (a .entries) (a .work .now) (l .loop .work) (l .loop .inv .1) 0 n (inl (omega arith)) (omega (arith, r .room)))
-    (only-part (n + n + n) (a .entries) (a .work .now) (l .loop .work) (l .loop .inv .1) n n (inl (omega arith)) (omega (arith, r .room)))
-    ∙ ap (slotIn n (a .work .now) (16 * a .entries) (a .a) (a .c)) (id-is (c .before .before .before)))
+    let n = s .args .n in
+    slot-same (s .args .work .now) (l .loop .work) (l .loop .i) (s .pre .0) (s .pre .1 .0) (u .loop-test .taken) (id-is u) (l .loop .inv .1) (omega arith)
+    (c .slot-of .ensures)
+    ∙ ap (slotIn n (s .args .work .now) (16 * s .args .entries) (s .args .a) (s .args .c)) (id-is u)
 
-has-slot : (c : tie.After-slot-of Inv-loop μ-loop) → c .slot-of .result < 16 * c .before .before .before .before .before .before .args .entries
+has-slot : (c : tie.After-slot-of Inv-loop μ-loop) → c .slot-of .result < 16 * start (turn c) .args .entries
 has-slot c =
-    let s = c .before .before .before .before .before .before in
-    let z = id-lt (c .before .before .before) in
-    rw (slot-is c) (slot-lt (16 * s .args .entries) (s .args .a) (s .args .c) _ _ (omega (arith, s .pre .0 .some (omega arith))))
+    let u = c .before .before .before in
+    let l = u .before in
+    let s = l .before .before in
+    slot-inside (s .args .work .now) (l .loop .work) (l .loop .i) (s .pre .0) (s .pre .1 .0) (u .loop-test .taken) (id-is u) (l .loop .inv .1) (omega arith)
+    (c .slot-of .ensures)
 
 add-ids : tie.Need-add-ids Inv-loop μ-loop
 add-ids c = search needs
@@ -72,7 +79,9 @@ mul-slots : tie.Need-mul-slots Inv-loop μ-loop
 mul-slots c = search needs
 
 loop-holds : tie.Need-loop-holds Inv-loop μ-loop
-loop-holds c = (omega arith, among-refl _ _, told-none _ _ (part (c .before .args .n + c .before .args .n + c .before .args .n) (c .before .args .entries) (c .before .args .work .now)) (c .before .pre .1 .1))
+loop-holds c =
+    let a = c .before .args in
+    (omega arith, among-refl _ _, told-none _ _ (part (a .n + a .n + a .n) (a .entries) (a .work .now)) (c .before .pre .1 .1))
 
 add-x : tie.Need-add-x Inv-loop μ-loop
 add-x c = search needs
@@ -87,7 +96,12 @@ cast-x : tie.Need-cast-x Inv-loop μ-loop
 cast-x c = omega (arith, id-lt (c .before))
 
 slot-of-requires : tie.Need-slot-of-requires Inv-loop μ-loop
-slot-of-requires c κs = let s = c .before .before .before .before .before in let r = s .pre .0 in ((id-lt (c .before .before), omega (arith, r .room, c .before .before .before .loop .inv .1 .size)), (omega (arith, r .few, r .counters), r .a-low, r .c-low))
+slot-of-requires c κs =
+    let s = start (c .before .before .before) in
+    let r = s .pre .0 in (
+      (id-lt (c .before .before), omega (arith, r .room, c .before .before .before .loop .inv .1 .size)),
+      (omega (arith, r .few, r .counters), r .a-low, r .c-low),
+    )
 
 add-t : tie.Need-add-t Inv-loop μ-loop
 add-t c = omega (arith, has-slot c)
@@ -116,8 +130,8 @@ loop-less c = search needs
 loop-again : tie.Need-loop-again Inv-loop μ-loop
 loop-again c =
     let q = c .before .before in
-    let l = q .before .before .before .before in
-    let s = l .before .before in
+    let l = turn q in
+    let s = start l in
     let a = s .args in
     let n = a .n in
     let r = s .pre .0 in
@@ -127,7 +141,8 @@ loop-again c =
       omega arith,
       only-set _ _ _ _ (l .loop .inv .1) _ _ k,
       rw (part-set (n + n + n) (a .entries) (l .loop .work) (q .slot-of .result / 16) (c .count-up .result) k)
-          (told-more _ (a .entries) (part (n + n) (a .m) (a .work .now)) (part (n + n + n) (a .entries) (l .loop .work)) (l .loop .i) (q .slot-of .result) (c .count-up .result) (omega arith) same (sym (slot-is q)) (has-slot q) (l .loop .inv .2)
+          (told-more _ (a .entries) (part (n + n) (a .m) (a .work .now)) (part (n + n + n) (a .entries) (l .loop .work)) (l .loop .i)
+          (q .slot-of .result) (c .count-up .result) (omega arith) same (sym (slot-is q)) (has-slot q) (l .loop .inv .2)
           (rw (part-at (n + n + n) (a .entries) (l .loop .work) (q .slot-of .result / 16) 0 k) (c .count-up .ensures))),
     )
 
@@ -137,7 +152,7 @@ same-length c = search needs
 returns : tie.Need-returns Inv-loop μ-loop
 returns c =
     let l = c .before .loop in
-    let s = c .before .before .before in
+    let s = start (c .before) in
     let a = s .args in
     let size = part-length (a .n + a .n) (a .m) (a .work .now) (omega (arith, s .pre .0 .room, s .pre .0 .ids)) in
     let q : l .i ≡ length (part (a .n + a .n) (a .m) (a .work .now)) = omega arith in

@@ -15,6 +15,10 @@ Inv-loop weights w₀ n₀ i₀ w n i = (i ≤ length weights) × (n ≤ i) × (
 abbrev μ-loop : tie.MeasureT-loop
 μ-loop weights w₀ n₀ i₀ w n i = length weights - i
 
+-- the start, seen from the loop
+abbrev start : tie.At-loop Inv-loop μ-loop → tie.Start Inv-loop μ-loop
+start c = c .before .before .before
+
 returns : tie.Need-returns Inv-loop μ-loop
 returns c = sym (ap length (runs-none _ (c .if1 .taken)))
 
@@ -22,7 +26,8 @@ shared-slice-read-w : tie.Need-shared-slice-read-w Inv-loop μ-loop
 shared-slice-read-w c = search needs
 
 loop-holds : tie.Need-loop-holds Inv-loop μ-loop
-loop-holds c = (omega (arith, c .before .if1 .left), omega arith, omega (arith, ap length (runs-first (c .before .before .args .weights .now) (c .before .if1 .left))))
+loop-holds c =
+    (omega (arith, c .before .if1 .left), omega arith, omega (arith, ap length (runs-first (c .before .before .args .weights .now) (c .before .if1 .left))))
 
 mul-v : tie.Need-mul-v Inv-loop μ-loop
 mul-v c = search needs
@@ -40,16 +45,38 @@ loop-less : tie.Need-loop-less Inv-loop μ-loop
 loop-less c = search needs
 
 loop-again : tie.Need-loop-again Inv-loop μ-loop
-loop-again c = (omega arith, omega arith, omega (arith, c .before .before .before .loop .inv .2, ap length (later-new (c .before .before .before .loop .w) (c .before .before .before .before .before .before .args .weights .now) (c .before .before .before .loop .i) (c .before .before .loop-test .taken) (c .if2 .taken))))
+loop-again c =
+    let l = c .before .before .before .loop in (
+      omega arith,
+      omega arith,
+      omega (
+        arith,
+        l .inv .2,
+        ap length (later-new (l .w) (start (c .before .before .before) .args .weights .now) (l .i) (c .before .before .loop-test .taken)
+            (c .if2 .taken)),
+      ),
+    )
 
 loop-less-2 : tie.Need-loop-less-2 Inv-loop μ-loop
 loop-less-2 c = search needs
 
 loop-again-2 : tie.Need-loop-again-2 Inv-loop μ-loop
-loop-again-2 c = (omega arith, omega arith, omega (arith, c .before .before .before .loop .inv .2, ap length (later-same (c .before .before .before .loop .w) (c .before .before .before .before .before .before .args .weights .now) (c .before .before .before .loop .i) (c .before .before .loop-test .taken) (c .if2 .left))))
+loop-again-2 c =
+    let l = c .before .before .before .loop in (
+      omega arith,
+      omega arith,
+      omega (
+        arith,
+        l .inv .2,
+        ap length (later-same (l .w) (start (c .before .before .before) .args .weights .now) (l .i) (c .before .before .loop-test .taken)
+            (c .if2 .left)),
+      ),
+    )
 
 returns-2 : tie.Need-returns-2 Inv-loop μ-loop
-returns-2 c = omega (arith, c .before .loop .inv .2, ap length (later-end (c .before .loop .w) (c .before .before .before .before .args .weights .now) (c .before .loop .i) (c .loop-test .left)))
+returns-2 c =
+    let l = c .before .loop in
+    omega (arith, l .inv .2, ap length (later-end (l .w) (start (c .before) .args .weights .now) (l .i) (c .loop-test .left)))
 
 pub count-runs-spec : {M : Type 1} → statement M
 count-runs-spec =

@@ -36,17 +36,20 @@ returns c =
 
 add-n : tie.Need-add-n Inv-loop μ-loop
 add-n c =
-    let on = count-next (c .before .before .before .before .before .loop .inv) (sym (c .before .before .before .line-at .ensures) ∙ c .before .l .given .1) .0 in
+    let on = count-next (c .before .before .before .before .before .loop .inv)
+    (sym (c .before .before .before .line-at .ensures) ∙ c .before .l .given .1) .0 in
     omega (arith, on .letters, on .inside)
 
 add-m : tie.Need-add-m Inv-loop μ-loop
 add-m c =
-    let on = count-next (c .before .before .before .before .before .loop .inv) (sym (c .before .before .before .line-at .ensures) ∙ c .before .l .given .1) .0 in
+    let on = count-next (c .before .before .before .before .before .loop .inv)
+    (sym (c .before .before .before .line-at .ensures) ∙ c .before .l .given .1) .0 in
     omega (arith, on .strings, on .inside)
 
 add-w : tie.Need-add-w Inv-loop μ-loop
 add-w c =
-    let on = count-next (c .before .before .before .before .before .loop .inv) (sym (c .before .before .before .line-at .ensures) ∙ c .before .l .given .1) .0 in
+    let on = count-next (c .before .before .before .before .before .loop .inv)
+    (sym (c .before .before .before .line-at .ensures) ∙ c .before .l .given .1) .0 in
     omega (arith, on .weights, on .inside)
 
 loop-less : tie.Need-loop-less Inv-loop μ-loop

@@ -28,7 +28,8 @@ is-letter-requires c κs = search needs
 returns : tie.Need-returns Inv-loop μ-loop
 returns c =
     let at = c .before .before .before .before in
-    let e = span-stop (at .before .before .args .s .now) (at .loop .i) (c .before .before .before .loop-test .taken) (told-no (c .before .is-letter .ensures) (c .if1 .taken)) in
+    let e = span-stop (at .before .before .args .s .now) (at .loop .i) (c .before .before .before .loop-test .taken)
+    (told-no (c .before .is-letter .ensures) (c .if1 .taken)) in
     (omega (arith, at .loop .inv .1, e), at .loop .inv .0)
 
 add-i : tie.Need-add-i Inv-loop μ-loop
@@ -40,7 +41,8 @@ loop-less c = search needs
 loop-again : tie.Need-loop-again Inv-loop μ-loop
 loop-again c =
     let at = c .before .before .before .before in
-    let e = span-next (at .before .before .args .s .now) (at .loop .i) (c .before .before .before .loop-test .taken) (told-yes (c .before .is-letter .ensures) (c .if1 .left)) in
+    let e = span-next (at .before .before .args .s .now) (at .loop .i) (c .before .before .before .loop-test .taken)
+    (told-yes (c .before .is-letter .ensures) (c .if1 .left)) in
     (omega arith, omega (arith, at .loop .inv .1, e))
 
 returns-2 : tie.Need-returns-2 Inv-loop μ-loop

@@ -75,7 +75,9 @@ returns-6 c =
     let k-here = told-yes (e1 .before .byte-is .ensures) (e1 .if1 .left) in
     let tab-here = told-yes (e2 .before .byte-is2 .ensures) (e2 .if2 .left) in
     let no-zero = sym (e3 .before .byte-is3 .ensures) ∙ e3 .if3 .left in
-    c .head-end2 .ensures ∙ number-head _ k-here tab-here no-zero _ _ (sym (c .before .before .before .before .before .weight-at .ensures) ∙ c .before .before .before .w .given .1) (c .before .if4 .left)
+    c .head-end2 .ensures
+    ∙ number-head _ k-here tab-here no-zero _ _ (sym (c .before .before .before .before .before .weight-at .ensures) ∙ c .before .before .before .w .given .1)
+    (c .before .if4 .left)
 
 pub head-at-spec : {M : Type 1} → statement M
 head-at-spec =

@@ -25,7 +25,8 @@ returns-2 : tie.Need-returns-2
 returns-2 c =
     let e = c .before .before in
     let h = told-yes (e .before .is-marked .ensures) (e .if1 .left) in
-    sym (line-few _ _ (e .before .before .before .args .k) _ (c .before .letters-end .result) _ h (c .before .letters-end .ensures .0) refl refl (c .if2 .taken))
+    sym (line-few _ _ (e .before .before .before .args .k) _ (c .before .letters-end .result) _ h (c .before .letters-end .ensures .0) refl refl
+    (c .if2 .taken))
 
 add-w : tie.Need-add-w
 add-w c = search needs
@@ -47,14 +48,16 @@ returns-3 c =
     let l = c .before .before .before .before in
     let e = l .before in
     let h = told-yes (e .before .is-marked .ensures) (e .if1 .left) in
-    sym (line-bad _ _ (e .before .before .before .args .k) _ (l .letters-end .result) _ h (l .letters-end .ensures .0) refl refl (c .before .before .before .if2 .left) (sym (c .before .before .tail-at .ensures) ∙ c .enum-told .given .1))
+    sym (line-bad _ _ (e .before .before .before .args .k) _ (l .letters-end .result) _ h (l .letters-end .ensures .0) refl refl
+    (c .before .before .before .if2 .left) (sym (c .before .before .tail-at .ensures) ∙ c .enum-told .given .1))
 
 returns-4 : tie.Need-returns-4
 returns-4 c =
     let l = c .before .before .before .before .before in
     let e = l .before in
     let h = told-yes (e .before .is-marked .ensures) (e .if1 .left) in
-    sym (line-good _ _ (e .before .before .before .args .k) _ (l .letters-end .result) _ h (l .letters-end .ensures .0) refl refl _ (c .before .before .before .before .if2 .left) (sym (c .before .before .before .tail-at .ensures) ∙ c .before .t .given .1))
+    sym (line-good _ _ (e .before .before .before .args .k) _ (l .letters-end .result) _ h (l .letters-end .ensures .0) refl refl _
+    (c .before .before .before .before .if2 .left) (sym (c .before .before .before .tail-at .ensures) ∙ c .before .t .given .1))
 
 pub line-at-spec : {M : Type 1} → statement M
 line-at-spec =

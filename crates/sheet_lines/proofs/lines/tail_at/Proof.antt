@@ -24,7 +24,8 @@ byte-is-requires c κs = search needs
 returns : tie.Need-returns Inv-loop μ-loop
 returns c =
     let at = c .before .before .before in
-    sym (at .loop .inv ∙ tail-no-tab _ (at .loop .i) (at .loop .j) (c .before .before .loop-test .taken) (told-no (c .before .byte-is .ensures) (c .if1 .taken)))
+    sym (at .loop .inv
+    ∙ tail-no-tab _ (at .loop .i) (at .loop .j) (c .before .before .loop-test .taken) (told-no (c .before .byte-is .ensures) (c .if1 .taken)))
 
 add-weight-at : tie.Need-add-weight-at Inv-loop μ-loop
 add-weight-at c =
@@ -45,7 +46,9 @@ returns-2 : tie.Need-returns-2 Inv-loop μ-loop
 returns-2 c =
     let e = c .before .before .before in
     let at = e .before .before .before in
-    sym (at .loop .inv ∙ tail-bad _ (at .loop .i) (at .loop .j) (e .before .before .loop-test .taken) (told-yes (e .before .byte-is .ensures) (e .if1 .left)) (sym (c .before .before .weight-at .ensures) ∙ c .enum-told .given .1))
+    sym (at .loop .inv
+    ∙ tail-bad _ (at .loop .i) (at .loop .j) (e .before .before .loop-test .taken) (told-yes (e .before .byte-is .ensures) (e .if1 .left))
+    (sym (c .before .before .weight-at .ensures) ∙ c .enum-told .given .1))
 
 sub-j : tie.Need-sub-j Inv-loop μ-loop
 sub-j c = search needs
@@ -57,7 +60,9 @@ loop-again : tie.Need-loop-again Inv-loop μ-loop
 loop-again c =
     let e = c .before .before .before .before in
     let at = e .before .before .before in
-    at .loop .inv ∙ tail-next _ (at .loop .i) (at .loop .j) (e .before .before .loop-test .taken) _ _ (told-yes (e .before .byte-is .ensures) (e .if1 .left)) (sym (c .before .before .before .weight-at .ensures) ∙ c .before .w .given .1)
+    at .loop .inv
+    ∙ tail-next _ (at .loop .i) (at .loop .j) (e .before .before .loop-test .taken) _ _ (told-yes (e .before .byte-is .ensures) (e .if1 .left))
+    (sym (c .before .before .before .weight-at .ensures) ∙ c .before .w .given .1)
 
 tail-end-requires : tie.Need-tail-end-requires Inv-loop μ-loop
 tail-end-requires c κs = search needs

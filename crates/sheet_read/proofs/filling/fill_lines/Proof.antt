@@ -15,7 +15,8 @@ use Rattle.sheet_read.proofs.filling.fill_lines.Tie as tie
 
 abbrev Inv-loop : tie.InvT-loop
 Inv-loop k s at letters₀ ends₀ weights₀ i₀ n₀ m₀ w₀ letters ends weights i n m w =
-    State k s (length letters₀) (length ends₀) (length weights₀) (fill (lettersIn (stringsAt s at)) letters₀) (fill (endsIn 0 (stringsAt s at)) ends₀) (fill (weightsIn (stringsAt s at)) weights₀) i n m w letters ends weights
+    State k s (length letters₀) (length ends₀) (length weights₀) (fill (lettersIn (stringsAt s at)) letters₀) (fill (endsIn 0 (stringsAt s at)) ends₀)
+    (fill (weightsIn (stringsAt s at)) weights₀) i n m w letters ends weights
 
 abbrev μ-loop : tie.MeasureT-loop
 μ-loop k s at letters₀ ends₀ weights₀ i₀ n₀ m₀ w₀ letters ends weights i n m w = length s - i
@@ -107,7 +108,8 @@ loop-again : tie.Need-loop-again Inv-loop μ-loop
 loop-again c =
     let le = c .before .before .before .before .before .before .before .before in
     let sp = split (le .before .before .loop .inv) (le .before .loop-test .taken) (le .letters-end .ensures) in
-    next-state sp _ (c .before .before .fill-weights .ensures .1) (c .before .before .before .before .before .before .copy-bytes .ensures) (c .before .before .fill-weights .ensures .0)
+    next-state sp _ (c .before .before .fill-weights .ensures .1) (c .before .before .before .before .before .before .copy-bytes .ensures)
+    (c .before .before .fill-weights .ensures .0)
 
 same-length : tie.Need-same-length Inv-loop μ-loop
 same-length c = c .before .loop .inv .letters .size-kept

@@ -16,7 +16,8 @@ use Rattle.sheet_read.proofs.filling.fill_weights.Statement.{statement}
 use Rattle.sheet_read.proofs.filling.fill_weights.Tie as tie
 
 abbrev Inv-loop : tie.InvT-loop
-Inv-loop s at n out₀ o i₀ j₀ p₀ out i j p = (fine (tailAt s i j) ≡ true) × Storing (length out₀) out (put o (weightsAt s at) out₀) (weightsAt s i) p × (tailAt s at n ≡ tailAt s i j)
+Inv-loop s at n out₀ o i₀ j₀ p₀ out i j p =
+    (fine (tailAt s i j) ≡ true) × Storing (length out₀) out (put o (weightsAt s at) out₀) (weightsAt s i) p × (tailAt s at n ≡ tailAt s i j)
 
 abbrev μ-loop : tie.MeasureT-loop
 μ-loop s at n out₀ o i₀ j₀ p₀ out i j p = j
@@ -33,7 +34,9 @@ same-length c = c .before .before .before .loop .inv .1 .size-kept
 returns : tie.Need-returns Inv-loop μ-loop
 returns c =
     let at = c .before .before .before in
-    absurd (not-fine (tail-no-tab (at .before .before .before .args .s .now) (at .loop .i) (at .loop .j) (c .before .before .loop-test .taken) (told-no (c .before .byte-is .ensures) (c .if1 .taken))) (at .loop .inv .0))
+    absurd (not-fine
+    (tail-no-tab (at .before .before .before .args .s .now) (at .loop .i) (at .loop .j) (c .before .before .loop-test .taken)
+    (told-no (c .before .byte-is .ensures) (c .if1 .taken))) (at .loop .inv .0))
 
 add-weight-at : tie.Need-add-weight-at Inv-loop μ-loop
 add-weight-at c =
@@ -57,7 +60,9 @@ returns-2 : tie.Need-returns-2 Inv-loop μ-loop
 returns-2 c =
     let e = c .before .before .before in
     let at = e .before .before .before in
-    absurd (not-fine (tail-bad (at .before .before .before .args .s .now) (at .loop .i) (at .loop .j) (e .before .before .loop-test .taken) (told-yes (e .before .byte-is .ensures) (e .if1 .left)) (sym (c .before .before .weight-at .ensures) ∙ c .enum-told .given .1)) (at .loop .inv .0))
+    absurd (not-fine
+    (tail-bad (at .before .before .before .args .s .now) (at .loop .i) (at .loop .j) (e .before .before .loop-test .taken)
+    (told-yes (e .before .byte-is .ensures) (e .if1 .left)) (sym (c .before .before .weight-at .ensures) ∙ c .enum-told .given .1)) (at .loop .inv .0))
 
 mul-out : tie.Need-mul-out Inv-loop μ-loop
 mul-out c = search needs
@@ -67,7 +72,9 @@ slice-write-out c =
     let e = c .before .before .before .before in
     let at = e .before .before .before in
     let w = sym (c .before .before .before .weight-at .ensures) ∙ c .before .w .given .1 in
-    let st = restated (weights-next (at .before .before .before .args .s .now) (at .loop .i) (c .before .w .given .0 .0) (c .before .w .given .0 .1 .0) (told-yes (e .before .byte-is .ensures) (e .if1 .left)) w) (at .loop .inv .1) in
+    let st = restated
+    (weights-next (at .before .before .before .args .s .now) (at .loop .i) (c .before .w .given .0 .0) (c .before .w .given .0 .1 .0)
+    (told-yes (e .before .byte-is .ensures) (e .if1 .left)) w) (at .loop .inv .1) in
     inside st
 
 add-p : tie.Need-add-p Inv-loop μ-loop
@@ -75,7 +82,9 @@ add-p c =
     let e = c .before .before .before .before in
     let at = e .before .before .before in
     let w = sym (c .before .before .before .weight-at .ensures) ∙ c .before .w .given .1 in
-    let st = restated (weights-next (at .before .before .before .args .s .now) (at .loop .i) (c .before .w .given .0 .0) (c .before .w .given .0 .1 .0) (told-yes (e .before .byte-is .ensures) (e .if1 .left)) w) (at .loop .inv .1) in
+    let st = restated
+    (weights-next (at .before .before .before .args .s .now) (at .loop .i) (c .before .w .given .0 .0) (c .before .w .given .0 .1 .0)
+    (told-yes (e .before .byte-is .ensures) (e .if1 .left)) w) (at .loop .inv .1) in
     omega (arith, inside st)
 
 sub-j : tie.Need-sub-j Inv-loop μ-loop
@@ -89,8 +98,11 @@ loop-again c =
     let e = c .before .before .before .before in
     let at = e .before .before .before in
     let w = sym (c .before .before .before .weight-at .ensures) ∙ c .before .w .given .1 in
-    let st = restated (weights-next (at .before .before .before .args .s .now) (at .loop .i) (c .before .w .given .0 .0) (c .before .w .given .0 .1 .0) (told-yes (e .before .byte-is .ensures) (e .if1 .left)) w) (at .loop .inv .1) in
-    let tn = tail-next (at .before .before .before .args .s .now) (at .loop .i) (at .loop .j) (e .before .before .loop-test .taken) _ _ (told-yes (e .before .byte-is .ensures) (e .if1 .left)) w in
+    let st = restated
+    (weights-next (at .before .before .before .args .s .now) (at .loop .i) (c .before .w .given .0 .0) (c .before .w .given .0 .1 .0)
+    (told-yes (e .before .byte-is .ensures) (e .if1 .left)) w) (at .loop .inv .1) in
+    let tn = tail-next (at .before .before .before .args .s .now) (at .loop .i) (at .loop .j) (e .before .before .loop-test .taken) _ _
+    (told-yes (e .before .byte-is .ensures) (e .if1 .left)) w in
     (sym (ap fine tn) ∙ at .loop .inv .0, store st, at .loop .inv .2 ∙ tn)
 
 same-length-3 : tie.Need-same-length-3 Inv-loop μ-loop
@@ -100,8 +112,11 @@ returns-3 : tie.Need-returns-3 Inv-loop μ-loop
 returns-3 c =
     let at = c .before in
     let z : at .loop .j ≡ 0 = omega (arith, c .loop-test .left) in
-    let f = sym (ap (λ (x : ℕ). fine (tailAt (at .before .before .before .args .s .now) (at .loop .i) x)) z) ∙ at .loop .inv .0 in
-    (stored (restated (weights-none (at .before .before .before .args .s .now) (at .loop .i) f) (at .loop .inv .1)), at .loop .inv .2 ∙ (ap (tailAt (at .before .before .before .args .s .now) (at .loop .i)) z ∙ tail-fine (at .before .before .before .args .s .now) (at .loop .i) f))
+    let f = sym (ap (λ (x : ℕ). fine (tailAt (at .before .before .before .args .s .now) (at .loop .i) x)) z) ∙ at .loop .inv .0 in (
+      stored (restated (weights-none (at .before .before .before .args .s .now) (at .loop .i) f) (at .loop .inv .1)),
+      at .loop .inv .2
+          ∙ (ap (tailAt (at .before .before .before .args .s .now) (at .loop .i)) z ∙ tail-fine (at .before .before .before .args .s .now) (at .loop .i) f),
+    )
 
 pub fill-weights-spec : {M : Type 1} → statement M
 fill-weights-spec =

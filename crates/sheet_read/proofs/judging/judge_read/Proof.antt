@@ -14,7 +14,7 @@ enum-told : tie.Need-enum-told
 enum-told c = search needs
 
 returns : tie.Need-returns
-returns c = lines-refused _ _ _ _ (c .before .before .judge-sheet .ensures) (c .enum-told .given .1)
+returns c = lines-refused _ _ (c .before .before .judge-sheet .ensures) (c .enum-told .given .1)
 
 judge-tables-requires : tie.Need-judge-tables-requires
 judge-tables-requires c κs = search needs
@@ -26,7 +26,7 @@ returns-2 : tie.Need-returns-2
 returns-2 c =
     let t = c .before .before .before in
     let j = t .before .before in
-    tables-refused _ _ _ _ (j .before .before .judge-sheet .ensures) (j .j .given .1) (t .judge-tables .ensures) (c .before .v .given .1)
+    tables-refused _ _ (j .before .before .judge-sheet .ensures) (j .j .given .1) (t .judge-tables .ensures) (c .before .v .given .1)
 
 enum-told-2 : tie.Need-enum-told-2
 enum-told-2 c = search needs
@@ -35,7 +35,7 @@ returns-3 : tie.Need-returns-3
 returns-3 c =
     let t = c .before .before in
     let j = t .before .before in
-    tables-good _ _ _ _ (j .before .before .judge-sheet .ensures) (j .j .given .1) (t .judge-tables .ensures) (c .enum-told2 .given .1)
+    tables-good _ _ (j .before .before .judge-sheet .ensures) (j .j .given .1) (t .judge-tables .ensures) (c .enum-told2 .given .1)
 
 pub judge-read-spec : {M : Type 1} → statement M
 judge-read-spec =

@@ -10,7 +10,8 @@ use Rattle.sheet_write.proofs.numbers.put_weights.Statement.{statement}
 use Rattle.sheet_write.proofs.numbers.put_weights.Tie as tie
 
 abbrev Inv-loop : tie.InvT-loop
-Inv-loop weights w n out₀ at e i₀ p₀ out i p = Weighing (length out₀) weights (w + n) (at + length (weightsText (take n (drop w weights)))) (put at (weightsText (take n (drop w weights))) out₀) out i p
+Inv-loop weights w n out₀ at e i₀ p₀ out i p =
+    Weighing (length out₀) weights (w + n) (at + length (weightsText (take n (drop w weights)))) (put at (weightsText (take n (drop w weights))) out₀) out i p
 
 abbrev μ-loop : tie.MeasureT-loop
 μ-loop weights w n out₀ at e i₀ p₀ out i p = w + n - i

@@ -14,7 +14,9 @@ use Rattle.sheet_write.proofs.writing.put_lines.Statement.{statement}
 use Rattle.sheet_write.proofs.writing.put_lines.Tie as tie
 
 abbrev Inv-loop : tie.InvT-loop
-Inv-loop k letters ends weights out₀ at before₀ w₀ p₀ i₀ out before w p i = Lining (collection k letters ends weights) (length out₀) (at + length (linesText (strings (collection k letters ends weights)))) (put at (linesText (strings (collection k letters ends weights))) out₀) out before w p i
+Inv-loop k letters ends weights out₀ at before₀ w₀ p₀ i₀ out before w p i =
+    Lining (collection k letters ends weights) (length out₀) (at + length (linesText (strings (collection k letters ends weights))))
+    (put at (linesText (strings (collection k letters ends weights))) out₀) out before w p i
 
 abbrev μ-loop : tie.MeasureT-loop
 μ-loop k letters ends weights out₀ at before₀ w₀ p₀ i₀ out before w p i = length ends - i

@@ -13,8 +13,11 @@ put-head-requires c κs =
 put-lines-requires : tie.Need-put-lines-requires
 put-lines-requires c κs =
     let h = c .before .before .before in
-    let g = h .before .before .before .before .before .before in
-    (g .pre .0, lines-room (collection (g .args .k) (g .args .letters .now) (g .args .ends .now) (g .args .weights .now)) (g .args .out .now) (g .pre .1) (h .put-head .ensures .0) (h .put-head .ensures .1))
+    let g = h .before .before .before .before .before .before in (
+      g .pre .0,
+      lines-room (collection (g .args .k) (g .args .letters .now) (g .args .ends .now) (g .args .weights .now)) (g .args .out .now) (g .pre .1)
+          (h .put-head .ensures .0) (h .put-head .ensures .1),
+    )
 
 same-length : tie.Need-same-length
 same-length c = search needs
@@ -24,7 +27,8 @@ returns c =
     let l = c .before .before in
     let h = l .before .before .before .before in
     let g = h .before .before .before .before .before .before in
-    sheet-done (collection (g .args .k) (g .args .letters .now) (g .args .ends .now) (g .args .weights .now)) (g .args .out .now) (g .pre .1) (h .put-head .ensures .0) (h .put-head .ensures .1) (l .put-lines .ensures .0) (l .put-lines .ensures .1)
+    sheet-done (collection (g .args .k) (g .args .letters .now) (g .args .ends .now) (g .args .weights .now)) (g .args .out .now) (g .pre .1)
+    (h .put-head .ensures .0) (h .put-head .ensures .1) (l .put-lines .ensures .0) (l .put-lines .ensures .1)
 
 pub put-sheet-spec : {M : Type 1} → statement M
 put-sheet-spec = tie.close (tie.spec put-head-requires put-lines-requires same-length returns)

@@ -57,28 +57,40 @@ slice-write-out-3 c =
     let z = c .before .before in
     let y = z .before .before .before .before in
     let g = y .before .before .before .before .before in
-    inside (line-weighed (g .args .letters .now) (g .args .weights .now) (g .args .out .now) _ _ _ _ _ (g .pre .0) (g .pre .1) (y .copy-bytes .ensures) (z .put-weights .ensures .0) (z .put-weights .ensures .1))
+    inside (line-weighed (g .args .letters .now) (g .args .weights .now) (g .args .out .now) _ _ _ _ _ (g .pre .0) (g .pre .1) (y .copy-bytes .ensures)
+    (z .put-weights .ensures .0) (z .put-weights .ensures .1))
 
 add-result : tie.Need-add-result
 add-result c =
     let z = c .before .before in
     let y = z .before .before .before .before in
     let g = y .before .before .before .before .before in
-    omega (arith, line-fits (g .args .letters .now) (g .args .weights .now) (g .args .out .now) _ _ _ _ _ (g .pre .0) (g .pre .1) (y .copy-bytes .ensures) (z .put-weights .ensures .0), g .good .1 .1 .1 .1 .1 .1 .0)
+    omega (
+      arith,
+      line-fits (g .args .letters .now) (g .args .weights .now) (g .args .out .now) _ _ _ _ _ (g .pre .0) (g .pre .1) (y .copy-bytes .ensures)
+          (z .put-weights .ensures .0),
+      g .good .1 .1 .1 .1 .1 .1 .0,
+    )
 
 same-length : tie.Need-same-length
 same-length c =
     let z = c .before .before in
     let y = z .before .before .before .before in
     let g = y .before .before .before .before .before in
-    store (line-weighed (g .args .letters .now) (g .args .weights .now) (g .args .out .now) _ _ _ _ _ (g .pre .0) (g .pre .1) (y .copy-bytes .ensures) (z .put-weights .ensures .0) (z .put-weights .ensures .1)) .size-kept
+    store (line-weighed (g .args .letters .now) (g .args .weights .now) (g .args .out .now) _ _ _ _ _ (g .pre .0) (g .pre .1) (y .copy-bytes .ensures)
+    (z .put-weights .ensures .0) (z .put-weights .ensures .1)) .size-kept
 
 returns : tie.Need-returns
 returns c =
     let z = c .before .before in
     let y = z .before .before .before .before in
-    let g = y .before .before .before .before .before in
-    (line-end (g .args .letters .now) (g .args .weights .now) (g .args .out .now) _ _ _ _ _ (g .pre .0) (g .pre .1) (y .copy-bytes .ensures) (z .put-weights .ensures .0), stored (store (line-weighed (g .args .letters .now) (g .args .weights .now) (g .args .out .now) _ _ _ _ _ (g .pre .0) (g .pre .1) (y .copy-bytes .ensures) (z .put-weights .ensures .0) (z .put-weights .ensures .1))))
+    let g = y .before .before .before .before .before in (
+      line-end (g .args .letters .now) (g .args .weights .now) (g .args .out .now) _ _ _ _ _ (g .pre .0) (g .pre .1) (y .copy-bytes .ensures)
+          (z .put-weights .ensures .0),
+      stored (store
+          (line-weighed (g .args .letters .now) (g .args .weights .now) (g .args .out .now) _ _ _ _ _ (g .pre .0) (g .pre .1) (y .copy-bytes .ensures)
+          (z .put-weights .ensures .0) (z .put-weights .ensures .1))),
+    )
 
 pub put-string-spec : {M : Type 1} → statement M
 put-string-spec =

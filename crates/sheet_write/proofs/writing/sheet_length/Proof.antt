@@ -19,7 +19,13 @@ add-result : tie.Need-add-result
 add-result c = omega (arith, c .digit-count .ensures .1, collection-good _ (c .before .before .before .before .pre) .shape .m-high)
 
 add-result-2 : tie.Need-add-result-2
-add-result-2 c = omega (arith, c .digit-count .ensures .1, collection-good _ (c .before .before .before .before .pre) .shape .m-high, collection-good _ (c .before .before .before .before .pre) .shape .N-high)
+add-result-2 c =
+    omega (
+      arith,
+      c .digit-count .ensures .1,
+      collection-good _ (c .before .before .before .before .pre) .shape .m-high,
+      collection-good _ (c .before .before .before .before .pre) .shape .N-high,
+    )
 
 weights-length-requires : tie.Need-weights-length-requires
 weights-length-requires c κs = few-weights (collection-good _ (c .before .before .before .before .pre))

@@ -55,8 +55,10 @@ loop-again c =
 
 returns : tie.Need-returns Inv-loop μ-loop
 returns c =
-    let at = c .before in
-    (omega (arith, at .loop .inv .2, weights-counted (at .before .before .args .weights .now) (at .loop .i) (c .loop-test .left)), omega (arith, at .loop .inv .1, at .loop .inv .0))
+    let at = c .before in (
+      omega (arith, at .loop .inv .2, weights-counted (at .before .before .args .weights .now) (at .loop .i) (c .loop-test .left)),
+      omega (arith, at .loop .inv .1, at .loop .inv .0),
+    )
 
 pub weights-length-spec : {M : Type 1} → statement M
 weights-length-spec =

@@ -33,8 +33,10 @@ count-all-requires : tie.Need-count-all-requires
 count-all-requires c κs =
     let b = c .before .before in
     let v = b .before .before .before .before .before in
-    let g = v .before .before .before .before .before .before .before .before .before .before .before .before .before in
-    ((strung _ (g .pre .0), weighed _ (g .pre .0)), (paths-low _ (g .pre .0) (v .cover .ensures) (g .pre .1 .0) (omega (arith, g .pre .1 .1)) (b .b .given .1), omega (arith, g .pre .1 .2)))
+    let g = v .before .before .before .before .before .before .before .before .before .before .before .before .before in (
+      (strung _ (g .pre .0), weighed _ (g .pre .0)),
+      (paths-low _ (g .pre .0) (v .cover .ensures) (g .pre .1 .0) (omega (arith, g .pre .1 .1)) (b .b .given .1), omega (arith, g .pre .1 .2)),
+    )
 
 enum-known-b-2 : tie.Need-enum-known-b-2
 enum-known-b-2 c = search needs
@@ -52,7 +54,8 @@ returns-2 c =
     let a = v .before .before .before in
     let h = a .before .before .before .before in
     let g = h .before .before .before .before .before .before in
-    check-passed _ (g .pre .0) _ (g .pre .1 .2) (h .check .ensures) (a .enum-told .given .1) (numbers-told _ (g .pre .0) (v .cover .ensures) (g .pre .1 .0) (omega (arith, g .pre .1 .1)) (b .b .given .1) (c .before .before .count-all .ensures))
+    check-passed _ (g .pre .0) _ (g .pre .1 .2) (h .check .ensures) (a .enum-told .given .1)
+    (numbers-told _ (g .pre .0) (v .cover .ensures) (g .pre .1 .0) (omega (arith, g .pre .1 .1)) (b .b .given .1) (c .before .before .count-all .ensures))
 
 same-length-4 : tie.Need-same-length-4
 same-length-4 c = search needs

@@ -6,6 +6,19 @@ use borrow.Author.Needs.{needs}
 use Rattle.summary.proofs.telling.tell.Statement.{statement}
 use Rattle.summary.proofs.telling.tell.Tie as tie
 
+-- where READ was asked, seen from where its answer is known; that the sheet is short, and the start, seen from there
+abbrev asked : tie.After-a → tie.After-read
+asked c = c .before .before .before .before .before .before .before .before
+
+abbrev asked-2 : tie.After-a2 → tie.After-read
+asked-2 c = c .before .before .before .before .before .before .before .before
+
+abbrev short : tie.After-read → tie.Else1
+short c = c .before .before .before .before
+
+abbrev start : tie.After-read → tie.Start
+start c = short c .before .before .before .before .before .before
+
 returns : tie.Need-returns
 returns c = too-long _ (c .if1 .taken)
 
@@ -18,58 +31,46 @@ enum-known-a c = search needs
 slice-reshare-prefix-tell-collection : tie.Need-slice-reshare-prefix-tell-collection
 slice-reshare-prefix-tell-collection c =
     let a = c .before in
-    let r = a .before .before .before .before .before .before .before .before in
-    let t = r .before .before .before .before in
-    let g = t .before .before .before .before .before .before in
-    parts-inside _ _ _ _ _ _ (t .if1 .left) (g .pre) (r .read .ensures) (a .a .given .1) .0
+    let r = asked a in
+    parts-inside _ _ _ _ (short r .if1 .left) (start r .pre) (r .read .ensures) (a .a .given .1) .0
 
 slice-aggregate-tell-collection : tie.Need-slice-aggregate-tell-collection
 slice-aggregate-tell-collection c =
     let a = c .before .before in
-    let r = a .before .before .before .before .before .before .before .before in
-    let t = r .before .before .before .before in
-    let g = t .before .before .before .before .before .before in
-    sym (length-take-le _ _ (parts-inside _ _ _ _ _ _ (t .if1 .left) (g .pre) (r .read .ensures) (a .a .given .1) .0))
+    let r = asked a in
+    sym (length-take-le _ _ (parts-inside _ _ _ _ (short r .if1 .left) (start r .pre) (r .read .ensures) (a .a .given .1) .0))
 
 slice-reshare-prefix-tell-collection-2 : tie.Need-slice-reshare-prefix-tell-collection-2
 slice-reshare-prefix-tell-collection-2 c =
     let a = c .before .before in
-    let r = a .before .before .before .before .before .before .before .before in
-    let t = r .before .before .before .before in
-    let g = t .before .before .before .before .before .before in
-    parts-inside _ _ _ _ _ _ (t .if1 .left) (g .pre) (r .read .ensures) (a .a .given .1) .1
+    let r = asked a in
+    parts-inside _ _ _ _ (short r .if1 .left) (start r .pre) (r .read .ensures) (a .a .given .1) .1
 
 slice-aggregate-tell-collection-2 : tie.Need-slice-aggregate-tell-collection-2
 slice-aggregate-tell-collection-2 c =
     let a = c .before .before .before in
-    let r = a .before .before .before .before .before .before .before .before in
-    let t = r .before .before .before .before in
-    let g = t .before .before .before .before .before .before in
-    sym (length-take-le _ _ (parts-inside _ _ _ _ _ _ (t .if1 .left) (g .pre) (r .read .ensures) (a .a .given .1) .1))
+    let r = asked a in
+    sym (length-take-le _ _ (parts-inside _ _ _ _ (short r .if1 .left) (start r .pre) (r .read .ensures) (a .a .given .1) .1))
 
 slice-reshare-prefix-tell-collection-3 : tie.Need-slice-reshare-prefix-tell-collection-3
 slice-reshare-prefix-tell-collection-3 c =
     let a = c .before .before .before in
-    let r = a .before .before .before .before .before .before .before .before in
-    let t = r .before .before .before .before in
-    let g = t .before .before .before .before .before .before in
-    parts-inside _ _ _ _ _ _ (t .if1 .left) (g .pre) (r .read .ensures) (a .a .given .1) .2
+    let r = asked a in
+    parts-inside _ _ _ _ (short r .if1 .left) (start r .pre) (r .read .ensures) (a .a .given .1) .2
 
 slice-aggregate-tell-collection-3 : tie.Need-slice-aggregate-tell-collection-3
 slice-aggregate-tell-collection-3 c =
     let a = c .before .before .before .before in
-    let r = a .before .before .before .before .before .before .before .before in
-    let t = r .before .before .before .before in
-    let g = t .before .before .before .before .before .before in
-    sym (length-take-le _ _ (parts-inside _ _ _ _ _ _ (t .if1 .left) (g .pre) (r .read .ensures) (a .a .given .1) .2))
+    let r = asked a in
+    sym (length-take-le _ _ (parts-inside _ _ _ _ (short r .if1 .left) (start r .pre) (r .read .ensures) (a .a .given .1) .2))
 
 tell-collection-requires : tie.Need-tell-collection-requires
 tell-collection-requires c κs =
     let a = c .before .before .before .before .before .before in
-    let r = a .before .before .before .before .before .before .before .before in
-    let t = r .before .before .before .before in
-    let g = t .before .before .before .before .before .before in
-    (read-judged _ _ _ _ _ _ (t .if1 .left) (g .pre) (r .read .ensures) (a .a .given .1), tables-room _ _ _ _ _ _ (t .if1 .left) (g .pre) (r .read .ensures) (a .a .given .1))
+    let r = asked a in (
+      read-judged _ _ _ _ (short r .if1 .left) (start r .pre) (r .read .ensures) (a .a .given .1),
+      tables-room _ _ _ _ (short r .if1 .left) (start r .pre) (r .read .ensures) (a .a .given .1),
+    )
 
 enum-known-a-2 : tie.Need-enum-known-a-2
 enum-known-a-2 c = search needs
@@ -92,10 +93,8 @@ same-length-5 c = search needs
 returns-2 : tie.Need-returns-2
 returns-2 c =
     let a = c .before .before .before .before .before .before .before .before .before .before in
-    let r = a .before .before .before .before .before .before .before .before in
-    let t = r .before .before .before .before in
-    let g = t .before .before .before .before .before .before in
-    read-told _ _ _ _ _ _ (t .if1 .left) (g .pre) (r .read .ensures) (a .a .given .1) (c .before .before .before .tell-collection .ensures)
+    let r = asked a in
+    read-told _ _ _ _ (short r .if1 .left) (start r .pre) (r .read .ensures) (a .a .given .1) (c .before .before .before .tell-collection .ensures)
 
 same-length-6 : tie.Need-same-length-6
 same-length-6 c = search needs
@@ -109,10 +108,8 @@ same-length-8 c = search needs
 returns-3 : tie.Need-returns-3
 returns-3 c =
     let a = c .before in
-    let r = a .before .before .before .before .before .before .before .before in
-    let t = r .before .before .before .before in
-    let g = t .before .before .before .before .before .before in
-    read-refused _ _ _ _ _ _ (t .if1 .left) (g .pre) (r .read .ensures) (a .a2 .given .1)
+    let r = asked-2 a in
+    read-refused _ _ _ _ (short r .if1 .left) (start r .pre) (r .read .ensures) (a .a2 .given .1)
 
 pub tell-spec : {M : Type 1} → statement M
 tell-spec =

@@ -1,28 +1,43 @@
 -- `distinct` meets its contract: weights and ids are written, sorted, and their runs counted. Assumes nothing.
 use native.Mathlib.Omega.{arith}
-use Rattle.summary_counts.proofs.Ids.{ladder-fits, ready, sorted-size, order-low, different}
+use Rattle.summary_counts.proofs.Ids.{ids-fit, ids-few, ready, sorted-size, order-low, different}
 use borrow.Author.Needs.{needs}
 use Rattle.summary_counts.proofs.inner.distinct.Statement.{statement}
 use Rattle.summary_counts.proofs.inner.distinct.Tie as tie
 
-mul-e : tie.Need-mul-e
-mul-e c = search needs
+add-e : tie.Need-add-e
+add-e c = search needs
 
 copy-weights-requires : tie.Need-copy-weights-requires
 copy-weights-requires c κs = omega (arith, c .before .before .before .pre .1)
 
-write-ladder-requires : tie.Need-write-ladder-requires
-write-ladder-requires c κs =
+mul-number-ids : tie.Need-mul-number-ids
+mul-number-ids c = search needs
+
+sub-number-ids : tie.Need-sub-number-ids
+sub-number-ids c = search needs
+
+part-number-ids-start : tie.Need-part-number-ids-start
+part-number-ids-start c = search needs
+
+part-number-ids-end : tie.Need-part-number-ids-end
+part-number-ids-end c =
+    let y = c .before .before in
+    let g = y .before .before .before .before in
+    ids-fit _ _ (g .pre .0) (g .pre .1) (y .copy-weights .ensures)
+
+number-ids-requires : tie.Need-number-ids-requires
+number-ids-requires c κs =
     let y = c .before .before .before in
     let g = y .before .before .before .before in
-    ladder-fits _ _ (g .pre .0) (g .pre .1) (y .copy-weights .ensures)
+    ids-few _ _ (g .pre .0) (g .pre .1) (y .copy-weights .ensures)
 
 sort-by-weight-requires : tie.Need-sort-by-weight-requires
 sort-by-weight-requires c κs =
     let w = c .before .before .before in
     let y = w .before .before .before .before in
     let g = y .before .before .before .before in
-    ready _ _ (g .pre .0) (g .pre .1) (y .copy-weights .ensures) (w .write-ladder .ensures)
+    ready _ _ (g .pre .0) (g .pre .1) (y .copy-weights .ensures) (w .number-ids .ensures)
 
 mul-runs-by : tie.Need-mul-runs-by
 mul-runs-by c = omega (arith, c .before .before .before .before .before .before .before .before .before .before .before .before .before .before .pre .0 .few)
@@ -39,7 +54,7 @@ part-runs-by-end c =
     let w = s .before .before .before .before in
     let y = w .before .before .before .before in
     let g = y .before .before .before .before in
-    omega (arith, g .pre .1, sorted-size _ _ (g .pre .0) (g .pre .1) (y .copy-weights .ensures) (w .write-ladder .ensures) (s .sort-by-weight .ensures))
+    omega (arith, g .pre .1, sorted-size _ _ (g .pre .0) (g .pre .1) (y .copy-weights .ensures) (w .number-ids .ensures) (s .sort-by-weight .ensures))
 
 runs-by-requires : tie.Need-runs-by-requires
 runs-by-requires c κs =
@@ -47,7 +62,7 @@ runs-by-requires c κs =
     let w = s .before .before .before .before in
     let y = w .before .before .before .before in
     let g = y .before .before .before .before in
-    order-low _ _ (g .pre .0) (g .pre .1) (y .copy-weights .ensures) (w .write-ladder .ensures) (s .sort-by-weight .ensures)
+    order-low _ _ (g .pre .0) (g .pre .1) (y .copy-weights .ensures) (w .number-ids .ensures) (s .sort-by-weight .ensures)
 
 same-length : tie.Need-same-length
 same-length c = search needs
@@ -58,15 +73,19 @@ returns c =
     let w = s .before .before .before .before in
     let y = w .before .before .before .before in
     let g = y .before .before .before .before in
-    different _ _ (g .pre .0) (g .pre .1) (y .copy-weights .ensures) (w .write-ladder .ensures) (s .sort-by-weight .ensures) (c .before .before .runs-by .ensures)
+    different _ _ (g .pre .0) (g .pre .1) (y .copy-weights .ensures) (w .number-ids .ensures) (s .sort-by-weight .ensures) (c .before .before .runs-by .ensures)
 
 pub distinct-spec : {M : Type 1} → statement M
 distinct-spec =
     tie.close
     (tie.spec
-    mul-e
+    add-e
     copy-weights-requires
-    write-ladder-requires
+    mul-number-ids
+    sub-number-ids
+    part-number-ids-start
+    part-number-ids-end
+    number-ids-requires
     sort-by-weight-requires
     mul-runs-by
     sub-runs-by

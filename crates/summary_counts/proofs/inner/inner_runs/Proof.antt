@@ -2,7 +2,8 @@
 use native.Mathlib.Omega.{arith}
 use Prim.Native.Nat.{_-_}
 use lib.ListN.{length}
-use Rattle.summary_counts.proofs.Inside.{Adding, adding, string-here, weights-inside, runs-inside, added, added-all}
+use Rattle.collection.proofs.Strung.{string-here, weights-inside}
+use Rattle.summary_counts.proofs.Inside.{Adding, adding, runs-inside, added, added-all}
 use borrow.Author.Needs.{needs}
 use Rattle.summary_counts.proofs.inner.inner_runs.Statement.{statement}
 use Rattle.summary_counts.proofs.inner.inner_runs.Tie as tie
@@ -29,43 +30,43 @@ add-to : tie.Need-add-to Inv-loop μ-loop
 add-to c =
     let t = c .before .before in
     let l = t .before in
-    omega (arith, string-here (l .loop .inv) (t .loop-test .taken) (c .wide .ensures), l .before .before .before .pre .few-letters)
+    omega (arith, string-here (l .loop .inv .walk) (t .loop-test .taken) (c .wide .ensures), l .before .before .before .pre .few-letters)
 
 add-to-2 : tie.Need-add-to-2 Inv-loop μ-loop
 add-to-2 c =
     let t = c .before .before in
     let l = t .before in
-    omega (arith, string-here (l .loop .inv) (t .loop-test .taken) (c .wide .ensures), l .before .before .before .pre .few-letters)
+    omega (arith, string-here (l .loop .inv .walk) (t .loop-test .taken) (c .wide .ensures), l .before .before .before .pre .few-letters)
 
 sub-to : tie.Need-sub-to Inv-loop μ-loop
 sub-to c =
     let t = c .before .before in
-    omega (arith, string-here (t .before .loop .inv) (t .loop-test .taken) (c .wide .ensures))
+    omega (arith, string-here (t .before .loop .inv .walk) (t .loop-test .taken) (c .wide .ensures))
 
 add-to-3 : tie.Need-add-to-3 Inv-loop μ-loop
 add-to-3 c =
     let t = c .before .before in
-    omega (arith, weights-inside (t .before .loop .inv) (t .loop-test .taken) (c .wide .ensures))
+    omega (arith, weights-inside (t .before .loop .inv .walk) (t .loop-test .taken) (c .wide .ensures))
 
 mul-count-runs : tie.Need-mul-count-runs Inv-loop μ-loop
 mul-count-runs c =
     let t = c .before .before in
-    omega (arith, weights-inside (t .before .loop .inv) (t .loop-test .taken) (c .wide .ensures))
+    omega (arith, weights-inside (t .before .loop .inv .walk) (t .loop-test .taken) (c .wide .ensures))
 
 sub-count-runs : tie.Need-sub-count-runs Inv-loop μ-loop
 sub-count-runs c =
     let t = c .before .before in
-    omega (arith, weights-inside (t .before .loop .inv) (t .loop-test .taken) (c .wide .ensures))
+    omega (arith, weights-inside (t .before .loop .inv .walk) (t .loop-test .taken) (c .wide .ensures))
 
 part-count-runs-start : tie.Need-part-count-runs-start Inv-loop μ-loop
 part-count-runs-start c =
     let t = c .before .before in
-    omega (arith, weights-inside (t .before .loop .inv) (t .loop-test .taken) (c .wide .ensures))
+    omega (arith, weights-inside (t .before .loop .inv .walk) (t .loop-test .taken) (c .wide .ensures))
 
 part-count-runs-end : tie.Need-part-count-runs-end Inv-loop μ-loop
 part-count-runs-end c =
     let t = c .before .before in
-    omega (arith, weights-inside (t .before .loop .inv) (t .loop-test .taken) (c .wide .ensures))
+    omega (arith, weights-inside (t .before .loop .inv .walk) (t .loop-test .taken) (c .wide .ensures))
 
 count-runs-requires : tie.Need-count-runs-requires Inv-loop μ-loop
 count-runs-requires c κs = search needs

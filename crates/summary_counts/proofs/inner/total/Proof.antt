@@ -31,7 +31,14 @@ add-t : tie.Need-add-t Inv-loop μ-loop
 add-t c =
     let l = c .before .before .before .loop in
     let g = c .before .before .before .before .before in
-    omega (arith, l .inv .1, c .wide .ensures, weight-low (g .args .weights .now) (g .pre .in-range) (l .i) (c .before .before .loop-test .taken), g .pre .few, c .before .before .loop-test .taken)
+    omega (
+      arith,
+      l .inv .1,
+      c .wide .ensures,
+      weight-low (g .args .weights .now) (g .pre .in-range) (l .i) (c .before .before .loop-test .taken),
+      g .pre .few,
+      c .before .before .loop-test .taken,
+    )
 
 add-i : tie.Need-add-i Inv-loop μ-loop
 add-i c = search needs
@@ -42,8 +49,10 @@ loop-less c = search needs
 loop-again : tie.Need-loop-again Inv-loop μ-loop
 loop-again c =
     let l = c .before .before .before .loop in
-    let g = c .before .before .before .before .before in
-    (omega (arith, l .inv .0, c .wide .ensures, sum-next (g .args .weights .now) (l .i) (c .before .before .loop-test .taken)), omega (arith, l .inv .1, c .wide .ensures, weight-low (g .args .weights .now) (g .pre .in-range) (l .i) (c .before .before .loop-test .taken)))
+    let g = c .before .before .before .before .before in (
+      omega (arith, l .inv .0, c .wide .ensures, sum-next (g .args .weights .now) (l .i) (c .before .before .loop-test .taken)),
+      omega (arith, l .inv .1, c .wide .ensures, weight-low (g .args .weights .now) (g .pre .in-range) (l .i) (c .before .before .loop-test .taken)),
+    )
 
 returns : tie.Need-returns Inv-loop μ-loop
 returns c =

@@ -26,10 +26,20 @@ wide-requires : tie.Need-wide-requires Inv-loop μ-loop
 wide-requires c κs = search needs
 
 mul-ids : tie.Need-mul-ids Inv-loop μ-loop
-mul-ids c = omega (arith, c .wide .ensures, id-low (c .before .before .before .loop .inv) (c .before .before .loop-test .taken) (c .before .before .before .before .before .before .pre))
+mul-ids c = omega (
+  arith,
+  c .wide .ensures,
+  id-low (c .before .before .before .loop .inv) (c .before .before .loop-test .taken) (c .before .before .before .before .before .before .pre),
+)
 
 shared-slice-read-ids : tie.Need-shared-slice-read-ids Inv-loop μ-loop
-shared-slice-read-ids c = omega (arith, c .before .wide .ensures, id-low (c .before .before .before .before .loop .inv) (c .before .before .before .loop-test .taken) (c .before .before .before .before .before .before .before .pre))
+shared-slice-read-ids c =
+    omega (
+      arith,
+      c .before .wide .ensures,
+      id-low (c .before .before .before .before .loop .inv) (c .before .before .before .loop-test .taken)
+          (c .before .before .before .before .before .before .before .pre),
+    )
 
 mul-ids-2 : tie.Need-mul-ids-2 Inv-loop μ-loop
 mul-ids-2 c = search needs

@@ -31,7 +31,9 @@ returns c =
     let q = r .before .before .before .before in
     let p = q .before .before .before .before in
     let g = p .before .before .before .before .before .before in
-    lined-all (lined (lined (lined (lining _ _ _ (g .pre)) (p .put-line .ensures .0) (p .put-line .ensures .1)) (q .put-line2 .ensures .0) (q .put-line2 .ensures .1)) (r .put-line3 .ensures .0) (r .put-line3 .ensures .1))
+    lined-all (lined
+    (lined (lined (lining _ _ _ (g .pre)) (p .put-line .ensures .0) (p .put-line .ensures .1)) (q .put-line2 .ensures .0) (q .put-line2 .ensures .1))
+    (r .put-line3 .ensures .0) (r .put-line3 .ensures .1))
 
 pub put-lines-spec : {M : Type 1} → statement M
 put-lines-spec =

@@ -26,13 +26,15 @@ shared-slice-read-out c = search needs
 slice-write-out : tie.Need-slice-write-out Inv-loop μ-loop
 slice-write-out c =
     let at = c .before .before in
-    let st = restated (take-next (at .before .args .s .now) (at .before .args .e) (at .loop .i) (c .before .loop-test .taken) (at .before .pre .1)) (at .loop .inv .1) in
+    let st = restated (take-next (at .before .args .s .now) (at .before .args .e) (at .loop .i) (c .before .loop-test .taken) (at .before .pre .1))
+    (at .loop .inv .1) in
     inside st
 
 add-p : tie.Need-add-p Inv-loop μ-loop
 add-p c =
     let at = c .before .before in
-    let st = restated (take-next (at .before .args .s .now) (at .before .args .e) (at .loop .i) (c .before .loop-test .taken) (at .before .pre .1)) (at .loop .inv .1) in
+    let st = restated (take-next (at .before .args .s .now) (at .before .args .e) (at .loop .i) (c .before .loop-test .taken) (at .before .pre .1))
+    (at .loop .inv .1) in
     omega (arith, inside st)
 
 add-i : tie.Need-add-i Inv-loop μ-loop
@@ -44,7 +46,8 @@ loop-less c = search needs
 loop-again : tie.Need-loop-again Inv-loop μ-loop
 loop-again c =
     let at = c .before .before in
-    let st = restated (take-next (at .before .args .s .now) (at .before .args .e) (at .loop .i) (c .before .loop-test .taken) (at .before .pre .1)) (at .loop .inv .1) in
+    let st = restated (take-next (at .before .args .s .now) (at .before .args .e) (at .loop .i) (c .before .loop-test .taken) (at .before .pre .1))
+    (at .loop .inv .1) in
     (omega arith, store st)
 
 same-length : tie.Need-same-length Inv-loop μ-loop

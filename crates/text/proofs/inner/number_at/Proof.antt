@@ -56,7 +56,8 @@ returns-2 c =
     let d = told-yes (digit .before .is-digit .ensures) (digit .if1 .left) in
     let out = told-no (c .before .in-range .ensures) (c .if2 .taken) in
     let inside = digit .before .before .before .loop-test .taken in
-    sym (turn .loop .inv .1 ∙ walk-bad (start .args .sep) _ _ inside (start .args .most) (start .pre .0) d (turn .loop .v) _ (c .before .before .with-digit .ensures) out)
+    sym (turn .loop .inv .1
+    ∙ walk-bad (start .args .sep) _ _ inside (start .args .most) (start .pre .0) d (turn .loop .v) _ (c .before .before .with-digit .ensures) out)
 
 loop-less : tie.Need-loop-less Inv-loop μ-loop
 loop-less c = search needs
@@ -69,7 +70,8 @@ loop-again c =
     let d = told-yes (digit .before .is-digit .ensures) (digit .if1 .left) in
     let within = told-yes (c .before .in-range .ensures) (c .if2 .left) in
     let inside = digit .before .before .before .loop-test .taken in
-    let next = walk-next (start .args .sep) _ _ inside (start .args .most) (start .pre .0) d (turn .loop .v) _ (c .before .before .with-digit .ensures) within in
+    let next = walk-next (start .args .sep) _ _ inside (start .args .most) (start .pre .0) d (turn .loop .v) _
+    (c .before .before .with-digit .ensures) within in
     (range-bounds _ _ within .1, turn .loop .inv .1 ∙ next)
 
 ended-requires : tie.Need-ended-requires Inv-loop μ-loop

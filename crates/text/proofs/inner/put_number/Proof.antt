@@ -61,7 +61,10 @@ same-length : tie.Need-same-length Inv-loop μ-loop
 same-length c = simp length-set (c .before .loop .inv .size-kept)
 
 returns : tie.Need-returns Inv-loop μ-loop
-returns c = (ap (λ (x : ℕ). c .before .before .before .before .args .at + x) (c .before .before .digit-count .ensures .0), back-end (c .before .loop .inv) (c .loop-test .left))
+returns c = (
+  ap (λ (x : ℕ). c .before .before .before .before .args .at + x) (c .before .before .digit-count .ensures .0),
+  back-end (c .before .loop .inv) (c .loop-test .left),
+)
 
 pub put-number-spec : {M : Type 1} → statement M
 put-number-spec =

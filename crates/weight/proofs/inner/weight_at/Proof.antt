@@ -43,13 +43,16 @@ loop-less-2 : tie.Need-loop-less-2 Inv-loop μ-loop
 loop-less-2 c = search needs
 
 loop-again-2 : tie.Need-loop-again-2 Inv-loop μ-loop
-loop-again-2 c = let h = c .before .before .before .loop .inv in record { order = omega arith; inside = omega (arith, h .inside); before = h .before; after = λ l. c .if1 .left }
+loop-again-2 c =
+    let h = c .before .before .before .loop .inv in
+    record { order = omega arith; inside = omega (arith, h .inside); before = h .before; after = λ l. c .if1 .left }
 
 mul-result : tie.Need-mul-result Inv-loop μ-loop
 mul-result c = search needs
 
 shared-slice-read-result : tie.Need-shared-slice-read-result Inv-loop μ-loop
-shared-slice-read-result c = let h = c .before .before .loop .inv in omega (arith, h .order, h .inside, list-good _ _ _ (c .before .before .before .pre .list) .same-length)
+shared-slice-read-result c =
+    let h = c .before .before .loop .inv in omega (arith, h .order, h .inside, list-good _ _ _ (c .before .before .before .pre .list) .same-length)
 
 returns : tie.Need-returns Inv-loop μ-loop
 returns c = halving-ends (c .before .before .before .pre) (c .before .before .loop .inv) (c .before .loop-test .left)

@@ -11,10 +11,20 @@ use Rattle.weight.proofs.judging.is_run_list.Statement.{statement}
 use Rattle.weight.proofs.judging.is_run_list.Tie as tie
 
 abbrev Inv-loop : tie.InvT-loop
-Inv-loop run-weights run-firsts n w₀ f₀ good₀ i₀ w f good i = (i ≤ length run-weights) × (length run-weights ≡ length run-firsts) × (isRunList n run-weights run-firsts ≡ (good && allFollow n w f (drop i run-weights) (drop i run-firsts)))
+Inv-loop run-weights run-firsts n w₀ f₀ good₀ i₀ w f good i =
+    (i ≤ length run-weights)
+    × (length run-weights ≡ length run-firsts)
+    × (isRunList n run-weights run-firsts ≡ (good && allFollow n w f (drop i run-weights) (drop i run-firsts)))
 
 abbrev μ-loop : tie.MeasureT-loop
 μ-loop run-weights run-firsts n w₀ f₀ good₀ i₀ w f good i = length run-weights - i
+
+-- where the two tables are known to be as long, seen from `may_begin`; the start, seen from the loop
+abbrev even : tie.After-may-begin Inv-loop μ-loop → tie.Else1 Inv-loop μ-loop
+even c = c .before .before .before .before
+
+abbrev start : tie.At-loop Inv-loop μ-loop → tie.Start Inv-loop μ-loop
+start c = even (c .before) .before .before .before
 
 returns : tie.Need-returns Inv-loop μ-loop
 returns c = sym (list-uneven _ _ _ (c .if1 .taken))
@@ -33,9 +43,9 @@ may-begin-requires c κs = search needs
 
 loop-holds : tie.Need-loop-holds Inv-loop μ-loop
 loop-holds c =
-    let even = c .before .before .before .before .if1 .left in
+    let same = even c .if1 .left in
     let some = c .before .before .before .if2 .left in
-    (omega (arith, some), even, list-first _ _ _ even some _ (c .may-begin .ensures))
+    (omega (arith, some), same, list-first _ _ _ same some _ (c .may-begin .ensures))
 
 mul-v : tie.Need-mul-v Inv-loop μ-loop
 mul-v c = search needs
@@ -59,10 +69,20 @@ loop-less : tie.Need-loop-less Inv-loop μ-loop
 loop-less c = search needs
 
 loop-again : tie.Need-loop-again Inv-loop μ-loop
-loop-again c = (omega (arith, c .before .before .before .loop-test .taken), c .before .before .before .before .loop .inv .1, follow-next _ (c .before .before .before .before .before .before .before .before .before .before .before .before .args .run-weights .now) (c .before .before .before .before .before .before .before .before .before .before .before .before .args .run-firsts .now) (c .before .before .before .before .loop .w) (c .before .before .before .before .loop .f) (c .before .before .before .before .loop .i) (c .before .before .before .before .loop .good) _ (c .before .before .before .loop-test .taken) (omega (arith, c .before .before .before .loop-test .taken, c .before .before .before .before .loop .inv .1)) _ (c .may-follow .ensures) (c .before .before .before .before .loop .inv .2))
+loop-again c =
+    let loop-test = c .before .before .before .loop-test in
+    let l = c .before .before .before .before .loop in
+    let a = start (c .before .before .before .before) .args in (
+      omega (arith, loop-test .taken),
+      l .inv .1,
+      follow-next _ (a .run-weights .now) (a .run-firsts .now) (l .w) (l .f) (l .i) (l .good) _ (loop-test .taken)
+          (omega (arith, loop-test .taken, l .inv .1)) _ (c .may-follow .ensures) (l .inv .2),
+    )
 
 returns-3 : tie.Need-returns-3 Inv-loop μ-loop
-returns-3 c = follow-end _ _ _ (c .before .loop .w) (c .before .loop .f) (c .before .loop .i) (c .before .loop .good) _ (c .loop-test .left) (omega (arith, c .loop-test .left, c .before .loop .inv .1)) (c .before .loop .inv .2)
+returns-3 c =
+    let l = c .before .loop in
+    follow-end _ _ _ (l .w) (l .f) (l .i) (l .good) _ (c .loop-test .left) (omega (arith, c .loop-test .left, l .inv .1)) (l .inv .2)
 
 pub is-run-list-spec : {M : Type 1} → statement M
 is-run-list-spec =

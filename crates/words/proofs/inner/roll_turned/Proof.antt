@@ -20,7 +20,12 @@ shl-result : tie.Need-shl-result
 shl-result c = search needs
 
 add-result : tie.Need-add-result
-add-result c = omega (arith, shifted (c .args .k - 1) (3 - c .args .x) (omega arith) (omega arith), turned-room (c .args .k) (c .args .c) (c .args .x) (omega arith) (omega arith) (c .pre .2))
+add-result c =
+    omega (
+      arith,
+      shifted (c .args .k - 1) (3 - c .args .x) (omega arith) (omega arith),
+      turned-room (c .args .k) (c .args .c) (c .args .x) (omega arith) (omega arith) (c .pre .2),
+    )
 
 returns : tie.Need-returns
 returns c = ap (λ (n : ℕ). n + c .args .c / 4) (shifted (c .args .k - 1) (3 - c .args .x) (omega arith) (omega arith))

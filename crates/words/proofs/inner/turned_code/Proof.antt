@@ -45,7 +45,8 @@ loop-less : tie.Need-loop-less Inv-loop μ-loop Inv-loop2 μ-loop2
 loop-less c = search needs
 
 loop-again : tie.Need-loop-again Inv-loop μ-loop Inv-loop2 μ-loop2
-loop-again c = (four-turned _ _ _ _ _ (c .before .before .loop .inv .0) (c .before .loop-test .taken) _ (c .looked-up .ensures), c .before .before .loop .inv .1)
+loop-again c =
+    (four-turned _ _ _ _ _ (c .before .before .loop .inv .0) (c .before .loop-test .taken) _ (c .looked-up .ensures), c .before .before .loop .inv .1)
 
 loop2-holds : tie.Need-loop2-holds Inv-loop μ-loop Inv-loop2 μ-loop2
 loop2-holds c = c .before .loop .inv .0

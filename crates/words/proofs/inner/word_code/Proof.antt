@@ -24,7 +24,9 @@ loop-holds : tie.Need-loop-holds Inv-loop μ-loop
 loop-holds c = (omega arith, sym code-none)
 
 mul-c : tie.Need-mul-c Inv-loop μ-loop
-mul-c c = let r = bits-room (c .before .before .before .args .word .now) (c .before .loop .i) (c .before .before .before .pre) (c .before .loop .inv .0) in omega (arith, c .before .loop .inv .1)
+mul-c c =
+    let l = c .before .loop in
+    let r = bits-room (c .before .before .before .args .word .now) (l .i) (c .before .before .before .pre) (l .inv .0) in omega (arith, l .inv .1)
 
 shared-slice-read-letter-code : tie.Need-shared-slice-read-letter-code Inv-loop μ-loop
 shared-slice-read-letter-code c = search needs
@@ -33,7 +35,11 @@ letter-code-requires : tie.Need-letter-code-requires Inv-loop μ-loop
 letter-code-requires c κs = search needs
 
 add-c : tie.Need-add-c Inv-loop μ-loop
-add-c c = let r = bits-room (c .before .before .before .before .before .args .word .now) (c .before .before .before .loop .i) (c .before .before .before .before .before .pre) (c .before .before .before .loop .inv .0) in omega (arith, c .before .before .before .loop .inv .1, c .letter-code .ensures, bits-lt (getD (c .before .before .before .before .before .args .word .now) (c .before .before .before .loop .i) 0))
+add-c c =
+    let l = c .before .before .before .loop in
+    let s = c .before .before .before .before .before in
+    let a = s .args in
+    let r = bits-room (a .word .now) (l .i) (s .pre) (l .inv .0) in omega (arith, l .inv .1, c .letter-code .ensures, bits-lt (getD (a .word .now) (l .i) 0))
 
 add-i : tie.Need-add-i Inv-loop μ-loop
 add-i c = search needs
