@@ -20,7 +20,7 @@ fn wide(x: u32) -> usize
 }
 
 // Writes n numbers at equal steps, from entry `at` on.
-pub fn write_ladder(work: &mut [u32], at: usize, n: usize, first: u32, step: u32)
+fn write_ladder(work: &mut [u32], at: usize, n: usize, first: u32, step: u32)
     requires { ⌜ (at + n ≤ length (now work)) × (first + n * step < 2 ^ 32) ⌝ }
     ensures { λ _. ⌜ now (work .exit) ≡ put at (ladder first step n) (now (work .entry)) ⌝ }
 {

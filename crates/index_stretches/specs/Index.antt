@@ -70,5 +70,5 @@ rowFits k N t v = leb (start t v) (start t (suc v)) && (leb (start t (suc v)) (l
 -- the fourth table is d + 1 long, and the other three are equally long, 1,048,576 at most
 unfoldable pub tablesFit : ℕ → Index → Bool
 tablesFit d t =
-    eqb (length (t .before)) (d + 1) &&
-    (eqb (length (t .positions)) (length (t .firsts)) && (eqb (length (t .numbers)) (length (t .firsts)) && leb (length (t .firsts)) mostLetters))
+    eqb (length (t .before)) (d + 1)
+    && (eqb (length (t .positions)) (length (t .firsts)) && (eqb (length (t .numbers)) (length (t .firsts)) && leb (length (t .firsts)) mostLetters))

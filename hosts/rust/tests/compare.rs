@@ -369,7 +369,7 @@ fn plain_question() {
             *(if answer[1] == 0 { &mut asked } else { &mut turned }) += 1;
         }
     }
-    assert!(asked > 1000 && turned > 1000, "both sides are asked often enough");
+    assert!(asked > cases() / 40 && turned > cases() / 40, "both sides are asked often enough");
     seen.expect("PLAIN", &[0, 1, 2, 4, 5, 6, 9]);
 }
 

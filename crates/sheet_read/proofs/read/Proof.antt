@@ -9,6 +9,10 @@ use Rattle.sheet_read.proofs.read.Tie as tie
 abbrev start : tie.After-j → tie.Start
 start c = c .before .before .before .before .before .before .before
 
+-- the place behind `j`, seen from the call of `fill_lines`
+abbrev judged : tie.After-fill-lines-arg3 → tie.After-j
+judged c = c .before .before .before .before
+
 judge-read-requires : tie.Need-judge-read-requires
 judge-read-requires c κs = search needs
 
@@ -17,7 +21,7 @@ enum-known-j c = search needs
 
 fill-lines-requires : tie.Need-fill-lines-requires
 fill-lines-requires c κs =
-    let j = c .before .before .before .before in
+    let j = judged c in
     let g = start j .args in
     read-fits (g .sheet .now) (tables (g .letters .now) (g .ends .now) (g .weights .now)) (j .before .before .judge-read .ensures) (j .j .given .1)
 
@@ -36,7 +40,7 @@ same-length-3 c = search needs
 returns : tie.Need-returns
 returns c =
     let f = c .before .before .before .before .before .before in
-    let j = f .before .before .before .before .before in
+    let j = judged (f .before) in
     let g = start j .args in
     read-filled _ (tables (g .letters .now) (g .ends .now) (g .weights .now)) (j .before .before .judge-read .ensures) (j .j .given .1)
     (f .fill-lines .ensures .0) (f .fill-lines .ensures .1) (f .fill-lines .ensures .2)

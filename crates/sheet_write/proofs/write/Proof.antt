@@ -5,6 +5,10 @@ use Rattle.sheet_write.proofs.write.Statement.{statement}
 use Rattle.sheet_write.proofs.write.Tie as tie
 use Rattle.collection.specs.Collection.{collection}
 
+-- the start, seen from behind `judge_write`
+abbrev start : tie.After-judge-write → tie.Start
+start c = c .before .before .before .before .before
+
 judge-write-requires : tie.Need-judge-write-requires
 judge-write-requires c κs = search needs
 
@@ -14,7 +18,7 @@ enum-known-v c = search needs
 returns : tie.Need-returns
 returns c =
     let j = c .before .before .before in
-    let g = j .before .before .before .before .before in
+    let g = start j in
     write-refused (collection (g .args .k) (g .args .letters .now) (g .args .ends .now) (g .args .weights .now)) (g .args .sheet .now) (j .judge-write .ensures)
     (c .before .v .given .1)
 
@@ -24,7 +28,7 @@ enum-told c = search needs
 put-sheet-requires : tie.Need-put-sheet-requires
 put-sheet-requires c κs =
     let j = c .before .before .before in
-    let g = j .before .before .before .before .before in
+    let g = start j in
     write-ready (collection (g .args .k) (g .args .letters .now) (g .args .ends .now) (g .args .weights .now)) (g .args .sheet .now) (j .judge-write .ensures)
     (c .before .enum-told .given .1)
 
@@ -36,7 +40,7 @@ returns-2 c =
     let p = c .before .before in
     let t = p .before .before in
     let j = t .before .before in
-    let g = j .before .before .before .before .before in
+    let g = start j in
     write-done (collection (g .args .k) (g .args .letters .now) (g .args .ends .now) (g .args .weights .now)) (g .args .sheet .now) (j .judge-write .ensures)
     (t .enum-told .given .1) (p .put-sheet .ensures .0) (p .put-sheet .ensures .1)
 

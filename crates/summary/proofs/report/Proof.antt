@@ -10,6 +10,10 @@ use borrow.Author.Needs.{needs}
 use Rattle.summary.proofs.report.Statement.{statement}
 use Rattle.summary.proofs.report.Tie as tie
 
+-- the start, seen from behind `tell`
+abbrev start : tie.After-tell → tie.Start
+start c = c .before .before .before .before .before .before .before .before
+
 slice-aggregate-tell : tie.Need-slice-aggregate-tell
 slice-aggregate-tell c = search needs
 
@@ -40,7 +44,7 @@ returns c =
     let w = c .before .before in
     let t = w .before .before .before .before .before .before .before in (
       w .write-summary .ensures .0
-          ∙ ap (λ (s : Summary). writtenOf (textFor s) (t .before .before .before .before .before .before .before .before .args .text .now)) (t .tell .ensures),
+          ∙ ap (λ (s : Summary). writtenOf (textFor s) (start t .args .text .now)) (t .tell .ensures),
       subst (λ (s : Summary). length (textFor s) ≤ 247) (t .tell .ensures) (w .write-summary .ensures .1),
     )
 

@@ -4,6 +4,18 @@ use borrow.Author.Needs.{needs}
 use Rattle.summary_text.proofs.put_counted.Statement.{statement}
 use Rattle.summary_text.proofs.put_counted.Tie as tie
 
+-- the start, seen from the first call of `put_lines`
+abbrev start : tie.After-put-lines-arg4 → tie.Start
+start c = c .before .before .before .before .before
+
+-- what the first `put_lines` gave, seen from the second call of `put_lines`
+abbrev after-put-lines : tie.After-put-lines-arg8 → tie.After-put-lines
+after-put-lines c = c .before .before .before .before .before .before
+
+-- what the second `put_lines` gave, seen from the third call of `put_lines`
+abbrev after-put-lines2 : tie.After-put-lines-arg12 → tie.After-put-lines2
+after-put-lines2 c = c .before .before .before .before .before .before
+
 slice-aggregate-put-lines : tie.Need-slice-aggregate-put-lines
 slice-aggregate-put-lines c = search needs
 
@@ -15,7 +27,7 @@ slice-aggregate-put-lines-3 c = search needs
 
 put-lines-requires : tie.Need-put-lines-requires
 put-lines-requires c κs =
-    let g = c .before .before .before .before .before in
+    let g = start c in
     first-room _ (g .args .text .now) (g .pre)
 
 slice-aggregate-put-lines-4 : tie.Need-slice-aggregate-put-lines-4
@@ -29,8 +41,8 @@ slice-aggregate-put-lines-6 c = search needs
 
 put-lines-requires-2 : tie.Need-put-lines-requires-2
 put-lines-requires-2 c κs =
-    let p = c .before .before .before .before .before .before in
-    next-room _ _ (p .before .before .before .before .before .before .pre) (p .put-lines .ensures .0) (p .put-lines .ensures .1)
+    let p = after-put-lines c in
+    next-room _ _ (start (p .before) .pre) (p .put-lines .ensures .0) (p .put-lines .ensures .1)
 
 slice-aggregate-put-lines-7 : tie.Need-slice-aggregate-put-lines-7
 slice-aggregate-put-lines-7 c = search needs
@@ -43,9 +55,9 @@ slice-aggregate-put-lines-9 c = search needs
 
 put-lines-requires-3 : tie.Need-put-lines-requires-3
 put-lines-requires-3 c κs =
-    let q = c .before .before .before .before .before .before in
-    let p = q .before .before .before .before .before .before .before in
-    last-room _ _ (p .before .before .before .before .before .before .pre) (p .put-lines .ensures .0) (p .put-lines .ensures .1) (q .put-lines2 .ensures .0)
+    let q = after-put-lines2 c in
+    let p = after-put-lines (q .before) in
+    last-room _ _ (start (p .before) .pre) (p .put-lines .ensures .0) (p .put-lines .ensures .1) (q .put-lines2 .ensures .0)
     (q .put-lines2 .ensures .1)
 
 same-length : tie.Need-same-length
@@ -54,9 +66,9 @@ same-length c = search needs
 returns : tie.Need-returns
 returns c =
     let r = c .before .before in
-    let q = r .before .before .before .before .before .before .before in
-    let p = q .before .before .before .before .before .before .before in
-    counted-end _ _ (p .before .before .before .before .before .before .pre) (p .put-lines .ensures .0) (p .put-lines .ensures .1) (q .put-lines2 .ensures .0)
+    let q = after-put-lines2 (r .before) in
+    let p = after-put-lines (q .before) in
+    counted-end _ _ (start (p .before) .pre) (p .put-lines .ensures .0) (p .put-lines .ensures .1) (q .put-lines2 .ensures .0)
     (q .put-lines2 .ensures .1) (r .put-lines3 .ensures .0) (r .put-lines3 .ensures .1)
 
 pub put-counted-spec : {M : Type 1} → statement M

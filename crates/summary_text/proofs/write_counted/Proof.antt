@@ -61,13 +61,14 @@ same-length c = search needs
 
 returns-2 : tie.Need-returns-2
 returns-2 c =
-    let j = c .before .before .before .before .before .before in
+    let e = c .before .before .before .before in
+    let j = e .before .before in
     let z = j .before in
     let y = z .before in
     let x = y .before in
     let n = counted-length (x .before .before .args .n) (x .numbers-length .ensures .0) (y .numbers-length2 .ensures .0) (z .numbers-length3 .ensures .0) in
     let p = c .before .before in (
-      written-done _ _ n (j .judge-room .ensures) (c .before .before .before .before .enum-told .given .1) (p .put-counted .ensures .0)
+      written-done _ _ n (j .judge-room .ensures) (e .enum-told .given .1) (p .put-counted .ensures .0)
           (p .put-counted .ensures .1),
       omega (arith, n, x .numbers-length .ensures .1, y .numbers-length2 .ensures .1, z .numbers-length3 .ensures .1),
     )

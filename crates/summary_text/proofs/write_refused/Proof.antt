@@ -50,12 +50,13 @@ same-length c = search needs
 
 returns-2 : tie.Need-returns-2
 returns-2 c =
-    let j = c .before .before .before .before .before .before in
+    let e = c .before .before .before .before in
+    let j = e .before .before in
     let y = j .before in
     let x = y .before in
     let n = refused-length _ _ (x .digit-count .ensures .0) (y .digit-count2 .ensures .0) in
     let p = c .before .before in (
-      written-done _ _ n (j .judge-room .ensures) (c .before .before .before .before .enum-told .given .1) (p .put-refused .ensures .0)
+      written-done _ _ n (j .judge-room .ensures) (e .enum-told .given .1) (p .put-refused .ensures .0)
           (p .put-refused .ensures .1),
       omega (arith, n, x .digit-count .ensures .1, y .digit-count2 .ensures .1),
     )

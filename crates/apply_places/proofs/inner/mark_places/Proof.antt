@@ -92,7 +92,8 @@ returns-3 : tie.Need-returns-3 Inv-loop μ-loop
 returns-3 c =
     let s = c .before .before .before .before in
     let l = turn s .loop in
-    let u = marking-used (l .inv) (s .before .before .loop-test .taken) _ (size s) (c .before .before .before .if1 .left) (c .before .before .if2 .left) (c .if3 .taken) in
+    let u = marking-used (l .inv) (s .before .before .loop-test .taken) _ (size s) (c .before .before .before .if1 .left) (c .before .before .if2 .left)
+    (c .if3 .taken) in
     record {
       first = marking-stops (l .inv) (s .before .before .loop-test .taken) _ (size s) u;
       size = l .inv .size;

@@ -40,7 +40,8 @@ id-is c =
     c .before .loop .inv .behind i (omega arith) (c .loop-test .taken) ∙ sym (part-at (a .n + a .n) (a .m) (a .work .now) i 0 (c .loop-test .taken))
 
 id-lt : (c : tie.In-loop Inv-loop μ-loop) → let a = c .before .before .before .args in getD (c .before .loop .work) (a .n + a .n + c .before .loop .i) 0 < a .n
-id-lt c = let s = c .before .before .before in
+id-lt c =
+    let s = c .before .before .before in
     id-low (s .args .work .now) (c .before .loop .work) (c .before .loop .i) (s .pre .0) (s .pre .1 .0) (c .loop-test .taken) (id-is c)
 
 -- its slot is that of its codes, which stand as at first

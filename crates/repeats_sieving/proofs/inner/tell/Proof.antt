@@ -44,7 +44,8 @@ id-is c =
     (l .i) 0 (c .loop-test .taken)
 
 id-lt : (c : tie.In-loop Inv-loop μ-loop) → let a = c .before .before .before .args in getD (c .before .loop .work) (a .n + a .n + c .before .loop .i) 0 < a .n
-id-lt c = let s = c .before .before .before in
+id-lt c =
+    let s = c .before .before .before in
     id-low (s .args .work .now) (c .before .loop .work) (c .before .loop .i) (s .pre .0) (s .pre .1 .0) (c .loop-test .taken) (id-is c)
 
 -- its slot is that of its codes, which stand as at first

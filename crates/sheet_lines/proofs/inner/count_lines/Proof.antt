@@ -14,6 +14,10 @@ Inv-loop k s at n₀ m₀ w₀ i₀ n m w i = Counting k s at n m w i
 abbrev μ-loop : tie.MeasureT-loop
 μ-loop k s at n₀ m₀ w₀ i₀ n m w i = length s - i
 
+-- a turn of the loop, seen from the end of a turn
+abbrev turn : tie.After-known-told Inv-loop μ-loop → tie.At-loop Inv-loop μ-loop
+turn c = c .before .before .before .before .before
+
 loop-holds : tie.Need-loop-holds Inv-loop μ-loop
 loop-holds c = counting _ _ _ (c .before .pre .0) (c .before .pre .1)
 
@@ -36,29 +40,29 @@ returns c =
 
 add-n : tie.Need-add-n Inv-loop μ-loop
 add-n c =
-    let on = count-next (c .before .before .before .before .before .loop .inv)
+    let on = count-next (turn c .loop .inv)
     (sym (c .before .before .before .line-at .ensures) ∙ c .before .l .given .1) .0 in
     omega (arith, on .letters, on .inside)
 
 add-m : tie.Need-add-m Inv-loop μ-loop
 add-m c =
-    let on = count-next (c .before .before .before .before .before .loop .inv)
+    let on = count-next (turn c .loop .inv)
     (sym (c .before .before .before .line-at .ensures) ∙ c .before .l .given .1) .0 in
     omega (arith, on .strings, on .inside)
 
 add-w : tie.Need-add-w Inv-loop μ-loop
 add-w c =
-    let on = count-next (c .before .before .before .before .before .loop .inv)
+    let on = count-next (turn c .loop .inv)
     (sym (c .before .before .before .line-at .ensures) ∙ c .before .l .given .1) .0 in
     omega (arith, on .weights, on .inside)
 
 loop-less : tie.Need-loop-less Inv-loop μ-loop
 loop-less c =
-    let on = count-next (c .before .before .before .before .before .loop .inv) (sym (c .before .before .before .line-at .ensures) ∙ c .before .l .given .1) in
+    let on = count-next (turn c .loop .inv) (sym (c .before .before .before .line-at .ensures) ∙ c .before .l .given .1) in
     omega (arith, on .0 .inside, on .1)
 
 loop-again : tie.Need-loop-again Inv-loop μ-loop
-loop-again c = count-next (c .before .before .before .before .before .loop .inv) (sym (c .before .before .before .line-at .ensures) ∙ c .before .l .given .1) .0
+loop-again c = count-next (turn c .loop .inv) (sym (c .before .before .before .line-at .ensures) ∙ c .before .l .given .1) .0
 
 returns-2 : tie.Need-returns-2 Inv-loop μ-loop
 returns-2 c = count-end (c .before .loop .inv) (c .loop-test .left)

@@ -53,13 +53,14 @@ returns-4 c =
 
 returns-5 : tie.Need-returns-5
 returns-5 c =
-    let e3 = c .before .before .before .before .before in
+    let g = c .before .before in
+    let e3 = g .before .before .before in
     let e2 = e3 .before .before in
     let e1 = e2 .before .before in
     let k-here = told-yes (e1 .before .byte-is .ensures) (e1 .if1 .left) in
     let tab-here = told-yes (e2 .before .byte-is2 .ensures) (e2 .if2 .left) in
     let no-zero = sym (e3 .before .byte-is3 .ensures) ∙ e3 .if3 .left in
-    sym (too-long _ k-here tab-here no-zero _ _ (sym (c .before .before .before .before .weight-at .ensures) ∙ c .before .before .w .given .1) (c .if4 .taken))
+    sym (too-long _ k-here tab-here no-zero _ _ (sym (g .before .before .weight-at .ensures) ∙ g .w .given .1) (c .if4 .taken))
 
 cast-head-end : tie.Need-cast-head-end
 cast-head-end c = search needs
@@ -69,14 +70,15 @@ head-end-requires-2 c κs = search needs
 
 returns-6 : tie.Need-returns-6
 returns-6 c =
-    let e3 = c .before .before .before .before .before .before in
+    let g = c .before .before .before in
+    let e3 = g .before .before .before in
     let e2 = e3 .before .before in
     let e1 = e2 .before .before in
     let k-here = told-yes (e1 .before .byte-is .ensures) (e1 .if1 .left) in
     let tab-here = told-yes (e2 .before .byte-is2 .ensures) (e2 .if2 .left) in
     let no-zero = sym (e3 .before .byte-is3 .ensures) ∙ e3 .if3 .left in
     c .head-end2 .ensures
-    ∙ number-head _ k-here tab-here no-zero _ _ (sym (c .before .before .before .before .before .weight-at .ensures) ∙ c .before .before .before .w .given .1)
+    ∙ number-head _ k-here tab-here no-zero _ _ (sym (g .before .before .weight-at .ensures) ∙ g .w .given .1)
     (c .before .if4 .left)
 
 pub head-at-spec : {M : Type 1} → statement M

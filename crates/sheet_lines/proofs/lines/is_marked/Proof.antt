@@ -31,7 +31,8 @@ shared-slice-read-result c = search needs
 
 returns-3 : tie.Need-returns-3
 returns-3 c =
-    let l : c .before .before .before .before .args .at + 1 < length (c .before .before .before .before .args .s .now) =
+    let a = c .before .before .before .before .args in
+    let l : a .at + 1 < length (a .s .now) =
     omega (arith, c .before .before .before .if1 .left) in
     sym (marked-is _ _ l ∙ rw (eq-eqb _ _ (c .before .if2 .left)))
 

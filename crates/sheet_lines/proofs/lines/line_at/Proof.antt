@@ -53,11 +53,12 @@ returns-3 c =
 
 returns-4 : tie.Need-returns-4
 returns-4 c =
-    let l = c .before .before .before .before .before in
+    let g = c .before .before .before in
+    let l = g .before .before in
     let e = l .before in
     let h = told-yes (e .before .is-marked .ensures) (e .if1 .left) in
     sym (line-good _ _ (e .before .before .before .args .k) _ (l .letters-end .result) _ h (l .letters-end .ensures .0) refl refl _
-    (c .before .before .before .before .if2 .left) (sym (c .before .before .before .tail-at .ensures) ∙ c .before .t .given .1))
+    (g .before .if2 .left) (sym (g .tail-at .ensures) ∙ c .before .t .given .1))
 
 pub line-at-spec : {M : Type 1} → statement M
 line-at-spec =

@@ -21,6 +21,18 @@ Inv-loop k s at letters₀ ends₀ weights₀ i₀ n₀ m₀ w₀ letters ends w
 abbrev μ-loop : tie.MeasureT-loop
 μ-loop k s at letters₀ ends₀ weights₀ i₀ n₀ m₀ w₀ letters ends weights i n m w = length s - i
 
+-- what `letters_end` gave, seen from the call of `fill_weights`
+abbrev after-letters-end-from-fill-weights : tie.After-slice-known4 Inv-loop μ-loop → tie.After-letters-end Inv-loop μ-loop
+after-letters-end-from-fill-weights c = c .before .before .before .before
+
+-- what `copy_bytes` gave, seen from the end of a turn
+abbrev after-copy-bytes : tie.After-slice-known5 Inv-loop μ-loop → tie.After-copy-bytes Inv-loop μ-loop
+after-copy-bytes c = c .before .before .before .before .before .before
+
+-- what `letters_end` gave, seen from the end of a turn
+abbrev after-letters-end-from-end : tie.After-slice-known5 Inv-loop μ-loop → tie.After-letters-end Inv-loop μ-loop
+after-letters-end-from-end c = after-copy-bytes c .before .before
+
 loop-holds : tie.Need-loop-holds Inv-loop μ-loop
 loop-holds c = begin-state _ _ _ (c .before .before .before .before .pre)
 
@@ -38,19 +50,19 @@ copy-bytes-requires c κs =
 
 sub-x : tie.Need-sub-x Inv-loop μ-loop
 sub-x c =
-    let le = c .before .before .before .before in
+    let le = after-letters-end-from-fill-weights c in
     let sp = split (le .before .before .loop .inv) (le .before .loop-test .taken) (le .letters-end .ensures) in
     sp .row .start
 
 add-n : tie.Need-add-n Inv-loop μ-loop
 add-n c =
-    let le = c .before .before .before .before in
+    let le = after-letters-end-from-fill-weights c in
     let sp = split (le .before .before .loop .inv) (le .before .loop-test .taken) (le .letters-end .ensures) in
     omega (arith, sp .small)
 
 cast-ends : tie.Need-cast-ends Inv-loop μ-loop
 cast-ends c =
-    let le = c .before .before .before .before in
+    let le = after-letters-end-from-fill-weights c in
     let sp = split (le .before .before .loop .inv) (le .before .loop-test .taken) (le .letters-end .ensures) in
     omega (arith, sp .small)
 
@@ -59,13 +71,13 @@ mul-ends c = search needs
 
 slice-write-ends : tie.Need-slice-write-ends Inv-loop μ-loop
 slice-write-ends c =
-    let le = c .before .before .before .before in
+    let le = after-letters-end-from-fill-weights c in
     let sp = split (le .before .before .loop .inv) (le .before .loop-test .taken) (le .letters-end .ensures) in
     inside (sp .ends)
 
 add-m : tie.Need-add-m Inv-loop μ-loop
 add-m c =
-    let le = c .before .before .before .before in
+    let le = after-letters-end-from-fill-weights c in
     let sp = split (le .before .before .loop .inv) (le .before .loop-test .taken) (le .letters-end .ensures) in
     omega (arith, inside (sp .ends))
 
@@ -74,41 +86,42 @@ add-y c = search needs
 
 sub-y : tie.Need-sub-y Inv-loop μ-loop
 sub-y c =
-    let le = c .before .before .before .before in
+    let le = after-letters-end-from-fill-weights c in
     let sp = split (le .before .before .loop .inv) (le .before .loop-test .taken) (le .letters-end .ensures) in
     omega (arith, sp .row .long)
 
 fill-weights-requires : tie.Need-fill-weights-requires Inv-loop μ-loop
 fill-weights-requires c κs =
-    let le = c .before .before .before .before .before in
+    let le = after-letters-end-from-fill-weights (c .before) in
     let sp = split (le .before .before .loop .inv) (le .before .loop-test .taken) (le .letters-end .ensures) in
     (ap fine (sp .row .tail-is), sp .weights-room)
 
 add-w : tie.Need-add-w Inv-loop μ-loop
 add-w c =
-    let le = c .before .before .before .before .before .before .before .before in
+    let le = after-letters-end-from-end c in
     let sp = split (le .before .before .loop .inv) (le .before .loop-test .taken) (le .letters-end .ensures) in
     omega (arith, sp .weights-room, sp .row .count)
 
 add-i : tie.Need-add-i Inv-loop μ-loop
 add-i c =
-    let le = c .before .before .before .before .before .before .before .before in
+    let le = after-letters-end-from-end c in
     let sp = split (le .before .before .loop .inv) (le .before .loop-test .taken) (le .letters-end .ensures) in
     let fp = feed-place sp _ (c .before .before .fill-weights .ensures .1) in
     omega (arith, fp .0)
 
 loop-less : tie.Need-loop-less Inv-loop μ-loop
 loop-less c =
-    let le = c .before .before .before .before .before .before .before .before in
+    let le = after-letters-end-from-end c in
     let sp = split (le .before .before .loop .inv) (le .before .loop-test .taken) (le .letters-end .ensures) in
     let fp = feed-place sp _ (c .before .before .fill-weights .ensures .1) in
     omega (arith, fp .0, fp .1)
 
 loop-again : tie.Need-loop-again Inv-loop μ-loop
 loop-again c =
-    let le = c .before .before .before .before .before .before .before .before in
+    let g = after-copy-bytes c in
+    let le = after-letters-end-from-end c in
     let sp = split (le .before .before .loop .inv) (le .before .loop-test .taken) (le .letters-end .ensures) in
-    next-state sp _ (c .before .before .fill-weights .ensures .1) (c .before .before .before .before .before .before .copy-bytes .ensures)
+    next-state sp _ (c .before .before .fill-weights .ensures .1) (g .copy-bytes .ensures)
     (c .before .before .fill-weights .ensures .0)
 
 same-length : tie.Need-same-length Inv-loop μ-loop

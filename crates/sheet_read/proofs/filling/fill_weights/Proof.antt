@@ -22,6 +22,10 @@ Inv-loop s at n out₀ o i₀ j₀ p₀ out i j p =
 abbrev μ-loop : tie.MeasureT-loop
 μ-loop s at n out₀ o i₀ j₀ p₀ out i j p = j
 
+-- the branch left, seen from the end of a turn
+abbrev in-else1 : tie.After-known-told Inv-loop μ-loop → tie.Else1 Inv-loop μ-loop
+in-else1 c = c .before .before .before .before
+
 loop-holds : tie.Need-loop-holds Inv-loop μ-loop
 loop-holds c = (c .before .before .pre .0, begin-at _ _ _ (c .before .before .pre .1), refl)
 
@@ -69,7 +73,7 @@ mul-out c = search needs
 
 slice-write-out : tie.Need-slice-write-out Inv-loop μ-loop
 slice-write-out c =
-    let e = c .before .before .before .before in
+    let e = in-else1 c in
     let at = e .before .before .before in
     let w = sym (c .before .before .before .weight-at .ensures) ∙ c .before .w .given .1 in
     let st = restated
@@ -79,7 +83,7 @@ slice-write-out c =
 
 add-p : tie.Need-add-p Inv-loop μ-loop
 add-p c =
-    let e = c .before .before .before .before in
+    let e = in-else1 c in
     let at = e .before .before .before in
     let w = sym (c .before .before .before .weight-at .ensures) ∙ c .before .w .given .1 in
     let st = restated
@@ -95,7 +99,7 @@ loop-less c = search needs
 
 loop-again : tie.Need-loop-again Inv-loop μ-loop
 loop-again c =
-    let e = c .before .before .before .before in
+    let e = in-else1 c in
     let at = e .before .before .before in
     let w = sym (c .before .before .before .weight-at .ensures) ∙ c .before .w .given .1 in
     let st = restated

@@ -48,19 +48,21 @@ enum-known-c-2 c = search needs
 
 returns-3 : tie.Need-returns-3
 returns-3 c =
-    let j = c .before .before .before .before .before .before in
+    let d = c .before .before .before in
+    let j = d .before .before .before in
     let w = j .before .before in
     let hd = headed _ _ _ (sym (w .before .before .head-at .ensures) ∙ w .h .given .1) in
-    let g = sym (j .judge-k .ensures) ∙ c .before .before .before .before .enum-told2 .given .1 in
-    all-lines _ _ _ hd g _ _ _ (sym (c .before .before .before .count-lines .ensures) ∙ c .before .c .given .1)
+    let g = sym (j .judge-k .ensures) ∙ d .before .enum-told2 .given .1 in
+    all-lines _ _ _ hd g _ _ _ (sym (d .count-lines .ensures) ∙ c .before .c .given .1)
 
 returns-4 : tie.Need-returns-4
 returns-4 c =
-    let j = c .before .before .before .before .before .before in
+    let d = c .before .before .before in
+    let j = d .before .before .before in
     let w = j .before .before in
     let hd = headed _ _ _ (sym (w .before .before .head-at .ensures) ∙ w .h .given .1) in
-    let g = sym (j .judge-k .ensures) ∙ c .before .before .before .before .enum-told2 .given .1 in
-    line-bad _ _ _ hd g _ (sym (c .before .before .before .count-lines .ensures) ∙ c .before .c2 .given .1)
+    let g = sym (j .judge-k .ensures) ∙ d .before .enum-told2 .given .1 in
+    line-bad _ _ _ hd g _ (sym (d .count-lines .ensures) ∙ c .before .c2 .given .1)
 
 pub judge-sheet-spec : {M : Type 1} → statement M
 judge-sheet-spec =

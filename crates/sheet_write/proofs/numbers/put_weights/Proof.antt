@@ -23,6 +23,10 @@ turn c = c .before .before .before
 abbrev test : tie.After-wide Inv-loop μ-loop → tie.In-loop Inv-loop μ-loop
 test c = c .before .before
 
+-- what `wide` gave, seen from the end of a turn
+abbrev after-wide : tie.After-slice-known2 Inv-loop μ-loop → tie.After-wide Inv-loop μ-loop
+after-wide c = c .before .before .before .before
+
 add-e : tie.Need-add-e Inv-loop μ-loop
 add-e c = omega (arith, c .before .before .pre .0)
 
@@ -49,11 +53,11 @@ put-number-requires c κs = let w = c .before in rw (w .wide .ensures) (digits-r
 
 add-i : tie.Need-add-i Inv-loop μ-loop
 add-i c =
-    let w = c .before .before .before .before in
+    let w = after-wide c in
     omega (arith, turn w .loop .inv .high, test w .loop-test .taken)
 
 loop-less : tie.Need-loop-less Inv-loop μ-loop
-loop-less c = omega (arith, test (c .before .before .before .before) .loop-test .taken)
+loop-less c = omega (arith, test (after-wide c) .loop-test .taken)
 
 loop-again : tie.Need-loop-again Inv-loop μ-loop
 loop-again c =

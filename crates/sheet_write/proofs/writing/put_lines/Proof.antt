@@ -21,9 +21,17 @@ Inv-loop k letters ends weights out₀ at before₀ w₀ p₀ i₀ out before w 
 abbrev μ-loop : tie.MeasureT-loop
 μ-loop k letters ends weights out₀ at before₀ w₀ p₀ i₀ out before w p i = length ends - i
 
+-- the start, seen from before the loop
+abbrev start : tie.After-slice-known Inv-loop μ-loop → tie.Start Inv-loop μ-loop
+start c = c .before .before .before .before
+
+-- a turn of the loop, seen from the end of a turn
+abbrev turn : tie.After-slice-known2 Inv-loop μ-loop → tie.In-loop Inv-loop μ-loop
+turn c = c .before .before .before .before .before
+
 loop-holds : tie.Need-loop-holds Inv-loop μ-loop
 loop-holds c =
-    let g = c .before .before .before .before in
+    let g = start c in
     lining (collection-good _ (g .pre .0)) _ _ (g .pre .1)
 
 mul-e : tie.Need-mul-e Inv-loop μ-loop
@@ -40,7 +48,7 @@ add-n c = omega (arith, c .shared-slice-known4 .given (c .before .before .loop .
 
 add-n-2 : tie.Need-add-n-2 Inv-loop μ-loop
 add-n-2 c =
-    let g = c .before .before .before .before .before .before .before in
+    let g = start (c .before .before .before) in
     let n = next-line (c .before .before .loop .inv) (c .before .loop-test .taken) in
     omega (arith, n .long, c .shared-slice-known4 .given (c .before .before .loop .i))
 
@@ -56,21 +64,22 @@ put-string-requires c κs =
 
 add-w : tie.Need-add-w Inv-loop μ-loop
 add-w c =
-    let at = c .before .before .before .before .before .before in
-    let g = at .before .before .before .before .before in
-    omega (arith, weights-there (at .loop .inv) (c .before .before .before .before .before .loop-test .taken), few-weights (collection-good _ (g .pre .0)))
+    let t = turn c in
+    let at = t .before in
+    let g = start (at .before) in
+    omega (arith, weights-there (at .loop .inv) (t .loop-test .taken), few-weights (collection-good _ (g .pre .0)))
 
 add-i : tie.Need-add-i Inv-loop μ-loop
-add-i c = omega (arith, c .before .before .before .before .before .loop-test .taken)
+add-i c = omega (arith, turn c .loop-test .taken)
 
 loop-less : tie.Need-loop-less Inv-loop μ-loop
-loop-less c = omega (arith, c .before .before .before .before .before .loop-test .taken)
+loop-less c = omega (arith, turn c .loop-test .taken)
 
 loop-again : tie.Need-loop-again Inv-loop μ-loop
 loop-again c =
     let p = c .before .before in
     let at = p .before .before .before .before in
-    let g = at .before .before .before .before .before in
+    let g = start (at .before) in
     let j = collection-good _ (g .pre .0) in
     lined (at .loop .inv) (p .before .before .before .loop-test .taken) (omega (arith, j .shape .k-low)) (p .put-string .ensures .0) (p .put-string .ensures .1)
 

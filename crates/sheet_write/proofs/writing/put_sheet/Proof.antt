@@ -5,15 +5,19 @@ use borrow.Author.Needs.{needs}
 use Rattle.sheet_write.proofs.writing.put_sheet.Statement.{statement}
 use Rattle.sheet_write.proofs.writing.put_sheet.Tie as tie
 
+-- the start, seen from the call of `put_head`
+abbrev start : tie.After-put-head-arg → tie.Start
+start c = c .before .before .before .before .before
+
 put-head-requires : tie.Need-put-head-requires
 put-head-requires c κs =
-    let g = c .before .before .before .before .before in
+    let g = start c in
     head-room (collection (g .args .k) (g .args .letters .now) (g .args .ends .now) (g .args .weights .now)) (g .args .out .now) (g .pre .1)
 
 put-lines-requires : tie.Need-put-lines-requires
 put-lines-requires c κs =
     let h = c .before .before .before in
-    let g = h .before .before .before .before .before .before in (
+    let g = start (h .before) in (
       g .pre .0,
       lines-room (collection (g .args .k) (g .args .letters .now) (g .args .ends .now) (g .args .weights .now)) (g .args .out .now) (g .pre .1)
           (h .put-head .ensures .0) (h .put-head .ensures .1),
@@ -26,7 +30,7 @@ returns : tie.Need-returns
 returns c =
     let l = c .before .before in
     let h = l .before .before .before .before in
-    let g = h .before .before .before .before .before .before in
+    let g = start (h .before) in
     sheet-done (collection (g .args .k) (g .args .letters .now) (g .args .ends .now) (g .args .weights .now)) (g .args .out .now) (g .pre .1)
     (h .put-head .ensures .0) (h .put-head .ensures .1) (l .put-lines .ensures .0) (l .put-lines .ensures .1)
 

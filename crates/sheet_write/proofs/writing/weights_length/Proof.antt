@@ -16,6 +16,10 @@ Inv-loop weights n₀ i₀ n i = (i ≤ length weights) × (n ≤ 21 * i) × (n 
 abbrev μ-loop : tie.MeasureT-loop
 μ-loop weights n₀ i₀ n i = length weights - i
 
+-- a turn of the loop, seen from the end of a turn
+abbrev turn-from-end : tie.After-digit-count Inv-loop μ-loop → tie.At-loop Inv-loop μ-loop
+turn-from-end c = c .before .before .before .before
+
 loop-holds : tie.Need-loop-holds Inv-loop μ-loop
 loop-holds c = (omega arith, omega arith, omega arith)
 
@@ -36,7 +40,7 @@ add-n c = omega (arith, c .digit-count .ensures .1)
 
 add-n-2 : tie.Need-add-n-2 Inv-loop μ-loop
 add-n-2 c =
-    let turn = c .before .before .before .before in
+    let turn = turn-from-end c in
     omega (arith, c .digit-count .ensures .1, turn .loop .inv .1, turn .before .before .pre, c .before .before .before .loop-test .taken)
 
 add-i : tie.Need-add-i Inv-loop μ-loop
@@ -47,7 +51,7 @@ loop-less c = search needs
 
 loop-again : tie.Need-loop-again Inv-loop μ-loop
 loop-again c =
-    let turn = c .before .before .before .before in
+    let turn = turn-from-end c in
     let r = c .digit-count .ensures in
     let w = weights-count (turn .before .before .args .weights .now) (turn .loop .i) (c .before .before .before .loop-test .taken) in
     let d = ap (λ (x : ℕ). length (digits x)) (c .before .wide .ensures) in

@@ -5,6 +5,18 @@ use borrow.Author.Needs.{needs}
 use Rattle.summary.proofs.inner.tell_collection.Statement.{statement}
 use Rattle.summary.proofs.inner.tell_collection.Tie as tie
 
+-- the start, seen from behind `check`
+abbrev start : tie.After-check → tie.Start
+start c = c .before .before .before .before .before .before
+
+-- what `check` gave, seen from where a judgement is good
+abbrev after-check : tie.After-enum-told → tie.After-check
+after-check c = c .before .before .before .before
+
+-- what `cover` gave, seen from `b`
+abbrev after-cover : tie.After-b → tie.After-cover
+after-cover c = c .before .before .before .before .before
+
 check-requires : tie.Need-check-requires
 check-requires c κs = search needs
 
@@ -17,7 +29,7 @@ same-length c = search needs
 returns : tie.Need-returns
 returns c =
     let h = c .before .before .before .before .before in
-    let g = h .before .before .before .before .before .before in
+    let g = start h in
     check-refused _ (g .pre .0) _ (g .pre .1 .2) (h .check .ensures) (c .before .a .given .1)
 
 enum-told : tie.Need-enum-told
@@ -32,8 +44,8 @@ enum-known-b c = search needs
 count-all-requires : tie.Need-count-all-requires
 count-all-requires c κs =
     let b = c .before .before in
-    let v = b .before .before .before .before .before in
-    let g = v .before .before .before .before .before .before .before .before .before .before .before .before .before in (
+    let v = after-cover b in
+    let g = start (after-check (v .before .before .before)) in (
       (strung _ (g .pre .0), weighed _ (g .pre .0)),
       (paths-low _ (g .pre .0) (v .cover .ensures) (g .pre .1 .0) (omega (arith, g .pre .1 .1)) (b .b .given .1), omega (arith, g .pre .1 .2)),
     )
@@ -50,10 +62,10 @@ same-length-3 c = search needs
 returns-2 : tie.Need-returns-2
 returns-2 c =
     let b = c .before .before .before .before .before in
-    let v = b .before .before .before .before .before in
+    let v = after-cover b in
     let a = v .before .before .before in
-    let h = a .before .before .before .before in
-    let g = h .before .before .before .before .before .before in
+    let h = after-check a in
+    let g = start h in
     check-passed _ (g .pre .0) _ (g .pre .1 .2) (h .check .ensures) (a .enum-told .given .1)
     (numbers-told _ (g .pre .0) (v .cover .ensures) (g .pre .1 .0) (omega (arith, g .pre .1 .1)) (b .b .given .1) (c .before .before .count-all .ensures))
 
@@ -67,7 +79,7 @@ returns-3 : tie.Need-returns-3
 returns-3 c =
     let b = c .before in
     let v = b .before .before .before .before .before in
-    let g = v .before .before .before .before .before .before .before .before .before .before .before .before .before in
+    let g = start (after-check (v .before .before .before)) in
     cover-refused _ (g .pre .0) (v .cover .ensures) (g .pre .1 .0) (omega (arith, g .pre .1 .1)) (b .b2 .given .1)
 
 pub tell-collection-spec : {M : Type 1} → statement M

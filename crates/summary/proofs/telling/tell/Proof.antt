@@ -19,6 +19,14 @@ short c = c .before .before .before .before
 abbrev start : tie.After-read → tie.Start
 start c = short c .before .before .before .before .before .before
 
+-- the place behind `a`, seen from the call of `tell_collection`
+abbrev answered : tie.After-tell-collection-arg3 → tie.After-a
+answered c = c .before .before .before .before
+
+-- the place behind `a`, seen from where it returns
+abbrev answered-from-end : tie.After-slice-known8 → tie.After-a
+answered-from-end c = answered (c .before .before .before .before .before .before)
+
 returns : tie.Need-returns
 returns c = too-long _ (c .if1 .taken)
 
@@ -60,13 +68,13 @@ slice-reshare-prefix-tell-collection-3 c =
 
 slice-aggregate-tell-collection-3 : tie.Need-slice-aggregate-tell-collection-3
 slice-aggregate-tell-collection-3 c =
-    let a = c .before .before .before .before in
+    let a = answered c in
     let r = asked a in
     sym (length-take-le _ _ (parts-inside _ _ _ _ (short r .if1 .left) (start r .pre) (r .read .ensures) (a .a .given .1) .2))
 
 tell-collection-requires : tie.Need-tell-collection-requires
 tell-collection-requires c κs =
-    let a = c .before .before .before .before .before .before in
+    let a = answered (c .before .before) in
     let r = asked a in (
       read-judged _ _ _ _ (short r .if1 .left) (start r .pre) (r .read .ensures) (a .a .given .1),
       tables-room _ _ _ _ (short r .if1 .left) (start r .pre) (r .read .ensures) (a .a .given .1),
@@ -92,7 +100,7 @@ same-length-5 c = search needs
 
 returns-2 : tie.Need-returns-2
 returns-2 c =
-    let a = c .before .before .before .before .before .before .before .before .before .before in
+    let a = answered-from-end c in
     let r = asked a in
     read-told _ _ _ _ (short r .if1 .left) (start r .pre) (r .read .ensures) (a .a .given .1) (c .before .before .before .tell-collection .ensures)
 

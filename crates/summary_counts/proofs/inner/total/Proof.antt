@@ -15,6 +15,10 @@ Inv-loop weights t₀ i₀ t i = (t + sum (drop i weights) ≡ sum weights) × (
 abbrev μ-loop : tie.MeasureT-loop
 μ-loop weights t₀ i₀ t i = length weights - i
 
+-- the start, seen from the loop
+abbrev start : tie.At-loop Inv-loop μ-loop → tie.Start Inv-loop μ-loop
+start c = c .before .before
+
 loop-holds : tie.Need-loop-holds Inv-loop μ-loop
 loop-holds c = (omega arith, omega arith)
 
@@ -30,7 +34,7 @@ wide-requires c κs = search needs
 add-t : tie.Need-add-t Inv-loop μ-loop
 add-t c =
     let l = c .before .before .before .loop in
-    let g = c .before .before .before .before .before in
+    let g = start (c .before .before .before) in
     omega (
       arith,
       l .inv .1,
@@ -49,7 +53,7 @@ loop-less c = search needs
 loop-again : tie.Need-loop-again Inv-loop μ-loop
 loop-again c =
     let l = c .before .before .before .loop in
-    let g = c .before .before .before .before .before in (
+    let g = start (c .before .before .before) in (
       omega (arith, l .inv .0, c .wide .ensures, sum-next (g .args .weights .now) (l .i) (c .before .before .loop-test .taken)),
       omega (arith, l .inv .1, c .wide .ensures, weight-low (g .args .weights .now) (g .pre .in-range) (l .i) (c .before .before .loop-test .taken)),
     )
@@ -57,7 +61,7 @@ loop-again c =
 returns : tie.Need-returns Inv-loop μ-loop
 returns c =
     let l = c .before .loop in
-    omega (arith, l .inv .0, sum-end (c .before .before .before .args .weights .now) (l .i) (c .loop-test .left))
+    omega (arith, l .inv .0, sum-end (start (c .before) .args .weights .now) (l .i) (c .loop-test .left))
 
 pub total-spec : {M : Type 1} → statement M
 total-spec =

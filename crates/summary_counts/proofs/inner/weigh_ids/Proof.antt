@@ -13,6 +13,14 @@ Inv-loop weights ids₀ i₀ ids i = Weighing weights ids₀ ids i
 abbrev μ-loop : tie.MeasureT-loop
 μ-loop weights ids₀ i₀ ids i = length ids - i
 
+-- the start, seen from the loop
+abbrev start : tie.At-loop Inv-loop μ-loop → tie.Start Inv-loop μ-loop
+start c = c .before .before .before
+
+-- a turn of the loop, seen from the end of a turn
+abbrev turn : tie.After-shared-slice-known2 Inv-loop μ-loop → tie.At-loop Inv-loop μ-loop
+turn c = c .before .before .before .before
+
 loop-holds : tie.Need-loop-holds Inv-loop μ-loop
 loop-holds c = weighing _ _
 
@@ -29,16 +37,17 @@ mul-ids : tie.Need-mul-ids Inv-loop μ-loop
 mul-ids c = omega (
   arith,
   c .wide .ensures,
-  id-low (c .before .before .before .loop .inv) (c .before .before .loop-test .taken) (c .before .before .before .before .before .before .pre),
+  id-low (c .before .before .before .loop .inv) (c .before .before .loop-test .taken) (start (c .before .before .before) .pre),
 )
 
 shared-slice-read-ids : tie.Need-shared-slice-read-ids Inv-loop μ-loop
 shared-slice-read-ids c =
+    let t = turn c in
     omega (
       arith,
       c .before .wide .ensures,
-      id-low (c .before .before .before .before .loop .inv) (c .before .before .before .loop-test .taken)
-          (c .before .before .before .before .before .before .before .pre),
+      id-low (t .loop .inv) (c .before .before .before .loop-test .taken)
+          (start t .pre),
     )
 
 mul-ids-2 : tie.Need-mul-ids-2 Inv-loop μ-loop
@@ -54,7 +63,7 @@ loop-less : tie.Need-loop-less Inv-loop μ-loop
 loop-less c = simp length-set (omega (arith, c .before .before .before .loop-test .taken))
 
 loop-again : tie.Need-loop-again Inv-loop μ-loop
-loop-again c = weighed (c .before .before .before .before .loop .inv) (c .before .before .before .loop-test .taken) (c .before .wide .ensures)
+loop-again c = weighed (turn c .loop .inv) (c .before .before .before .loop-test .taken) (c .before .wide .ensures)
 
 same-length : tie.Need-same-length Inv-loop μ-loop
 same-length c = c .before .loop .inv .storing .size-kept

@@ -5,6 +5,10 @@ use borrow.Author.Needs.{needs}
 use Rattle.summary_text.proofs.lines.put_line.Statement.{statement}
 use Rattle.summary_text.proofs.lines.put_line.Tie as tie
 
+-- the start, seen from behind `put_entry`
+abbrev start : tie.After-put-entry → tie.Start
+start c = c .before .before .before .before
+
 put-entry-requires : tie.Need-put-entry-requires
 put-entry-requires c κs =
     let g = c .before .before .before in
@@ -13,12 +17,12 @@ put-entry-requires c κs =
 slice-write-out : tie.Need-slice-write-out
 slice-write-out c =
     let e = c .before .before in
-    feed-inside _ _ _ _ (e .before .before .before .before .pre) (e .put-entry .ensures .0) (e .put-entry .ensures .1)
+    feed-inside _ _ _ _ (start e .pre) (e .put-entry .ensures .0) (e .put-entry .ensures .1)
 
 add-result : tie.Need-add-result
 add-result c =
     let e = c .before .before in
-    omega (arith, feed-inside _ _ _ _ (e .before .before .before .before .pre) (e .put-entry .ensures .0) (e .put-entry .ensures .1))
+    omega (arith, feed-inside _ _ _ _ (start e .pre) (e .put-entry .ensures .0) (e .put-entry .ensures .1))
 
 same-length : tie.Need-same-length
 same-length c = search needs
@@ -26,7 +30,7 @@ same-length c = search needs
 returns : tie.Need-returns
 returns c =
     let e = c .before .before in
-    line-end _ _ _ _ (e .before .before .before .before .pre) (e .put-entry .ensures .0) (e .put-entry .ensures .1)
+    line-end _ _ _ _ (start e .pre) (e .put-entry .ensures .0) (e .put-entry .ensures .1)
 
 pub put-line-spec : {M : Type 1} → statement M
 put-line-spec =

@@ -16,6 +16,10 @@ Inv-loop s at sep most v₀ i₀ v i = (v ≤ most) × (numberAt sep most s at �
 abbrev μ-loop : tie.MeasureT-loop
 μ-loop s at sep most v₀ i₀ v i = length s - i
 
+-- a turn of the loop, seen from where a digit was read
+abbrev turn-from-digit : tie.Else1 Inv-loop μ-loop → tie.At-loop Inv-loop μ-loop
+turn-from-digit c = c .before .before .before .before
+
 loop-holds : tie.Need-loop-holds Inv-loop μ-loop
 loop-holds c = (omega arith, sym (walk-field (c .before .args .most) (c .before .pre .1) _ _))
 
@@ -30,16 +34,17 @@ number-end-requires c κs = search needs
 
 returns : tie.Need-returns Inv-loop μ-loop
 returns c =
-    let turn = c .before .before .before .before .before in
+    let t = c .before .before .before .before in
+    let turn = t .before in
     let a = turn .before .before .args in
     let d = told-no (c .before .before .is-digit .ensures) (c .before .if1 .taken) in
     c .number-end .ensures
-    ∙ (walk-end (a .sep) _ _ (c .before .before .before .before .loop-test .taken) (a .most) (turn .loop .v) d ∙ sym (turn .loop .inv .1))
+    ∙ (walk-end (a .sep) _ _ (t .loop-test .taken) (a .most) (turn .loop .v) d ∙ sym (turn .loop .inv .1))
 
 with-digit-requires : tie.Need-with-digit-requires Inv-loop μ-loop
 with-digit-requires c κs =
     let d = digit-range _ (told-yes (c .before .is-digit .ensures) (c .if1 .left)) in
-    let turn = c .before .before .before .before in
+    let turn = turn-from-digit c in
     (omega (arith, turn .loop .inv .0, turn .before .before .pre .2), d .0, d .1)
 
 add-i : tie.Need-add-i Inv-loop μ-loop
@@ -51,7 +56,7 @@ in-range-requires c κs = search needs
 returns-2 : tie.Need-returns-2 Inv-loop μ-loop
 returns-2 c =
     let digit = c .before .before .before in
-    let turn = digit .before .before .before .before in
+    let turn = turn-from-digit digit in
     let start = turn .before .before in
     let d = told-yes (digit .before .is-digit .ensures) (digit .if1 .left) in
     let out = told-no (c .before .in-range .ensures) (c .if2 .taken) in
@@ -65,7 +70,7 @@ loop-less c = search needs
 loop-again : tie.Need-loop-again Inv-loop μ-loop
 loop-again c =
     let digit = c .before .before .before in
-    let turn = digit .before .before .before .before in
+    let turn = turn-from-digit digit in
     let start = turn .before .before in
     let d = told-yes (digit .before .is-digit .ensures) (digit .if1 .left) in
     let within = told-yes (c .before .in-range .ensures) (c .if2 .left) in

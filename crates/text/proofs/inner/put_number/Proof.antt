@@ -40,7 +40,9 @@ cast-out : tie.Need-cast-out Inv-loop μ-loop
 cast-out c = search needs
 
 slice-write-out : tie.Need-slice-write-out Inv-loop μ-loop
-slice-write-out c = omega (arith, c .before .loop .inv .place, c .before .loop .inv .room, count-more (c .before .loop .v) (c .loop-test .taken))
+slice-write-out c =
+    let l = c .before .loop in
+    omega (arith, l .inv .place, l .inv .room, count-more (l .v) (c .loop-test .taken))
 
 loop-less : tie.Need-loop-less Inv-loop μ-loop
 loop-less c = search needs
@@ -55,7 +57,9 @@ cast-out-2 : tie.Need-cast-out-2 Inv-loop μ-loop
 cast-out-2 c = search needs
 
 slice-write-out-2 : tie.Need-slice-write-out-2 Inv-loop μ-loop
-slice-write-out-2 c = omega (arith, c .before .loop .inv .place, c .before .loop .inv .room, count-one (c .before .loop .v) (c .loop-test .left))
+slice-write-out-2 c =
+    let l = c .before .loop in
+    omega (arith, l .inv .place, l .inv .room, count-one (l .v) (c .loop-test .left))
 
 same-length : tie.Need-same-length Inv-loop μ-loop
 same-length c = simp length-set (c .before .loop .inv .size-kept)
