@@ -12,7 +12,7 @@ use Rattle.collection.specs.declared.Verdict.{Verdict}
 use Rattle.collection.specs.declared.Verdict.the-variants.{Good, Bad}
 use Rattle.collection.specs.Judge.{collectionVerdict}
 use Rattle.collection.specs.Strings.{lettersIn, endsIn, weightsIn, joined}
-use Rattle.collection.specs.Tables.{tables, collectionIn, roomsOf, roomsVerdict}
+use Rattle.collection.specs.Tables.{Tables, filledBy, collectionIn, roomsOf, roomsVerdict}
 use Rattle.collection.specs.Verdict.{roomVerdict}
 use Rattle.collection.proofs.Judged.{collection-good}
 use Rattle.collection.proofs.Verdicts.{both-good, room-good, refused, settled}
@@ -80,20 +80,12 @@ module _ (c : Collection) (places : List ℤ) (t : Lent) where
             work-room = omega (arith, r .work-room, judged .size);
           }
 
-      pub places-filled : {letters' ends' weights' zeros : List ℕ}
-          → (letters' ≡ fill (lettersIn (reordered c places)) t.new.letters)
-          × (ends' ≡ fill (endsIn 0 (reordered c places)) t.new.ends)
-          × (weights' ≡ fill (weightsIn (reordered c places)) t.new.weights)
-          → zeros ≡ fill (replicate (length c.ends) 0) marks
-          → outcome (Filled (length c.letters) (length c.ends) (length c.weights)) (lent (tables letters' ends' weights') zeros) ≡ placedOf c places t
+      pub places-filled : {new : Tables} {zeros : List ℕ} → new ≡ filledBy (reordered c places) t.new → zeros ≡ fill (replicate (length c.ends) 0) marks
+          → outcome (Filled (length c.letters) (length c.ends) (length c.weights)) (lent new zeros) ≡ placedOf c places t
       unfolding placedOf
       places-filled f z =
-          let letters = f .0 in
-          let ends = f .1 in
-          let weights = f .2 in
           let work = zeroed-again z in
-          settled _ (λ i. outcome (Filled (length c.letters) (length c.ends) (length c.weights)) (lent (tables (letters i) (ends i) (weights i)) (work i)))
-          (sym (judged .judged) ∙ e)
+          settled _ (λ i. outcome (Filled (length c.letters) (length c.ends) (length c.weights)) (lent (f i) (work i))) (sym (judged .judged) ∙ e)
 
 -- where nothing is refused, the first entries of the new tables are a collection: that of the reordered strings
 module _ (c : Collection) (places : List ℤ) (t : Lent) where

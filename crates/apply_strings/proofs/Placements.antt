@@ -22,6 +22,7 @@ use Rattle.alphabet.specs.Letter.{isLetter}
 use Rattle.collection.specs.Collection.{Collection}
 use Rattle.collection.specs.Kmers.{within}
 use Rattle.collection.specs.Ready.{Long}
+use Rattle.collection.specs.Tables.{tables, filledBy}
 use Rattle.collection.specs.Strings.{Str, strings, lettersIn, weightsIn, endsIn}
 use Rattle.collection.proofs.Judged.{Judged, collection-good, shape-long}
 use Rattle.cover_trails.specs.Counting.{occurs}
@@ -296,13 +297,11 @@ module _ {c : Collection} {places : List ℤ} {work : List ℕ} (p : Placeable c
           }
 
     -- all places passed
-    pub placing-ends : length c.ends ≤ j
-        → (letters₁ ≡ fill (lettersIn (reordered c places)) letters₀) × (ends₁ ≡ fill (endsIn 0 (reordered c places)) ends₀)
-        × (weights₁ ≡ fill (weightsIn (reordered c places)) weights₀)
+    pub placing-ends : length c.ends ≤ j → tables letters₁ ends₁ weights₁ ≡ filledBy (reordered c places) (tables letters₀ ends₀ weights₀)
     unfolding lettersIn endsIn weightsIn
     placing-ends l =
-        let e : drop j (reordered c places) ≡ [] = drop-of-length-le (reordered c places) {i = j} (omega (arith, sizes p .number)) in (
-          stored (restated (ap lettersIn e) (w .letters-left)),
-          stored (restated (ap (endsIn at) e) (w .ends-left)),
-          stored (restated (ap weightsIn e) (w .weights-left)),
-        )
+        let e : drop j (reordered c places) ≡ [] = drop-of-length-le (reordered c places) {i = j} (omega (arith, sizes p .number)) in
+        let letters = stored (restated (ap lettersIn e) (w .letters-left)) in
+        let ends = stored (restated (ap (endsIn at) e) (w .ends-left)) in
+        let weights = stored (restated (ap weightsIn e) (w .weights-left)) in
+        λ x. tables (letters x) (ends x) (weights x)

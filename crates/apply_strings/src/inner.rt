@@ -5,10 +5,9 @@ use apply_places::inner::is_turned;
 ghost use mathlib.Core.Path.{_≡_};
 ghost use Prim.Native.Nat.{_<_, _≤_};
 ghost use lib.ListN.{length};
-ghost use Rattle.lists.specs.Fill.{fill};
 ghost use Rattle.collection.specs.Collection.{collection};
 ghost use Rattle.collection.specs.Ready.{Long};
-ghost use Rattle.collection.specs.Strings.{lettersIn, endsIn, weightsIn};
+ghost use Rattle.collection.specs.Tables.{tables, filledBy};
 ghost use Rattle.apply_strings.specs.Parts.{startOf, PartOf};
 ghost use Rattle.apply_strings.specs.Placeable.{Placeable};
 ghost use Rattle.apply_strings.specs.Reordered.{reordered};
@@ -62,18 +61,13 @@ pub fn place_strings(
     new_ends: &mut [u32],
     new_weights: &mut [u32],
 )
-    requires { ⌜ Placeable (collection k (now letters) (now ends) (now weights)) (now signed) (now work) × (length (now letters) ≤ length (now «new_letters»))
-        × (length (now ends) ≤ length (now «new_ends»)) × (length (now weights) ≤ length (now «new_weights»)) ⌝ }
+    requires placeable { ⌜ Placeable (collection k (now letters) (now ends) (now weights)) (now signed) (now work) ⌝ }
+    requires room { ⌜ (length (now letters) ≤ length (now «new_letters»)) × (length (now ends) ≤ length (now «new_ends»))
+        × (length (now weights) ≤ length (now «new_weights»)) ⌝ }
     ensures { λ _.
-        ⌜ (now («new_letters» .exit)
-        ≡ fill (lettersIn (reordered (collection k (now (letters .entry)) (now (ends .entry)) (now (weights .entry))) (now (signed .entry))))
-        (now («new_letters» .entry)))
-        × (now («new_ends» .exit)
-        ≡ fill (endsIn 0 (reordered (collection k (now (letters .entry)) (now (ends .entry)) (now (weights .entry))) (now (signed .entry))))
-        (now («new_ends» .entry)))
-        × (now («new_weights» .exit)
-        ≡ fill (weightsIn (reordered (collection k (now (letters .entry)) (now (ends .entry)) (now (weights .entry))) (now (signed .entry))))
-        (now («new_weights» .entry))) ⌝ }
+        ⌜ tables (now («new_letters» .exit)) (now («new_ends» .exit)) (now («new_weights» .exit))
+        ≡ filledBy (reordered (collection k (now (letters .entry)) (now (ends .entry)) (now (weights .entry))) (now (signed .entry)))
+        (tables (now («new_letters» .entry)) (now («new_ends» .entry)) (now («new_weights» .entry))) ⌝ }
 {
     let mut at = 0;
     let mut kmer = 0;

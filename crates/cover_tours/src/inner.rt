@@ -104,8 +104,8 @@ fn find(work: &mut [u32], m: usize, v: usize) -> usize
 // Takes half c as number n of the walk, and answers where the walk then stands.
 fn take(work: &mut [u32], m: usize, n: usize, c: usize) -> usize
     requires { ⌜ Fits m (now work) × (n < 3 * m) × (c < 6 * m) ⌝ }
-    ensures { λ r.
-        ⌜ (tables m (now (work .exit)) ≡ taken (tables m (now (work .entry))) n c) × (r ≡ near' m (tables m (now (work .entry)) .verts) (other' c)) ⌝ }
+    ensures written { λ _. ⌜ tables m (now (work .exit)) ≡ taken (tables m (now (work .entry))) n c ⌝ }
+    ensures come_to { λ r. ⌜ r ≡ near' m (tables m (now (work .entry)) .verts) (other' c) ⌝ }
 {
     let x = near(work, m, other(c));
     work[2 * m + c / 2] = 1;
@@ -116,9 +116,8 @@ fn take(work: &mut [u32], m: usize, n: usize, c: usize) -> usize
 // Gives number n of the walk back to entry z of the stack, and answers where the walk then stands.
 fn give_back(work: &mut [u32], m: usize, n: usize, z: usize) -> usize
     requires { ⌜ Fits m (now work) × (n < 3 * m) × (z < 3 * m) ⌝ }
-    ensures { λ r.
-        ⌜ (tables m (now (work .exit)) ≡ returned (tables m (now (work .entry))) n z)
-        × (r ≡ near' m (tables m (now (work .entry)) .verts) (getD (tables m (now (work .entry)) .stack) n 0)) ⌝ }
+    ensures written { λ _. ⌜ tables m (now (work .exit)) ≡ returned (tables m (now (work .entry))) n z ⌝ }
+    ensures come_to { λ r. ⌜ r ≡ near' m (tables m (now (work .entry)) .verts) (getD (tables m (now (work .entry)) .stack) n 0) ⌝ }
 {
     let g = work[12 * m + n];
     let x = near(work, m, wide(g));

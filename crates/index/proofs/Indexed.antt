@@ -63,9 +63,9 @@ module _ (c : Collection) (p : ℕ) where
           let entries = sym all in
           λ i.
           choose
-          (leb (many i) (s .firsts-size i) &&
-          (leb (many i) (s .positions-size i) &&
-          (leb (many i) (s .numbers-size i) && (leb (entries i) (s .before-size i) && leb (4 * number i) (s .work-size i)))))
+          (leb (many i) (s .firsts-size i)
+          && (leb (many i) (s .positions-size i)
+          && (leb (many i) (s .numbers-size i) && (leb (entries i) (s .before-size i) && leb (4 * number i) (s .work-size i)))))
           Good (Bad 1 0)
 
       verdict : (t : Lent) → Sized t firsts positions numbers before work → indexVerdict c p t ≡ choose room Good (Bad 1 0)

@@ -40,8 +40,8 @@ stretchCount spelt p = length (stretches (minimizerAt spelt.k p spelt.letters) s
 unfoldable pub roomsVerdict : ℕ → ℕ → ℕ → Lent → Verdict
 roomsVerdict count d n t =
     choose
-    (leb count (length (t .firsts)) &&
-    (leb count (length (t .positions)) && (leb count (length (t .numbers)) && (leb (d + 1) (length (t .before)) && leb (4 * n) (length (t .work))))))
+    (leb count (length (t .firsts))
+    && (leb count (length (t .positions)) && (leb count (length (t .numbers)) && (leb (d + 1) (length (t .before)) && leb (4 * n) (length (t .work))))))
     Good (Bad 1 0)
 
 -- 2, of k and p, then 3 to 6, then 1

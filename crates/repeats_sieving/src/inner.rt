@@ -51,9 +51,10 @@ fn tell(work: &mut [u32], n: usize, m: usize, entries: usize, a: u64, c: u64)
     requires { ⌜ Sifting (length (now work)) n m entries a c ⌝ }
     requires { ⌜ All (λ x. x < n) (part (n + n) m (now work)) ⌝ }
     requires { ⌜ ((i : ℕ) → i < entries → getD (part (n + n + n) entries (now work)) i 0 ≡ 0) ⌝ }
-    ensures { λ _.
+    ensures counted { λ _.
         ⌜ Told (slotIn n (now (work .entry)) (16 * entries) a c) (16 * entries) (part (n + n) m (now (work .entry)))
-        (part (n + n + n) entries (now (work .exit))) × Only (n + n + n) entries (now (work .entry)) (now (work .exit)) ⌝ }
+        (part (n + n + n) entries (now (work .exit))) ⌝ }
+    ensures counters_alone { λ _. ⌜ Only (n + n + n) entries (now (work .entry)) (now (work .exit)) ⌝ }
 {
     let ids = n + n;
     let tab = ids + n;

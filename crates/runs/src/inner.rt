@@ -31,9 +31,8 @@ pub fn count_runs(weights: &[u32]) -> usize
 pub fn fill_runs(weights: &[u32], run_weights: &mut [u32], run_firsts: &mut [u32])
     requires { ⌜ length (now weights) ≤ mostLetters ⌝ }
     requires { ⌜ (runCount (now weights) ≤ length (now «run_weights»)) × (runCount (now weights) ≤ length (now «run_firsts»)) ⌝ }
-    ensures { λ _.
-        ⌜ (now («run_weights» .exit) ≡ fill (runWeights (now (weights .entry))) (now («run_weights» .entry)))
-        × (now («run_firsts» .exit) ≡ fill (runFirsts (now (weights .entry))) (now («run_firsts» .entry))) ⌝ }
+    ensures weights_filled { λ _. ⌜ now («run_weights» .exit) ≡ fill (runWeights (now (weights .entry))) (now («run_weights» .entry)) ⌝ }
+    ensures firsts_filled { λ _. ⌜ now («run_firsts» .exit) ≡ fill (runFirsts (now (weights .entry))) (now («run_firsts» .entry)) ⌝ }
 {
     if weights.len() == 0 {
         return;

@@ -7,6 +7,7 @@ use lib.ListN.{length, drop, take, length-append, set, drop-of-length-le}
 use Rattle.lists.specs.Fill.{put, fill}
 use Rattle.lists.specs.Limits.{mostLetters}
 use Rattle.lists.proofs.Storing.{Storing, begin, store, restated, stored}
+use Rattle.collection.specs.Tables.{tables}
 use Rattle.collection.specs.Strings.{Str, lettersIn, weightsIn, endsIn}
 use Rattle.collection.proofs.Strings.{ends-length}
 use Rattle.text.specs.Parts.{upTo, later}
@@ -114,13 +115,13 @@ module _ {k : ℕ} {s : List ℕ} {a b c : ℕ} {A B C : List ℕ} {i n m w : �
       }
 
   -- no line is left: the tables are what they were to become
-  pub end-state : length s ≤ i → (ls ≡ A) × (es ≡ B) × (ws ≡ C)
+  pub end-state : length s ≤ i → tables ls es ws ≡ tables A B C
   end-state h =
-      let z = none-left s i h in (
-        stored (restated (ap lettersIn z ∙ no-letters) (st .letters)),
-        stored (restated (ap (endsIn n) z ∙ no-ends n) (st .ends)),
-        stored (restated (ap weightsIn z ∙ no-weights) (st .weights)),
-      )
+      let z = none-left s i h in
+      let letters = stored (restated (ap lettersIn z ∙ no-letters) (st .letters)) in
+      let ends = stored (restated (ap (endsIn n) z ∙ no-ends n) (st .ends)) in
+      let weights = stored (restated (ap weightsIn z ∙ no-weights) (st .weights)) in
+      λ x. tables (letters x) (ends x) (weights x)
 
 -- f is where the line's feed was found
 module _ {k : ℕ} {s : List ℕ} {a b c : ℕ} {A B C : List ℕ} {i e n m w : ℕ} {ls es ws : List ℕ} (sp : Split k s a b c A B C i e n m w ls es ws)

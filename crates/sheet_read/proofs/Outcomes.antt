@@ -6,12 +6,11 @@ use Prim.Native.Nat.{ℕ, _+_}
 use native.Mathlib.Omega.{arith}
 use lib.ListN.{length}
 use Rattle.lists.specs.Choose.{choose}
-use Rattle.lists.specs.Fill.{fill}
 use Rattle.lists.proofs.Refuted.{refuted}
 use Rattle.collection.specs.declared.Verdict.{Verdict}
 use Rattle.collection.specs.declared.Verdict.the-variants.{Good, Bad}
-use Rattle.collection.specs.Strings.{Str, lettersIn, endsIn, weightsIn}
-use Rattle.collection.specs.Tables.{Tables, tables, filledBy, Rooms, roomsOf}
+use Rattle.collection.specs.Strings.{Str, lettersIn, weightsIn}
+use Rattle.collection.specs.Tables.{Tables, filledBy, Rooms, roomsOf}
 use Rattle.collection.specs.Verdict.{settle}
 use Rattle.collection.proofs.Verdicts.{both-good, test-good, then-bad, then-good, refused, settled, done-by}
 use Rattle.sheet.specs.declared.ReadAnswer.the-variants as answer
@@ -130,15 +129,11 @@ module _ (s : List ℕ) (t : Tables) {j : Judged} (e : j ≡ judgedIn s (roomsOf
         }
 
     -- filled from the judged lines they are what READ leaves
-    pub read-filled : {letters' ends' weights' : List ℕ}
-        → letters' ≡ fill (lettersIn (stringsAt s next)) t.letters
-        → ends' ≡ fill (endsIn 0 (stringsAt s next)) t.ends
-        → weights' ≡ fill (weightsIn (stringsAt s next)) t.weights
-        → readOutcome (answer.Filled k n m w) (tables letters' ends' weights') ≡ readOf s t
+    pub read-filled : {after : Tables} → after ≡ filledBy (stringsAt s next) t → readOutcome (answer.Filled k n m w) after ≡ readOf s t
     unfolding readOf
-    read-filled x y z =
+    read-filled {after} f =
         let h = holding s (taken .1) in
         settled (λ number place. readOutcome (answer.Refused number place) t)
-        ((λ i. readOutcome (answer.Filled (sym (h .k-is) i) (sym (h .n-is) i) (sym (h .m-is) i) (sym (h .w-is) i)) (tables (x i) (y i) (z i)))
+        ((λ i. readOutcome (answer.Filled (sym (h .k-is) i) (sym (h .n-is) i) (sym (h .m-is) i) (sym (h .w-is) i)) (f i))
         ∙ ap (λ (ss : List Str). readOutcome (answer.Filled (sheetK s) (sheetN s) (sheetM s) (sheetWeights s)) (filledBy ss t)) strings-left)
         (taken .0)

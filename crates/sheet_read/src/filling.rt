@@ -4,8 +4,8 @@ ghost use mathlib.Core.Bool.{true};
 ghost use mathlib.Core.Path.{_≡_};
 ghost use Prim.Native.Nat.{_+_, _≤_};
 ghost use lib.ListN.{length};
-ghost use Rattle.lists.specs.Fill.{put, fill};
-ghost use Rattle.collection.specs.Strings.{lettersIn, endsIn, weightsIn};
+ghost use Rattle.lists.specs.Fill.{put};
+ghost use Rattle.collection.specs.Tables.{tables, filledBy};
 ghost use Rattle.sheet_lines.specs.Cursor.{tailAt, fine, weightsAt, endsAt, stringsAt};
 ghost use Rattle.sheet_read.specs.Fits.{Fits};
 
@@ -45,9 +45,8 @@ pub(crate) fn fill_lines(
 )
     requires { ⌜ Fits k (now s) at (length (now letters)) (length (now ends)) (length (now weights)) ⌝ }
     ensures { λ _.
-        ⌜ (now (letters .exit) ≡ fill (lettersIn (stringsAt (now (s .entry)) at)) (now (letters .entry)))
-        × (now (ends .exit) ≡ fill (endsIn 0 (stringsAt (now (s .entry)) at)) (now (ends .entry)))
-        × (now (weights .exit) ≡ fill (weightsIn (stringsAt (now (s .entry)) at)) (now (weights .entry))) ⌝ }
+        ⌜ tables (now (letters .exit)) (now (ends .exit)) (now (weights .exit))
+        ≡ filledBy (stringsAt (now (s .entry)) at) (tables (now (letters .entry)) (now (ends .entry)) (now (weights .entry))) ⌝ }
 {
     let mut i = at;
     let mut n: usize = 0;

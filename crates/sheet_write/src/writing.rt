@@ -110,9 +110,9 @@ pub(crate) fn put_sheet(
 ) -> usize
     requires { ⌜ Passes (collection k (now letters) (now ends) (now weights)) ⌝ }
     requires { ⌜ length (writeText (collection k (now letters) (now ends) (now weights))) ≤ length (now out) ⌝ }
-    ensures { λ r.
-        ⌜ (r ≡ length (writeText (collection k (now (letters .entry)) (now (ends .entry)) (now (weights .entry)))))
-        × (now (out .exit) ≡ fill (writeText (collection k (now (letters .entry)) (now (ends .entry)) (now (weights .entry)))) (now (out .entry))) ⌝ }
+    ensures counted { λ r. ⌜ r ≡ length (writeText (collection k (now (letters .entry)) (now (ends .entry)) (now (weights .entry)))) ⌝ }
+    ensures filled { λ _.
+        ⌜ now (out .exit) ≡ fill (writeText (collection k (now (letters .entry)) (now (ends .entry)) (now (weights .entry)))) (now (out .entry)) ⌝ }
 {
     let p = put_head(k, out);
     put_lines(k, letters, ends, weights, out, p)

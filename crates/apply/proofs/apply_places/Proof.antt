@@ -64,9 +64,7 @@ place-strings-requires c κs =
     let s = start j in
     let r = s .pre in (
       placeable (strings s) (s .args .signed .now) (lents s) (j .judge-places .ensures) (g .enum-told .given .1) r,
-      r .letters-room,
-      r .ends-room,
-      r .weights-room,
+      (r .letters-room, r .ends-room, r .weights-room),
     )
 
 zero-first-requires-2 : tie.Need-zero-first-requires-2

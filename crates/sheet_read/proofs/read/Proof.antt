@@ -43,7 +43,7 @@ returns c =
     let j = judged (f .before) in
     let g = start j .args in
     read-filled _ (tables (g .letters .now) (g .ends .now) (g .weights .now)) (j .before .before .judge-read .ensures) (j .j .given .1)
-    (f .fill-lines .ensures .0) (f .fill-lines .ensures .1) (f .fill-lines .ensures .2)
+    (f .fill-lines .ensures)
 
 returns-2 : tie.Need-returns-2
 returns-2 c = read-refused _ _ (c .before .before .before .judge-read .ensures) (c .before .j2 .given .1)

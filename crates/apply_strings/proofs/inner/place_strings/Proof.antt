@@ -75,7 +75,7 @@ kmer-here c =
     kmer-few (start (turn c .before .before) .pre .0) (turn c .before .loop .inv) (turn c .loop-test .taken) (c .part-of .result) (c .part-of .ensures)
 
 loop-holds : tie.Need-loop-holds Inv-loop μ-loop
-loop-holds c = let g = start c .pre in placing-begins (g .0) (g .1) (g .2) (g .3)
+loop-holds c = let g = start c .pre in placing-begins (g .0) (g .1 .0) (g .1 .1) (g .1 .2)
 
 mul-part-of : tie.Need-mul-part-of Inv-loop μ-loop
 mul-part-of c = search needs
