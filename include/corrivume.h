@@ -1,10 +1,11 @@
 /*
  * Corrivume: a dictionary of weighted k-mers over lent tables.
  *
- * A collection is k, N letters end to end, m string ends and n weights. Letters are the bytes A C G T. End i is the number of
- * letters up to the end of string i. Handle i, from 1, is the i-th k-mer, strings in order and left to right; it has weight i.
- * k is 3 to 31, each string has at least k letters, a weight is 1 to 16,777,215, N is at most 1,048,576, m at most 65,536, and
- * n = N - m(k-1).
+ * A collection is a number k and three tables: the letters of all strings, one string behind the other (N bytes, each an A, C,
+ * G or T); where each string ends, counted in letters from the very start (m numbers); and a weight for each k-mer (n numbers).
+ * K-mers are numbered from 1, string by string and from left to right; that number is a k-mer's handle. k goes from 3 to 31, a
+ * string has k letters or more, weights go from 1 to 16,777,215, N up to 1,048,576, m up to 65,536, and n is N - m(k-1).
+ * docs/SPECIFICATION.md says all of it.
  *
  * EVERY CALL
  *
@@ -36,20 +37,20 @@ extern "C" {
 /* How many entries the answer table needs, for every call. */
 #define CORRIVUME_ANSWER 4
 
-/* The refusals: number, when, and place. */
+/* The refusals: when, and then the place that answer[0] tells (docs/SPECIFICATION.md, 8.1). */
 #define CORRIVUME_DONE 0u      /* nothing is refused */
-#define CORRIVUME_ROOM 1u      /* a lent output or work table is too short; 0 */
-#define CORRIVUME_SIZES 2u     /* k or p outside its range; 0 */
-#define CORRIVUME_TOO_LARGE 3u /* N or m too large; 0 */
-#define CORRIVUME_STRING 4u    /* a string shorter than k, or last end (0 if m = 0) is not N; first such string, else m+1 */
-#define CORRIVUME_LETTER 5u    /* a letter not A C G T; first such, from 1 */
-#define CORRIVUME_WEIGHT 6u    /* number of weights is not n (judged first), or a weight out of range; 0, else first such, from 1 */
-#define CORRIVUME_REPEAT 7u    /* a repeated word; lowest handle equal to an earlier one, turned or not */
-#define CORRIVUME_PLACE 8u     /* not m places, or a place that is zero, beyond m or used by an earlier string; 0, else first such string */
-#define CORRIVUME_ASKED 9u     /* asked word not k letters of A C G T, or handle not 1 to n; 0 */
-#define CORRIVUME_INDEX 10u    /* index doesn't fit; 0 */
-#define CORRIVUME_LINE 11u     /* a wrong line in a sheet; line, from 1 */
-#define CORRIVUME_RUN_LIST 12u /* bad run list; 0 */
+#define CORRIVUME_ROOM 1u      /* an output or the work table has too few entries; 0 */
+#define CORRIVUME_SIZES 2u     /* k or p is out of range; 0 */
+#define CORRIVUME_TOO_LARGE 3u /* more letters or strings than allowed; 0 */
+#define CORRIVUME_STRING 4u    /* a string of fewer than k letters: its number; or the last end differs from N: m + 1 */
+#define CORRIVUME_LETTER 5u    /* a byte that is no letter; the first one, counted from 1 */
+#define CORRIVUME_WEIGHT 6u    /* not exactly n weights: 0; or a weight out of range: the first one, counted from 1 */
+#define CORRIVUME_REPEAT 7u    /* a word repeats, as it is or turned; the lowest handle that repeats an earlier one */
+#define CORRIVUME_PLACE 8u     /* not exactly m places: 0; or a place that is 0, above m or taken already: that string */
+#define CORRIVUME_ASKED 9u     /* the asked word has not k letters, or the handle is not from 1 to n; 0 */
+#define CORRIVUME_INDEX 10u    /* the index does not fit the question; 0 */
+#define CORRIVUME_LINE 11u     /* a line of the sheet is wrong; the first one, counted from 1 */
+#define CORRIVUME_RUN_LIST 12u /* what is lent is no run list; 0 */
 
 /*
  * READ: a sheet's k, letters, ends and weights. A sheet of b bytes needs at most b entries in each table.
