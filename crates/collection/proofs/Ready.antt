@@ -1,6 +1,5 @@
 -- A judged collection is ready for a pass over its k-mers, whose words are k letters. Assumes nothing.
 use mathlib.Core.Path.{_≡_}
-use mathlib.Core.List.{List}
 use Prim.Native.Nat.{ℕ, _+_, _≤_}
 use lib.ListN.{length}
 use Rattle.lists.proofs.Every.{every-all, all-every}

@@ -7,7 +7,7 @@ use lib.ListN.{length, drop, getD, length-append}
 use Rattle.lists.specs.Count.{countFrom}
 use Rattle.lists.proofs.Count.{length-count}
 use Rattle.collection_faults.specs.Faults.{lastEnd}
-use Rattle.collection.specs.Collection.{Collection, spellingOf}
+use Rattle.collection.specs.Collection.{Collection}
 use Rattle.collection.specs.Kmers.{within, kmersFrom, kmers}
 use Rattle.collection.specs.Ready.{Strung}
 use Rattle.collection.proofs.Judged.{Judged, shape-long}

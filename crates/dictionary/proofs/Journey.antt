@@ -13,7 +13,7 @@ use Rattle.collection.specs.Collection.{Collection, collection, spellingOf}
 use Rattle.collection.specs.declared.Verdict.the-variants.{Good}
 use Rattle.collection.specs.Judge.{Passes}
 use Rattle.collection.specs.Kmers.{Distinct}
-use Rattle.collection.specs.Strings.{Str, strings, lettersIn, endsIn, weightsIn, joined}
+use Rattle.collection.specs.Strings.{Str, strings, weightsIn, joined}
 use Rattle.collection.specs.EndWeights.{endWeights}
 use Rattle.collection.proofs.Strings.{strings-back}
 use Rattle.collection.proofs.Verdicts.{both-good, done-by}

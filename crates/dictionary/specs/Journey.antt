@@ -6,7 +6,7 @@ use Prim.Native.Nat.{ℕ}
 use lib.IntN.{ℤ}
 use lib.ListN.{take}
 use Rattle.words.specs.Word.{spell}
-use Rattle.collection.specs.Collection.{Collection, collection}
+use Rattle.collection.specs.Collection.{Collection}
 use Rattle.collection.specs.declared.Verdict.the-variants.{Good}
 use Rattle.collection.specs.Judge.{wordVerdict}
 use Rattle.collection.specs.Tables.{Tables, collectionIn}

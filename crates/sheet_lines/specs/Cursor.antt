@@ -3,13 +3,12 @@
 use Prim.Native.Nat.{ℕ, suc, _+_}
 use mathlib.Core.Bool.{Bool, true, false, _&&_}
 use mathlib.Core.List.{List, [], _∷_, map}
-use lib.ListN.{length, drop, getD}
-use lib.Dec.{ltb, eqb}
+use lib.ListN.{length, drop}
+use lib.Dec.{eqb}
 use Rattle.lists.specs.Choose.{choose}
 use Rattle.lists.specs.Limits.{mostWeight}
 use Rattle.lists.specs.Every.{every}
 use Rattle.alphabet.specs.Letter.{isLetter}
-use Rattle.collection_faults.specs.Faults.{isWeight}
 use Rattle.collection.specs.Strings.{Str, lettersIn, weightsIn}
 use Rattle.text.specs.Numbers.{value}
 use Rattle.text.specs.Parts.{upTo, later, tab, feed}

@@ -4,7 +4,7 @@ ghost use mathlib.Core.Path.{_≡_};
 ghost use Prim.Native.Nat.{_+_, _*_, _≤_};
 ghost use lib.ListN.{length};
 ghost use Rattle.lists.specs.Fill.{put, fill};
-ghost use Rattle.lists.specs.Limits.{mostLetters, mostK};
+ghost use Rattle.lists.specs.Limits.{mostLetters};
 ghost use Rattle.collection.specs.Collection.{collection};
 ghost use Rattle.collection.specs.Judge.{Passes};
 ghost use Rattle.collection.specs.Strings.{strings};

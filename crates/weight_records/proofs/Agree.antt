@@ -14,7 +14,6 @@ use Rattle.runs.specs.Runs.{runs, runWeights, runFirsts}
 use Rattle.weight.specs.RunList.{isRunList}
 use Rattle.weight.proofs.GivenBack.{runs-then-weight}
 use Rattle.weight.proofs.RunLists.{list-good}
-use Rattle.weight_records.specs.declared.Run.{Run}
 use Rattle.weight_records.specs.Records.{weightIn, firstIn, recordsOf}
 
 weights-of : (weights firsts : List ℕ) → length weights ≡ length firsts → map weightIn (recordsOf weights firsts) ≡ weights

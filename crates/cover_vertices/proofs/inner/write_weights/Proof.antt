@@ -78,7 +78,7 @@ mul-work-3 : tie.Need-mul-work-3 Inv-loop μ-loop
 mul-work-3 c = search needs
 
 slice-write-work : tie.Need-slice-write-work Inv-loop μ-loop
-slice-write-work c = first-inside (c .before .before .before .before .loop .inv) (c .before .before .before .loop-test .taken) (c .before .wide .ensures)
+slice-write-work c = first-inside (turn-from-first c .loop .inv) (c .before .before .before .loop-test .taken) (c .before .wide .ensures)
 
 add-passed : tie.Need-add-passed Inv-loop μ-loop
 add-passed c = omega (arith, inside (c .before))
@@ -107,7 +107,7 @@ mul-work-6 c = search needs
 slice-write-work-2 : tie.Need-slice-write-work-2 Inv-loop μ-loop
 slice-write-work-2 c =
     simp length-set
-    (second-inside (c .before .before .before .before .before .loop .inv) (c .before .before .before .before .loop-test .taken)
+    (second-inside (turn-from-end c .before .loop .inv) (turn-from-end c .loop-test .taken)
     (c .before .before .wide .ensures))
 
 add-i : tie.Need-add-i Inv-loop μ-loop
@@ -118,8 +118,8 @@ loop-less c = search needs
 
 loop-again : tie.Need-loop-again Inv-loop μ-loop
 loop-again c =
-    writing-on (c .before .before .before .before .before .loop .inv) (c .before .before .before .before .loop-test .taken) (c .before .before .wide .ensures)
-    (c .before .before .before .before .before .before .before .before .before .pre .0 .ends-long .k-low)
+    writing-on (turn-from-end c .before .loop .inv) (turn-from-end c .loop-test .taken) (c .before .before .wide .ensures)
+    (start (turn-from-end c .before) .pre .0 .ends-long .k-low)
 
 same-length : tie.Need-same-length Inv-loop μ-loop
 same-length c = c .before .loop .inv .storing .size-kept
