@@ -1,4 +1,6 @@
 // ACCESS: the letters of a handle, from the ends alone.
+#![tactic(auto)]
+
 mod locating;
 
 ghost use Rattle.std.specs.Prelude.{◌≡◌, ◌+◌};

@@ -1,4 +1,6 @@
 // The four letters: which byte is which, their codes, and their pairs.
+#![tactic(auto)]
+
 ghost use Rattle.std.specs.Prelude.{◌≡◌};
 ghost use Rattle.lists.specs.Every.{every};
 ghost use Rattle.alphabet.specs.Letter.{is_letter, capital, two_bits, paired};

@@ -1,4 +1,6 @@
 // APPLY writes a collection's strings in a new order, some of them turned, into new tables.
+#![tactic(auto)]
+
 mod judging;
 
 ghost use Rattle.std.specs.Prelude.{◌≡◌, length};

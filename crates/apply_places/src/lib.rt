@@ -1,2 +1,4 @@
 // 8: when signed places are refused, and which string has which place.
+#![tactic(auto)]
+
 pub mod inner;

@@ -1,5 +1,7 @@
 // Runs the worked examples that are not proved as theorems, and some that are, and writes one line each: what was asked, and the
 // answer. The file `stdout` holds what the lines should be.
+#![tactic(auto)]
+
 mod asking;
 mod reordering;
 

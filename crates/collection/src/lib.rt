@@ -1,5 +1,7 @@
 // A collection: k, letters end to end, string ends and weights, as lent tables. This crate says what they mean and judges
 // them: every public call above refuses by these verdicts.
+#![tactic(auto)]
+
 pub mod inner;
 mod judging;
 

@@ -1,4 +1,6 @@
 // Faults of one table, and where the first stands.
+#![tactic(auto)]
+
 pub mod inner;
 
 ghost use Rattle.std.specs.Prelude.{◌≡◌};

@@ -1,4 +1,6 @@
 // COVER: an order and turning of the strings of a collection with the fewest paths, as signed places.
+#![tactic(auto)]
+
 mod covering;
 
 ghost use Rattle.std.specs.Prelude.{◌≡◌};

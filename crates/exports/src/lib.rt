@@ -1,5 +1,7 @@
 // The calls for hosts in C and other languages. Numbers pass as themselves, a table as a pointer and its number of entries. Each function
 // returns the number of the refusal, 0 when done, and tells the rest through `answer`: the place of a refusal, or what the call answers.
+#![tactic(auto)]
+
 ghost use Rattle.std.specs.Prelude.{◌≡◌};
 ghost use Rattle.index.specs.Indexing.{lent, index_of};
 ghost use Rattle.access.specs.Access.{access_at};

@@ -1,4 +1,6 @@
 // What a call's answer tells a host that has no enums: a number to return and values for a table.
+#![tactic(auto)]
+
 pub mod inner;
 
 // A refusal, or as many values as the call answers.

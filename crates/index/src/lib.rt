@@ -1,4 +1,6 @@
 // INDEX: stretches of k-mers by their minimizers.
+#![tactic(auto)]
+
 ghost use Rattle.std.specs.Prelude.{◌≡◌};
 ghost use Rattle.index.specs.Indexing.{Lent, lent, outcome, index_with, index_of};
 ghost use Rattle.index.specs.Judged.{Sized, foreseen, Judged, Held, judged_of};

@@ -1,4 +1,6 @@
 // Minimizers: the smallest code among the words of p letters of a k-mer.
+#![tactic(auto)]
+
 pub mod inner;
 
 ghost use Rattle.std.specs.Prelude.{◌≡◌};

@@ -1,1 +1,2 @@
 // Stretches of k-mers with one minimizer, and the index that is made of them: definitions and laws, no code.
+#![tactic(auto)]

@@ -1,4 +1,6 @@
 // PLAIN: the handle of a word, by a scan of the whole collection.
+#![tactic(auto)]
+
 mod scanning;
 
 ghost use Rattle.std.specs.Prelude.{◌≡◌};

@@ -1,4 +1,6 @@
 // QUICK: the handle of an asked word, by the index. The word's row is walked for the word, then the row of its reverse complement for the turned word.
+#![tactic(auto)]
+
 pub mod inner;
 
 ghost use Rattle.std.specs.Prelude.{◌≡◌};

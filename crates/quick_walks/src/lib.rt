@@ -1,4 +1,6 @@
 // The rows of an index, judged and walked.
+#![tactic(auto)]
+
 pub mod inner;
 
 // Where a walk ends: at a k-mer, or past the last; with the number compared.

@@ -1,4 +1,6 @@
 // CHECK: a collection is judged, and no word in it may repeat, turned or not.
+#![tactic(auto)]
+
 pub mod inner; // the search for a repeated word, for callers that have judged their collection
 
 ghost use Rattle.std.specs.Prelude.{◌≡◌};

@@ -1,4 +1,6 @@
 // RUNS: the runs of a collection's weights, across strings.
+#![tactic(auto)]
+
 pub mod inner;
 
 ghost use Rattle.std.specs.Prelude.{◌≡◌};

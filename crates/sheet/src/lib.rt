@@ -1,5 +1,6 @@
 // What READ and WRITE answer. The meaning of a sheet stands in specs/, its laws in proofs/; the calls are `sheet_read` and
 // `sheet_write`.
+#![tactic(auto)]
 
 // READ: k, and how many entries it filled in the tables of letters, ends and weights; or a refusal. In a refusal with
 // number 11 the place is a line, from 1.

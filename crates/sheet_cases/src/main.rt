@@ -1,6 +1,8 @@
 // Runs READ and WRITE on sheets from standard input, and writes for each `y` where they answer as the specification says (9.1, 9.2), else `n`.
 // The sheets are parted by `~`. Each has a mark before it: `=` for a sheet that is read and written back, `1` `2` `3` for a
 // wrong line of that number, `k` for a k out of range, `r` for a sheet that the tables have no room for.
+#![tactic(auto)]
+
 ghost use Rattle.std.specs.Prelude.{◌<◌, ◌≤◌, length};
 
 use sheet::{ReadAnswer, WriteAnswer};

@@ -1,5 +1,7 @@
 // The steps of READ: what stands at a place of a sheet, from one byte to all lines. The place goes from step to step as a
 // number; each step answers what it found there, and where the next one starts, as an enum.
+#![tactic(auto)]
+
 pub mod fields;
 pub mod inner;
 pub mod lines;

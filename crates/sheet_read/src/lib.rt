@@ -1,6 +1,8 @@
 // READ: a sheet's bytes into the tables of a collection. One pass judges and counts, and only then one pass fills, so a
 // refusal finds every table as it was. The place in the sheet goes from step to step as a number; each step answers what it
 // found there as an enum.
+#![tactic(auto)]
+
 mod filling;
 mod judging;
 

@@ -1,5 +1,7 @@
 // WRITE: a collection as a sheet's bytes. The sheet's length follows from the lengths of the tables and the digits of the
 // weights, so the table is judged before a byte is written.
+#![tactic(auto)]
+
 mod numbers;
 mod writing;
 

@@ -1,4 +1,6 @@
 // What `tally` does: from the bytes of a sheet to the bytes of a report.
+#![tactic(auto)]
+
 pub mod inner; // of a collection, for callers that have judged it
 mod telling;
 

@@ -1,2 +1,4 @@
 // Numbers of the weights of a judged collection.
+#![tactic(auto)]
+
 pub mod inner;

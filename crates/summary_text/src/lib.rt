@@ -1,4 +1,6 @@
 // The text of a summary: nine lines of numbers, or one of a refusal. Its length is known before a byte is written.
+#![tactic(auto)]
+
 mod lines;
 
 ghost use Rattle.std.specs.Prelude.{◌≡◌, ◌+◌, ◌≤◌, length};

@@ -1,4 +1,6 @@
 // tally: reads a sheet from standard input and writes its numbers, or why it is refused, to standard output.
+#![tactic(auto)]
+
 use libc::{STDIN_FILENO, STDOUT_FILENO};
 use summary_text::ReportAnswer;
 

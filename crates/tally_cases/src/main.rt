@@ -1,4 +1,6 @@
 // Writes what `tally` says of each sheet on standard input, with an empty line after it. The sheets are parted by `~`.
+#![tactic(auto)]
+
 ghost use Rattle.std.specs.Prelude.{◌<◌, ◌≤◌, length};
 
 use libc::{STDIN_FILENO, STDOUT_FILENO};

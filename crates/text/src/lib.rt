@@ -1,4 +1,6 @@
 // Text in lent tables: numbers in decimal written and read, bytes copied. Nothing here knows what a text is about.
+#![tactic(auto)]
+
 pub mod inner; // for callers that show where the bytes have room
 
 ghost use Rattle.std.specs.Prelude.{◌≡◌};

@@ -1,4 +1,6 @@
 // A run list as a caller lends it, in two tables: judging it (12), and WEIGHT, the weight that it gives a handle.
+#![tactic(auto)]
+
 pub mod inner;
 mod judging;
 

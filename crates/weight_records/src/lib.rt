@@ -1,4 +1,6 @@
 // WEIGHT over one list of records, each a weight and its first handle. One pass judges the list and looks the handle up.
+#![tactic(auto)]
+
 ghost use Rattle.std.specs.Prelude.{◌≡◌, map};
 ghost use Rattle.weight.specs.Weight.{weight_answer};
 ghost use Rattle.weight_records.specs.Records.{weight_in, first_in};

@@ -1,4 +1,6 @@
 // Words by their codes: the code of a word, of its reverse complement, and of the next word along a string.
+#![tactic(auto)]
+
 pub mod inner;
 
 ghost use Rattle.std.specs.Prelude.{◌≡◌};

@@ -1,0 +1,392 @@
+#!/usr/bin/env python3
+"""Turns a crate's Proof.antt files, which walk by a Tie, into Invariants.antt and Answers.antt.
+
+usage: tools/port_answers.py CRATE [FUNCTION ..]    (at the top; the crates below CRATE are proved)
+
+`rt check --generated DIR --old-names` lists each goal's and each step's old and new name. An invariant's arguments become the
+fields of `l`; a chain of `.before` goes, since the new record has each step by name; answers that say `search rules` go.
+A lemma over a place is stated over the place's record in Lts. It prints what it could not turn.
+"""
+import json
+import os
+import re
+import subprocess
+import sys
+import tempfile
+
+NAME = r"[^\s(){}\[\],;.`\"'«»⌜⌝λ∀→≡×⊎∷=:|↦⟨⟩]+'*"
+
+
+def read(path):
+    with open(path, encoding="utf-8") as f:
+        return f.read()
+
+
+def norm(name):
+    name = name.replace("-", "_")
+    name = name[:-4] if name.endswith("_lem") else name
+    return {"within_range": "in_range", "is_a_number": "is_number"}.get(name, name)
+
+
+def names_of(crate):
+    folder = tempfile.mkdtemp()
+    subprocess.run(["rt", "check", "--generated", folder, "--old-names"], cwd=f"crates/{crate}", stdout=subprocess.PIPE, stderr=subprocess.STDOUT, check=False)
+    return json.loads(read(os.path.join(folder, "names.json")))
+
+
+def clauses_of(crate):
+    """For each function, by its name: the names of its requires and ensures clauses."""
+    found = {}
+    for folder, _, files in os.walk(f"crates/{crate}/src"):
+        for file in files:
+            text = read(os.path.join(folder, file))
+            for m in re.finditer(r"^\s*(?:pub(?:\([a-z]+\))? )?(?:extern \"C\" )?fn (\w+)", text, re.M):
+                end = re.search(r"^\s*\{\s*$|^\s*\{ ", text[m.end():], re.M)
+                head = text[m.end():m.end() + (end.start() if end else 0)]
+                kinds = {}
+                for kind in ("requires", "ensures"):
+                    kinds[kind] = re.findall(r"^\s*" + kind + r"\*? ?(\w*) ?\{", head, re.M)
+                found[m.group(1)] = kinds
+    return found
+
+
+def blocks(text):
+    """The top-level declarations of a proof file: (name, signature, unfolding lines, clauses, comment)."""
+    lines = text.split("\n")
+    parts, comment, current = [], [], None
+    for line in lines:
+        if line.startswith("--"):
+            if current:
+                parts.append(current)
+                current = None
+            comment.append(line)
+        elif line and not line[0].isspace():
+            m = re.match(r"(?:(?:pub|abbrev|unfoldable) )*(" + NAME + r")", line)
+            name = m.group(1) if m else None
+            if line.startswith("use "):
+                if current:
+                    parts.append(current)
+                parts.append({"name": None, "lines": [line], "comment": comment})
+                comment, current = [], None
+            elif current and (line.startswith("unfolding ") or name in (None, current["name"])):
+                current["lines"].append(line)
+            else:
+                if current:
+                    parts.append(current)
+                current = {"name": name, "lines": [line], "comment": comment}
+                comment = []
+        elif current is not None:
+            current["lines"].append(line)
+        elif not line and comment:
+            parts.append({"name": None, "lines": [], "comment": comment})
+            comment = []
+    if current:
+        parts.append(current)
+    return parts
+
+
+def split_call(text):
+    """The top-level words of an application."""
+    words, depth, word = [], 0, ""
+    for ch in text:
+        if ch in "([{":
+            depth += 1
+        if ch in ")]}":
+            depth -= 1
+        if ch.isspace() and depth == 0:
+            if word:
+                words.append(word)
+            word = ""
+        else:
+            word += ch
+    return words + ([word] if word else [])
+
+
+class Function:
+    def __init__(self, crate, path, table, clauses):
+        self.crate, self.path = crate, path
+        self.dotted = path.replace("/", ".")
+        self.names = table[f"Rattle-{crate}-proofs.{self.dotted}.Lts"]
+        self.clauses = clauses
+        self.steps = {}
+        self.place_step = {}
+        for place in self.names["places"]:
+            old, new = place[2]
+            if old:
+                self.steps[norm(old)] = new
+            self.place_step[norm(place[0])] = place
+        self.said = []
+        self.negated = False
+
+    def say(self, text):
+        self.said.append(f"{self.crate}/{self.path}: {text}")
+
+    # ─── chains ───
+    def clause_path(self, clauses, rest):
+        """`.0`, `.1.0` .. of several clauses, by their names."""
+        if len(clauses) < 2:
+            return rest
+        n = len(clauses)
+        for i, name in enumerate(clauses):
+            path = ["1"] * i + (["0"] if i + 1 < n else [])
+            if rest[:len(path)] == path:
+                return [name] + rest[len(path):]
+        self.say(f"clauses {clauses} at {rest}")
+        return rest
+
+    def rest_of(self, step, parts):
+        own = self.clauses_here
+        if step in ("requires", "pre"):
+            return ["requires"] + self.clause_path(own, parts)
+        if parts and parts[0] == "inv":
+            parts = ["invariant"] + parts[1:]
+        if parts and parts[0] == "ensures":
+            callee = self.callees.get(norm(step))
+            if callee and callee in self.all_clauses:
+                return [step, "ensures"] + self.clause_path(self.all_clauses[callee]["ensures"], parts[1:])
+        return [step] + parts
+
+    def turn_chain(self, root, parts, answer):
+        """A chain from a place: its steps by their new names, without `.before`."""
+        n = 0
+        while n < len(parts) and parts[n] == "before":
+            n += 1
+        rest = parts[n:]
+        if not rest:
+            befores = ["before"] * (n + (1 if answer and root in self.roots else 0))
+            return ".".join([root] + befores)
+        head = rest[0]
+        if head in ("args", "ranges", "lifetimes", "well_formed"):
+            return ".".join([root] + rest)
+        if head in ("requires", "pre"):
+            return ".".join([root] + self.rest_of("requires", rest[1:]))
+        new = self.steps.get(norm(head))
+        if new is None:
+            if n:
+                self.say(f"no step {head} in {root}.{'.'.join(parts)}")
+                return ".".join([root] + rest)
+            return ".".join([root] + parts)
+        kept = self.rest_of(head, rest[1:])
+        chain = ".".join([root, new] + kept[1:])
+        if re.match(r"(if|loop-test)-not-|if-not-", new) and kept[1:] in (["true"], ["false"]):
+            self.negated = True
+            return f"(path.ap bool.not {chain})"
+        return chain
+
+    def turn_body(self, text, answer):
+        chain = re.compile(r"(?<![\w.'₀-₉-])([a-z]\w*'*)((?:\.[^\s(){}\[\],;.]+)+)")
+
+        def one(m):
+            parts = m.group(2)[1:].split(".")
+            return self.turn_chain(m.group(1), parts, answer)
+
+        text = chain.sub(one, text)
+        if answer:
+            for root in self.roots:
+                text = re.sub(r"(?<![\w.'-])" + re.escape(root) + r"(?![\w.'₀-₉-])", root + ".before", text)
+        return text
+
+    # ─── the file ───
+    def place_types(self, text):
+        """`tie.P inv dec` is an abbrev that stands for the place's record in Lts."""
+        loops = "".join(rf" {re.escape(w)}" for w in self.tie_args)
+
+        def one(m):
+            place = self.place_step.get(norm(m.group(1)))
+            if place is None:
+                self.say(f"no place {m.group(1)}")
+                return m.group(0)
+            self.places_used[place[0]] = True
+            return f"At.{place[0]}" if False else "Place-" + place[0]
+
+        return re.sub(r"tie\.((?:After|At|In|Start|Then|Else|Join)[^\s()]*)" + loops, one, text)
+
+    def turn(self):
+        folder = f"crates/{self.crate}/proofs/{self.path}"
+        text = read(f"{folder}/Proof.antt")
+        parts = blocks(text)
+        fn = self.path.split("/")[-1]
+        self.clauses_here = self.clauses.get(fn, {}).get("requires", [])
+        self.all_clauses = ALL
+        self.callees = {}
+        for place in self.names["places"]:
+            if place[3] and place[2][0]:
+                self.callees[norm(place[2][0])] = place[3].split("::")[-1]
+        needs = {}
+        for at, (old, new) in enumerate(self.names["needs"]):
+            needs[norm(old)] = (new, at)
+        loops = {norm(old): (new, vars_, changed) for ((old, new), vars_), changed in zip(self.names["loops"], self.names["changed"])}
+        self.tie_args = []
+        m = re.search(r"tie\.Need-\S+((?: \S+)*)$", text, re.M)
+        if m:
+            self.tie_args = m.group(1).split()
+        self.places_used = {}
+        head, uses, inv_out, ans_out, local = [], [], [], [], []
+        for part in parts:
+            lines, comment = part["lines"], part["comment"]
+            if lines and lines[0].startswith("use "):
+                if not re.search(r"\.Statement\.\{statement\}|\.Tie as tie", lines[0]):
+                    uses.append(lines[0])
+                if comment and not head:
+                    head = comment
+                continue
+            if not lines:
+                head = head or comment
+                continue
+            body = "\n".join(lines).rstrip("\n")
+            first = lines[0]
+            inv = re.match(r"(?:abbrev |pub |unfoldable )*(invariant|decreases)-(\S+) :", first)
+            need = re.match(r"(?:pub )?(" + NAME + r") : tie\.Need-(\S+)", first)
+            if inv:
+                loop = loops.get(norm(inv.group(2)))
+                if not loop:
+                    self.say(f"no loop {inv.group(2)}")
+                    continue
+                new, vars_, changed = loop
+                rest = "\n".join(lines[1:]).rstrip()
+                unfold = ""
+                while rest.startswith("unfolding"):
+                    l, _, rest = rest.partition("\n")
+                    unfold += l + "\n"
+                lhs, eq, rhs = rest.partition("=")
+                params = lhs.split()[1:]
+                current = [v for v, c in zip(vars_, changed) if c]
+                expected = len(vars_) + len(current)
+                if len(params) != expected:
+                    self.say(f"{first}: {len(params)} arguments, {expected} expected: {vars_} {changed}")
+                table = {}
+                for p, v, c in zip(params, vars_, changed):
+                    if p != "_":
+                        table[p] = f"l.initial.{v}" if c else f"l.{v}"
+                for p, v in zip(params[len(vars_):], current):
+                    if p != "_":
+                        table[p] = f"l.{v}"
+
+                for p in table:
+                    if re.search(r"(λ (?:\()?|\()" + re.escape(p) + r"(?= :|\.)", rhs):
+                        self.say(f"{first}: `{p}` is bound again")
+
+                def word(m):
+                    w = m.group(0)
+                    if m.start() and rhs[m.start() - 1] == ".":
+                        return w
+                    return table.get(w, w)
+
+                rhs = re.sub(NAME, word, rhs)
+                inv_out.append("\n".join(comment + [f"abbrev pub {inv.group(1)}-{new} : goal.{inv.group(1)}-{new}"]) + "\n" + unfold + f"{inv.group(1)}-{new} l ={rhs.rstrip()}\n")
+                continue
+            if need:
+                keys = [norm(need.group(1)), norm(need.group(2)), norm(re.sub(r"^overflow-", "", need.group(2)))]
+                found = next((needs[k] for k in keys if k in needs), None)
+                rest = lines[1:]
+                unfold = [l for l in rest if l.startswith("unfolding ")]
+                rest = "\n".join(l for l in rest if not l.startswith("unfolding ")).rstrip()
+                lhs, eq, rhs = rest.partition("=")
+                words = lhs.split()
+                if rhs.strip() == "search rules":
+                    continue
+                if found is None:
+                    self.say(f"no goal {need.group(1)} ({need.group(2)})")
+                    new = need.group(1)
+                else:
+                    new = found[0]
+                if "κs" in rhs:
+                    self.say(f"{new} speaks of κs")
+                root = words[1] if len(words) > 1 else "c"
+                self.roots = {root}
+                rhs = self.turn_body(self.place_types(rhs), True)
+                ans_out.append("\n".join(comment + [f"pub {new} : goal.{new}"] + unfold + [f"{new} {root} ={rhs.rstrip()}"]) + "\n")
+                continue
+            if re.match(r"pub " + NAME + r"[-_]spec\b", first):
+                continue
+            self.roots = set()
+            lemma = self.turn_body(self.place_types(body), False)
+            if part["name"] is None:
+                self.say(f"a block without a name: {first}")
+                continue
+            local.append((part["name"], "\n".join(comment + [lemma]) + "\n"))
+            ans_out.append(("local", part["name"]))
+        inv_text = "".join(inv_out)
+        locals_by = dict(local)
+        order = [n for n, _ in local]
+        shared = []
+        grew = True
+        seen = inv_text
+        while grew:
+            grew = False
+            for n in order:
+                if n not in shared and re.search(r"(?<![\w-])" + re.escape(n) + r"(?![\w-])", seen):
+                    shared.append(n)
+                    seen += locals_by[n]
+                    grew = True
+        out = []
+        title = "\n".join(head)
+        lib = f"Rattle.{self.crate}.proofs.{self.dotted}"
+        if inv_out:
+            pubs = []
+            for n in order:
+                if n in shared:
+                    t = locals_by[n]
+                    t = re.sub(r"^((?:--[^\n]*\n)*)(?!pub )(abbrev |unfoldable )?(?:pub )?", lambda m: m.group(1) + (m.group(2) or "") + "pub ", t, count=1)
+                    pubs.append(t)
+            body = "\n".join(pubs + inv_out)
+            invariants = title + "\n" + "\n".join(uses + [f"use {lib}.Given as goal"]) + "\n\n" + body
+            with open(f"{folder}/Invariants.antt", "w", encoding="utf-8") as f:
+                f.write(invariants)
+        for it in ans_out:
+            if isinstance(it, tuple):
+                if it[1] not in shared:
+                    out.append(locals_by[it[1]])
+            else:
+                out.append(it)
+        if out:
+            more = [f"use {lib}.Goals as goal"]
+            if self.negated:
+                more += ["use mathlib.Core.Path as path", "use mathlib.Core.Bool as bool"]
+            if shared:
+                more.append(f"use {lib}.Invariants.{{{', '.join(n for n in order if n in shared)}}}")
+            places = []
+            if self.places_used:
+                more += [f"use {lib}.Lts as lts", f"use {lib}.Tie as tie", f"use {lib}.Reads as reads"]
+                inv = "".join(f" goal.the-invariant-{l[0][1]}" for l in self.names["loops"])
+                dec = "".join(f" goal.the-decreases-{l[0][1]}" for l in self.names["loops"])
+                for p in self.places_used:
+                    places.append(f"abbrev Place-{p} : Type 0\nPlace-{p} = lts.{p} tie.the-claims reads.Pre reads.Post{inv}{dec}\n")
+            answers = title + "\n" + "\n".join(uses + more) + "\n\n" + "\n".join(places + out)
+            with open(f"{folder}/Answers.antt", "w", encoding="utf-8") as f:
+                f.write(answers)
+        os.remove(f"{folder}/Proof.antt")
+
+
+ALL = {}
+
+
+def main():
+    crate, only = sys.argv[1], sys.argv[2:]
+    table = names_of(crate)
+    for c in os.listdir("crates"):
+        ALL.update({k: v for k, v in clauses_of(c).items() if k not in ALL})
+    mine = clauses_of(crate)
+    ALL.update(mine)
+    said = []
+    for folder, _, files in sorted(os.walk(f"crates/{crate}/proofs")):
+        if "Proof.antt" not in files:
+            continue
+        path = os.path.relpath(folder, f"crates/{crate}/proofs")
+        if only and path not in only:
+            continue
+        text = read(f"{folder}/Proof.antt")
+        if "Tie as tie" not in text:
+            said.append(f"{crate}/{path}: by hand")
+            continue
+        key = f"Rattle-{crate}-proofs.{path.replace('/', '.')}.Lts"
+        if key not in table:
+            said.append(f"{crate}/{path}: no names for it")
+            continue
+        f = Function(crate, path, table, mine)
+        f.turn()
+        said += f.said
+    print("\n".join(said))
+
+
+main()
