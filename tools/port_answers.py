@@ -350,8 +350,9 @@ class Function:
                 more += [f"use {lib}.Lts as lts", f"use {lib}.Tie as tie", f"use {lib}.Reads as reads"]
                 inv = "".join(f" goal.the-invariant-{l[0][1]}" for l in self.names["loops"])
                 dec = "".join(f" goal.the-decreases-{l[0][1]}" for l in self.names["loops"])
+                handed = " tie.handed_clauses" if self.names["pre"] else ""
                 for p in self.places_used:
-                    places.append(f"abbrev Place-{p} : Type 0\nPlace-{p} = lts.{p} tie.the-claims reads.Pre reads.Post{inv}{dec}\n")
+                    places.append(f"abbrev Place-{p} : Type 0\nPlace-{p} = lts.{p} tie.the-claims reads.Pre reads.Post{inv}{dec}{handed}\n")
             answers = title + "\n" + "\n".join(uses + more) + "\n\n" + "\n".join(places + out)
             with open(f"{folder}/Answers.antt", "w", encoding="utf-8") as f:
                 f.write(answers)

@@ -1,0 +1,16 @@
+-- `all_weights` meets its contract. Invariant: the first i were tested. Assumes nothing.
+use Prim.Native.Nat.{◌-◌}
+use lib.ListN.{length}
+use Rattle.lists.proofs.Every.{Tested, tested-none, tested-next, tested-all}
+use Rattle.collection_faults.specs.Faults.{is_weight}
+use borrow.Author.Rules.{rules}
+use Rattle.collection_faults.proofs.inner.all_weights.Goals as goal
+
+pub loop-i-init : goal.loop-i-init
+loop-i-init c = tested-none _ _
+
+pub loop-i-preserved : goal.loop-i-preserved
+loop-i-preserved c = tested-next c.loop-i.invariant 0 c.loop-i-test.true c.is_weight-good.ensures
+
+pub returns : goal.returns
+returns c = tested-all c.loop-i.invariant c.loop-i-test.false
