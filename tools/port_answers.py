@@ -46,6 +46,8 @@ def clauses_of(crate):
                 kinds = {}
                 for kind in ("requires", "ensures"):
                     kinds[kind] = re.findall(r"^\s*" + kind + r"\*? ?(\w*) ?\{", head, re.M)
+                params = re.search(r"\((.*?)\)\s*(?:->|$|\n|requires|ensures)", head, re.S)
+                kinds["slices"] = re.findall(r"(?:mut )?(\w+): &(?:'\w+ )?mut \[", params.group(1) if params else head)
                 found[m.group(1)] = kinds
     return found
 
@@ -102,6 +104,18 @@ def split_call(text):
     return words + ([word] if word else [])
 
 
+def tuple_parts(text):
+    parts, depth, part = [], 0, ""
+    for ch in text:
+        depth += {"(": 1, "{": 1, "[": 1, ")": -1, "}": -1, "]": -1}.get(ch, 0)
+        if ch == "," and depth == 0:
+            parts.append(part)
+            part = ""
+        else:
+            part += ch
+    return parts + ([part] if part.strip() else [])
+
+
 class Function:
     def __init__(self, crate, path, table, clauses):
         self.crate, self.path = crate, path
@@ -134,16 +148,34 @@ class Function:
         self.say(f"clauses {clauses} at {rest}")
         return rest
 
+    def clauses_of_step(self, step):
+        path = self.callee_of.get(norm(step))
+        if not path:
+            return None
+        return ALL.get((path.split("::")[0], path.split("::")[-1]))
+
     def rest_of(self, step, parts):
         own = self.clauses_here
+        if parts and parts[0] in ("last", "kept", "taken"):
+            parts = [{"last": "new", "kept": "auto", "taken": "true"}[parts[0]]] + parts[1:]
+        if parts == ["auto"] and self.clauses_of_step(step) and len(self.clauses_of_step(step)["slices"]) >= 1:
+            return [step, "auto", "+".join(self.clauses_of_step(step)["slices"])]
         if step in ("requires", "pre"):
             return ["requires"] + self.clause_path(own, parts)
         if parts and parts[0] == "inv":
             parts = ["invariant"] + parts[1:]
+        if len(parts) > 1 and parts[0] in ("new", "auto") and re.fullmatch(r"[01]", parts[1]):
+            params = self.names["params"].get(self.callee_of.get(norm(step), ""), [])
+            i = 0
+            while i + 1 < len(parts) and parts[1 + i] == "1":
+                i += 1
+            if i + 1 < len(parts) and parts[1 + i] == "0" and i < len(params):
+                return [step, parts[0], params[i]] + parts[2 + i:]
+            self.say(f"{step}.{'.'.join(parts)}: {params}")
         if parts and parts[0] == "ensures":
-            callee = self.callees.get(norm(step))
-            if callee and callee in self.all_clauses:
-                return [step, "ensures"] + self.clause_path(self.all_clauses[callee]["ensures"], parts[1:])
+            callee = self.clauses_of_step(step)
+            if callee:
+                return [step, "ensures"] + self.clause_path(callee["ensures"], parts[1:])
         return [step] + parts
 
     def turn_chain(self, root, parts, answer):
@@ -162,7 +194,7 @@ class Function:
             return ".".join([root] + self.rest_of("requires", rest[1:]))
         new = self.steps.get(norm(head))
         if new is None:
-            if n:
+            if n and head != "blocks":
                 self.say(f"no step {head} in {root}.{'.'.join(parts)}")
                 return ".".join([root] + rest)
             return ".".join([root] + parts)
@@ -173,18 +205,153 @@ class Function:
             return f"(path.ap bool.not {chain})"
         return chain
 
+    def up(self, here, there):
+        """How many `.before` lead from one place to another above it; None where there is no way."""
+        n = 0
+        while here is not None and here != there:
+            place = self.place_step.get(norm(here))
+            here = place[1] if place else None
+            n += 1
+        return n if here is not None else None
+
+    def reach(self, root, there):
+        """The place `there`, seen from a variable that is a place."""
+        n = self.up(self.env.get(root), there)
+        if n is None:
+            self.say(f"no way from {root} at {self.env.get(root)} to {there}")
+            n = 0
+        return ".".join([root] + ["before"] * (n + (1 if root in self.roots else 0)))
+
     def turn_body(self, text, answer):
-        chain = re.compile(r"(?<![\w.'₀-₉-])([a-z]\w*'*)((?:\.[^\s(){}\[\],;.]+)+)")
+        """Every chain by its new names; a place that is passed on is reached from where the variable stands."""
+        ident = r"[a-z][\w-]*'*"
+        pure = rf"(?:{ident})(?:\.before)*(?![\w.'₀-₉-])"
+        whole = re.compile(
+            rf"(?P<let>let (?P<v>{ident}) = (?P<lf>{ident} )?(?P<lc>{pure}) in)"
+            rf"|let (?P<pv>{ident}) = \((?P<pf>{ident}) (?P<pc>{pure})\)\.(?P<ps>[^\s(){{}}\[\],;.]+) in"
+            rf"|let (?P<sv>{ident}) = (?P<sc>{ident}(?:\.[^\s(){{}}\[\],;.]+)+)(?= in)"
+            rf"|(?<![\w.'₀-₉-])(?P<f>{ident}) (?P<fp>\()?(?P<fc>{pure})"
+            rf"|(?<![\w.'₀-₉-])(?P<root>{ident})(?P<parts>(?:\.[^\s(){{}}\[\],;.]+)+)"
+            rf"|(?P<close>\))(?P<cparts>(?:\.[^\s(){{}}\[\],;.]+)+)"
+        )
+        out, at = [], 0
+        while True:
+            m = whole.search(text, at)
+            if not m:
+                break
+            out.append(text[at:m.start()])
+            at = m.end()
+            if m.group("let"):
+                root = m.group("lc").split(".")[0]
+                f = (m.group("lf") or "").strip()
+                if f and f in self.typed and root in self.env:
+                    self.env[m.group("v")] = self.typed[f][1]
+                    out.append(f"let {m.group('v')} = {f} {self.reach(root, self.typed[f][0])} in")
+                elif not f and root in self.env:
+                    self.env[m.group("v")] = self.env[root]
+                    inside = ".before" if root in self.roots else ""
+                    out.append(f"let {m.group('v')} = {root}{inside} in")
+                else:
+                    out.append(text[m.start():m.start() + 4])
+                    at = m.start() + 4
+            elif m.group("pv"):
+                f, root = m.group("pf"), m.group("pc").split(".")[0]
+                if norm(m.group("ps")) in self.steps and f in self.typed:
+                    self.step_vars[m.group("pv")] = m.group("ps")
+                    self.env.pop(m.group("pv"), None)
+                    inner = self.reach(root, self.typed[f][0]) if root in self.env else m.group("pc")
+                    out.append(f"let {m.group('pv')} = ({f} {inner}).{self.steps[norm(m.group('ps'))]} in")
+                else:
+                    out.append(text[m.start():m.start() + 4])
+                    at = m.start() + 4
+            elif m.group("sv"):
+                root, parts = m.group("sc").split(".")[0], m.group("sc").split(".")[1:]
+                while parts and parts[0] == "before":
+                    parts = parts[1:]
+                if root in self.env and len(parts) == 1 and norm(parts[0]) in self.steps:
+                    self.step_vars[m.group("sv")] = parts[0]
+                    self.env.pop(m.group("sv"), None)
+                out.append(text[m.start():m.start("sc")])
+                at = m.start("sc")
+            elif m.group("f"):
+                f, root = m.group("f"), m.group("fc").split(".")[0]
+                if f in self.typed and root in self.env:
+                    out.append(f"{f} {m.group('fp') or ''}{self.reach(root, self.typed[f][0])}")
+                else:
+                    out.append(f)
+                    at = m.start() + len(f)
+            elif m.group("root"):
+                root, parts = m.group("root"), m.group("parts")[1:].split(".")
+                if root in self.step_vars:
+                    kept = self.rest_of(self.step_vars[root], parts)[1:]
+                    out.append(self.spread(".".join([root] + kept)))
+                elif root in self.env:
+                    out.append(self.spread(self.turn_chain(root, parts, answer)))
+                else:
+                    out.append(".".join([root] + self.turn_loose(parts)))
+            else:
+                parts = m.group("cparts")[1:].split(".")
+                while parts and parts[0] == "before" and len(parts) > 1:
+                    parts = parts[1:]
+                out.append(")." + ".".join(self.turn_steps(parts)))
+        out.append(text[at:])
+        return "".join(out)
 
-        def one(m):
-            parts = m.group(2)[1:].split(".")
-            return self.turn_chain(m.group(1), parts, answer)
+    def spread(self, chain):
+        """`x.auto.a+b` is `x.auto.a, x.auto.b`."""
+        m = re.match(r"(.*\.auto\.)(\w+(?:\+\w+)+)$", chain)
+        return ", ".join(m.group(1) + p for p in m.group(2).split("+")) if m else chain
 
-        text = chain.sub(one, text)
-        if answer:
-            for root in self.roots:
-                text = re.sub(r"(?<![\w.'-])" + re.escape(root) + r"(?![\w.'₀-₉-])", root + ".before", text)
-        return text
+    def turn_steps(self, parts):
+        """The fields of a place that is no variable."""
+        if parts[0] in ("requires", "pre"):
+            return self.rest_of("requires", parts[1:])
+        new = self.steps.get(norm(parts[0]))
+        if new:
+            return [new] + self.rest_of(parts[0], parts[1:])[1:]
+        return parts
+
+    def turn_loose(self, parts):
+        if parts[0] == "pre":
+            return self.rest_of("requires", parts[1:])
+        return ["invariant" if p == "inv" else p for p in parts]
+
+    def asked(self, need):
+        """The clauses that a `..-requires` asks."""
+        name = norm(re.sub(r"-requires(-\d+)?$", "", need))
+        for path in self.names["params"]:
+            if path.split("::")[-1] == name:
+                found = ALL.get((path.split("::")[0], name))
+                return found["requires"] if found else []
+        return []
+
+    def as_record(self, text, names):
+        if len(names) < 2:
+            return text
+        body = text.rstrip()
+        if not body.endswith(")"):
+            self.say(f"asks {names}, and is no tuple")
+            return text
+        depth, i = 0, len(body) - 1
+        while i >= 0:
+            depth += {")": 1, "(": -1}.get(body[i], 0)
+            if depth == 0:
+                break
+            i -= 1
+        if i > 0 and not body[i - 1].isspace():
+            return text
+        if not (i == 0 or re.search(r"(^|\bin|=)\s*$", body[:i])):
+            self.say(f"asks {names}, and is no tuple")
+            return text
+        parts = tuple_parts(body[i + 1:-1])
+        while len(parts) < len(names) and parts[-1].strip().startswith("(") and parts[-1].strip().endswith(")"):
+            parts = parts[:-1] + tuple_parts(parts[-1].strip()[1:-1])
+        if len(parts) < len(names):
+            self.say(f"asks {names}, and has {len(parts)} parts")
+            return text
+        if len(parts) > len(names):
+            parts = parts[:len(names) - 1] + ["(" + ",".join(parts[len(names) - 1:]) + ")"]
+        return body[:i] + "record { " + "; ".join(f"{n} = {p.strip()}" for n, p in zip(names, parts)) + " }"
 
     # ─── the file ───
     def place_types(self, text):
@@ -209,8 +376,10 @@ class Function:
         self.clauses_here = self.clauses.get(fn, {}).get("requires", [])
         self.all_clauses = ALL
         self.callees = {}
+        self.callee_of = {}
         for place in self.names["places"]:
             if place[3] and place[2][0]:
+                self.callee_of[norm(place[2][0])] = place[3]
                 self.callees[norm(place[2][0])] = place[3].split("::")[-1]
         needs = {}
         for at, (old, new) in enumerate(self.names["needs"]):
@@ -221,6 +390,15 @@ class Function:
         if m:
             self.tie_args = m.group(1).split()
         self.places_used = {}
+        self.typed = {}
+        for part in parts:
+            body = "\n".join(part["lines"])
+            m = re.match(r"(?:(?:abbrev|pub|unfoldable) )*(" + NAME + r") : (?:\((\w+) : )?tie\.((?:After|At|In|Start|Then|Else|Join)[^\s()]*)", body)
+            if m:
+                q = re.search(r"→ tie\.((?:After|At|In|Start|Then|Else|Join)[^\s()]*)", body.split("\n" + m.group(1))[0])
+                place = self.place_step.get(norm(m.group(3)))
+                to = self.place_step.get(norm(q.group(1))) if q else None
+                self.typed[m.group(1)] = (place[0] if place else None, to[0] if to else None)
         head, uses, inv_out, ans_out, local = [], [], [], [], []
         for part in parts:
             lines, comment = part["lines"], part["comment"]
@@ -293,14 +471,34 @@ class Function:
                 if "κs" in rhs:
                     self.say(f"{new} speaks of κs")
                 root = words[1] if len(words) > 1 else "c"
-                self.roots = {root}
+                # the record of a goal wraps its place where the place's type says something of values
+                at = self.names["asked_at"][found[1]][0] if found else None
+                index = [p[0] for p in self.names["places"]].index(at) if at else 0
+                self.roots = {root} if self.names["typed"][index] else set()
+                self.step_vars = {}
+                self.env = {root: self.names["asked_at"][found[1]][0] if found else None}
                 rhs = self.turn_body(self.place_types(rhs), True)
+                if "-requires" in need.group(1):
+                    rhs = self.as_record(rhs, self.asked(need.group(1)))
                 ans_out.append("\n".join(comment + [f"pub {new} : goal.{new}"] + unfold + [f"{new} {root} ={rhs.rstrip()}"]) + "\n")
                 continue
             if re.match(r"pub " + NAME + r"[-_]spec\b", first):
                 continue
-            self.roots = set()
-            lemma = self.turn_body(self.place_types(body), False)
+            self.roots, self.env, self.step_vars = set(), {}, {}
+            if part["name"] in self.typed:
+                place, to = self.typed[part["name"]]
+                m = re.search(r"^" + re.escape(part["name"]) + r" (\w+)[^=]*=", body, re.M)
+                p = re.match(r"[^:]*: \((\w+) : tie\.", body)
+                for root in {m.group(1) if m else None, p.group(1) if p else None} - {None}:
+                    self.env[root] = place
+                if m and to:
+                    head_, _, tail_ = body.rpartition("\n" + m.group(0))
+                    body = head_ + "\n" + m.group(0) + " " + self.reach(m.group(1), to)
+                    lemma = self.place_types(body)
+                else:
+                    lemma = self.turn_body(self.place_types(body), False)
+            else:
+                lemma = self.turn_body(self.place_types(body), False)
             if part["name"] is None:
                 self.say(f"a block without a name: {first}")
                 continue
@@ -366,9 +564,8 @@ def main():
     crate, only = sys.argv[1], sys.argv[2:]
     table = names_of(crate)
     for c in os.listdir("crates"):
-        ALL.update({k: v for k, v in clauses_of(c).items() if k not in ALL})
+        ALL.update({(c, k): v for k, v in clauses_of(c).items()})
     mine = clauses_of(crate)
-    ALL.update(mine)
     said = []
     for folder, _, files in sorted(os.walk(f"crates/{crate}/proofs")):
         if "Proof.antt" not in files:
