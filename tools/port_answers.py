@@ -124,11 +124,24 @@ class Function:
         self.clauses = clauses
         self.steps = {}
         self.place_step = {}
-        for place in self.names["places"]:
+        self.parent = {}
+        self.arms = {}
+        self.past = set()
+        parents = {place[0]: place[1] for place in self.names["places"]}
+        for place, arm in zip(self.names["places"], self.names["arms"]):
             old, new = place[2]
             if old:
                 self.steps[norm(old)] = new
             self.place_step[norm(place[0])] = place
+            above = place[1]
+            if arm:
+                # an arm's places are one record
+                for _ in range(arm[1] - 1):
+                    above = parents[above]
+                self.past.add(place[0])
+                for field, step, path in arm[2]:
+                    self.arms.setdefault(norm(step), []).append((path, arm[0], field))
+            self.parent[place[0]] = above
         self.said = []
         self.negated = False
 
@@ -178,6 +191,16 @@ class Function:
                 return [step, "ensures"] + self.clause_path(callee["ensures"], parts[1:])
         return [step] + parts
 
+    def of_arm(self, step, rest):
+        """A field of an arm's steps, by the arm."""
+        best = None
+        for path, arm, field in self.arms.get(norm(step), []):
+            if rest[:len(path)] == path and (best is None or len(path) > len(best[0])):
+                best = (path, arm, field)
+        if best is None or (not best[0] and rest):
+            return None
+        return [best[1], best[2]] + rest[len(best[0]):]
+
     def turn_chain(self, root, parts, answer):
         """A chain from a place: its steps by their new names, without `.before`."""
         n = 0
@@ -198,6 +221,11 @@ class Function:
                 self.say(f"no step {head} in {root}.{'.'.join(parts)}")
                 return ".".join([root] + rest)
             return ".".join([root] + parts)
+        if norm(head) in self.arms:
+            of_arm = self.of_arm(head, rest[1:])
+            if of_arm:
+                return ".".join([root] + of_arm)
+            self.say(f"no arm has {'.'.join(rest)}")
         kept = self.rest_of(head, rest[1:])
         chain = ".".join([root, new] + kept[1:])
         if re.match(r"(if|loop-test)-not-|if-not-", new) and kept[1:] in (["true"], ["false"]):
@@ -209,8 +237,7 @@ class Function:
         """How many `.before` lead from one place to another above it; None where there is no way."""
         n = 0
         while here is not None and here != there:
-            place = self.place_step.get(norm(here))
-            here = place[1] if place else None
+            here = self.parent.get(here)
             n += 1
         return n if here is not None else None
 
@@ -307,6 +334,8 @@ class Function:
         if parts[0] in ("requires", "pre"):
             return self.rest_of("requires", parts[1:])
         new = self.steps.get(norm(parts[0]))
+        if norm(parts[0]) in self.arms and self.of_arm(parts[0], parts[1:]):
+            return self.of_arm(parts[0], parts[1:])
         if new:
             return [new] + self.rest_of(parts[0], parts[1:])[1:]
         return parts
@@ -548,9 +577,12 @@ class Function:
                 more += [f"use {lib}.Lts as lts", f"use {lib}.Tie as tie", f"use {lib}.Reads as reads"]
                 inv = "".join(f" goal.the-invariant-{l[0][1]}" for l in self.names["loops"])
                 dec = "".join(f" goal.the-decreases-{l[0][1]}" for l in self.names["loops"])
-                handed = " tie.handed_clauses" if self.names["pre"] else ""
+                asked = [ALL.get((c.split("::")[0], c.split("::")[-1])) for c in self.names["params"]] + [self.clauses.get(fn)]
+                several = any(k and max(len(k["requires"]), len(k["ensures"])) > 1 for k in asked)
+                handed = " tie.handed_clauses" if self.names["pre"] or several else ""
                 for p in self.places_used:
-                    places.append(f"abbrev Place-{p} : Type 0\nPlace-{p} = lts.{p} tie.the-claims reads.Pre reads.Post{inv}{dec}{handed}\n")
+                    of = "Past-" + p if p in self.past else p
+                    places.append(f"abbrev Place-{p} : Type 0\nPlace-{p} = lts.{of} tie.the-claims reads.Pre reads.Post{inv}{dec}{handed}\n")
             answers = title + "\n" + "\n".join(uses + more) + "\n\n" + "\n".join(places + out)
             with open(f"{folder}/Answers.antt", "w", encoding="utf-8") as f:
                 f.write(answers)
