@@ -151,6 +151,8 @@ class Function:
     # ─── chains ───
     def clause_path(self, clauses, rest):
         """`.0`, `.1.0` .. of several clauses, by their names."""
+        if len(clauses) > 1 and not rest:
+            return ["*" + "+".join(clauses)]
         if len(clauses) < 2:
             return rest
         n = len(clauses)
@@ -212,7 +214,7 @@ class Function:
             return ".".join([root] + befores)
         head = rest[0]
         if head in ("args", "ranges", "lifetimes", "well_formed"):
-            return ".".join([root] + rest)
+            return ".".join([root] + [r.replace("-", "_") for r in rest])
         if head in ("requires", "pre"):
             return ".".join([root] + self.rest_of("requires", rest[1:]))
         new = self.steps.get(norm(head))
@@ -283,6 +285,12 @@ class Function:
                     at = m.start() + 4
             elif m.group("pv"):
                 f, root = m.group("pf"), m.group("pc").split(".")[0]
+                if m.group("ps") in ("pre", "requires") and f in self.typed and len(self.clauses_here) > 1:
+                    self.clause_vars[m.group("pv")] = self.clauses_here
+                    self.env.pop(m.group("pv"), None)
+                    inner = self.reach(root, self.typed[f][0]) if root in self.env else m.group("pc")
+                    out.append(f"let {m.group('pv')} = ({f} {inner}).requires in")
+                    continue
                 if norm(m.group("ps")) in self.steps and f in self.typed:
                     self.step_vars[m.group("pv")] = m.group("ps")
                     self.env.pop(m.group("pv"), None)
@@ -298,6 +306,17 @@ class Function:
                 if root in self.env and len(parts) == 1 and norm(parts[0]) in self.steps:
                     self.step_vars[m.group("sv")] = parts[0]
                     self.env.pop(m.group("sv"), None)
+                if root in self.env and parts in (["requires"], ["pre"]) and len(self.clauses_here) > 1:
+                    self.clause_vars[m.group("sv")] = self.clauses_here
+                    self.env.pop(m.group("sv"), None)
+                    out.append(f"let {m.group('sv')} = {root}.requires")
+                    continue
+                callee = self.clauses_of_step(parts[0]) if len(parts) == 2 and parts[1] == "ensures" else None
+                if root in self.env and callee and len(callee["ensures"]) > 1 and norm(parts[0]) in self.steps:
+                    self.clause_vars[m.group("sv")] = callee["ensures"]
+                    self.env.pop(m.group("sv"), None)
+                    out.append(f"let {m.group('sv')} = {root}.{self.steps[norm(parts[0])]}.ensures")
+                    continue
                 out.append(text[m.start():m.start("sc")])
                 at = m.start("sc")
             elif m.group("f"):
@@ -309,7 +328,9 @@ class Function:
                     at = m.start() + len(f)
             elif m.group("root"):
                 root, parts = m.group("root"), m.group("parts")[1:].split(".")
-                if root in self.step_vars:
+                if root in self.clause_vars:
+                    out.append(".".join([root] + self.clause_path(self.clause_vars[root], parts)))
+                elif root in self.step_vars:
                     kept = self.rest_of(self.step_vars[root], parts)[1:]
                     out.append(self.spread(".".join([root] + kept)))
                 elif root in self.env:
@@ -320,12 +341,20 @@ class Function:
                 parts = m.group("cparts")[1:].split(".")
                 while parts and parts[0] == "before" and len(parts) > 1:
                     parts = parts[1:]
-                out.append(")." + ".".join(self.turn_steps(parts)))
+                turned = self.turn_steps(parts)
+                if turned[-1].startswith("*"):
+                    self.say(f"clauses of a place that is no variable: {parts}")
+                    turned = turned[:-1]
+                out.append(")." + ".".join(turned))
         out.append(text[at:])
         return "".join(out)
 
     def spread(self, chain):
         """`x.auto.a+b` is `x.auto.a, x.auto.b`."""
+        m = re.match(r"(.*\.)\*(\w+(?:\+\w+)+)$", chain)
+        if m:
+            fields = [m.group(1) + f for f in m.group(2).split("+")]
+            return "(" + ", ".join(fields) + ")"
         m = re.match(r"(.*\.auto\.)(\w+(?:\+\w+)+)$", chain)
         return ", ".join(m.group(1) + p for p in m.group(2).split("+")) if m else chain
 
@@ -338,12 +367,12 @@ class Function:
             return self.of_arm(parts[0], parts[1:])
         if new:
             return [new] + self.rest_of(parts[0], parts[1:])[1:]
-        return parts
+        return [p.replace("-", "_") for p in parts]
 
     def turn_loose(self, parts):
         if parts[0] == "pre":
             return self.rest_of("requires", parts[1:])
-        return ["invariant" if p == "inv" else p for p in parts]
+        return ["invariant" if p == "inv" else p.replace("-", "_") for p in parts]
 
     def asked(self, need):
         """The clauses that a `..-requires` asks."""
@@ -504,16 +533,18 @@ class Function:
                 at = self.names["asked_at"][found[1]][0] if found else None
                 index = [p[0] for p in self.names["places"]].index(at) if at else 0
                 self.roots = {root} if self.names["typed"][index] else set()
-                self.step_vars = {}
+                self.step_vars, self.clause_vars = {}, {}
                 self.env = {root: self.names["asked_at"][found[1]][0] if found else None}
                 rhs = self.turn_body(self.place_types(rhs), True)
+                if need.group(1).startswith("returns") and len(self.clauses.get(fn, {}).get("ensures", [])) > 1:
+                    rhs = self.as_record(rhs, self.clauses[fn]["ensures"])
                 if "-requires" in need.group(1):
                     rhs = self.as_record(rhs, self.asked(need.group(1)))
                 ans_out.append("\n".join(comment + [f"pub {new} : goal.{new}"] + unfold + [f"{new} {root} ={rhs.rstrip()}"]) + "\n")
                 continue
             if re.match(r"pub " + NAME + r"[-_]spec\b", first):
                 continue
-            self.roots, self.env, self.step_vars = set(), {}, {}
+            self.roots, self.env, self.step_vars, self.clause_vars = set(), {}, {}, {}
             if part["name"] in self.typed:
                 place, to = self.typed[part["name"]]
                 m = re.search(r"^" + re.escape(part["name"]) + r" (\w+)[^=]*=", body, re.M)
@@ -582,7 +613,8 @@ class Function:
                 handed = " tie.handed_clauses" if self.names["pre"] or several else ""
                 for p in self.places_used:
                     of = "Past-" + p if p in self.past else p
-                    places.append(f"abbrev Place-{p} : Type 0\nPlace-{p} = lts.{of} tie.the-claims reads.Pre reads.Post{inv}{dec}{handed}\n")
+                    claims = " tie.the-claims" if self.names["params"] else ""
+                    places.append(f"abbrev Place-{p} : Type 0\nPlace-{p} = lts.{of}{claims} reads.Pre reads.Post{inv}{dec}{handed}\n")
             answers = title + "\n" + "\n".join(uses + more) + "\n\n" + "\n".join(places + out)
             with open(f"{folder}/Answers.antt", "w", encoding="utf-8") as f:
                 f.write(answers)

@@ -93,6 +93,8 @@ def table():
     return kinds, turned
 
 
+# a definition whose name would be a parameter's; laws whose name is another's
+VALUES = {"runWeights": "weights_of_runs", "runFirsts": "firsts_of_runs", "read-done": "read_done_lem", "row-fits": "row_fits_lem"}
 FIELDS = {"access-at": "access_at_once", "access-start": "access_start_is", "in-range": "within_range", "is-number": "is_a_number", "N-high": "letters_high"}
 
 
@@ -100,7 +102,9 @@ def mend(kinds, turned):
     """What would fall together: a law that would have its function's name ends in _lem, a field gets another word."""
     values = {turned.get(n, n) for n in kinds if kinds[n] == "value"}
     for n, kind in kinds.items():
-        if n in FIELDS:
+        if n in VALUES:
+            turned[n] = VALUES[n]
+        elif n in FIELDS:
             turned[n] = FIELDS[n]
         elif kind == "law" and turned.get(n, n) in values:
             turned[n] = turned.get(n, n) + "_lem"

@@ -49,7 +49,7 @@ one_outcome =
       write = λ c sheet a b e f. e ∙ sym f;
       check = λ c work a b e f. e ∙ sym f;
       apply = λ c places t a b e f. e ∙ sym f;
-      runs = λ c run_weights run_firsts a b e f. e ∙ sym f;
+      runs = λ c weights_of_runs firsts_of_runs a b e f. e ∙ sym f;
       index = λ c p t a b e f. e ∙ sym f;
       access = λ t handle a b e f. e ∙ sym f;
       access_start_is = λ t handle a b e f. e ∙ sym f;
@@ -57,8 +57,8 @@ one_outcome =
       access_told = λ t handle a b e f. e ∙ sym f;
       plain = λ c word a b e f. e ∙ sym f;
       quick = λ k p word letters t a b e f. e ∙ sym f;
-      weigh = λ answer run_weights run_firsts n a b e f. e ∙ sym f;
-      weight = λ run_weights run_firsts n handle a b e f. e ∙ sym f;
+      weigh = λ answer weights_of_runs firsts_of_runs n a b e f. e ∙ sym f;
+      weight = λ weights_of_runs firsts_of_runs n handle a b e f. e ∙ sym f;
       weight_records = λ records n handle a b e f. e ∙ sym f;
       report = λ sheet text a b e f. e ∙ sym f;
       cover = λ c places work a b places₁ places₂ work₁ work₂ p q. cover-only c places work p q;
@@ -103,12 +103,12 @@ write_kept c sheet number place e =
     let t = refused_by (λ (o : WriteOutcome). o.answer) _ _ _ (write.Refused number place) (λ q. refuted (cc)) e in
     t.2 ∙ ap (λ (r : WriteAnswer). write_outcome r sheet) t.3
 
-runs-kept : (c : Collection) (run_weights run_firsts : List ℕ) (number place : ℕ) → (runs_of c run_weights run_firsts).answer ≡ runs.Refused number place
-    → runs_of c run_weights run_firsts ≡ listing.outcome (runs.Refused number place) run_weights run_firsts
+runs-kept : (c : Collection) (weights_of_runs firsts_of_runs : List ℕ) (number place : ℕ) → (runs_of c weights_of_runs firsts_of_runs).answer ≡ runs.Refused number place
+    → runs_of c weights_of_runs firsts_of_runs ≡ listing.outcome (runs.Refused number place) weights_of_runs firsts_of_runs
 unfolding runs_of
-runs-kept c run_weights run_firsts number place e =
+runs-kept c weights_of_runs firsts_of_runs number place e =
     let t = refused_by (λ (o : listing.Outcome). o.answer) _ _ _ (runs.Refused number place) (λ q. refuted (cc)) e in
-    t.2 ∙ ap (λ (r : RunsAnswer). listing.outcome r run_weights run_firsts) t.3
+    t.2 ∙ ap (λ (r : RunsAnswer). listing.outcome r weights_of_runs firsts_of_runs) t.3
 
 check_kept : (c : Collection) (work : List ℕ) (number place : ℕ) → (check_of c work).answer ≡ check.Refused number place
     → ((check_of c work).work ≡ work)

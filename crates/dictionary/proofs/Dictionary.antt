@@ -28,7 +28,7 @@ use Rattle.plain.specs.declared.PlainAnswer.TheVariants as plain
 use Rattle.access.specs.Access.{access_verdict}
 use Rattle.access.proofs.Accessed.{access_word}
 use Rattle.plain.specs.Says.{absent, Stands}
-use Rattle.runs.specs.Runs.{run_weights, run_firsts}
+use Rattle.runs.specs.Runs.{weights_of_runs, firsts_of_runs}
 use Rattle.weight.proofs.GivenBack.{runs_then_weight}
 use Rattle.index_minimizers.specs.Minimizer.{sizes_verdict}
 use Rattle.quick.specs.declared.QuickAnswer.{QuickAnswer}
@@ -46,10 +46,10 @@ word_spelt k word good = spell-letters word (every-all is_letter word (word_good
 -- a word found weighs what its handle weighs
 pub found_weighs : (c : Collection) → Passes c → (answer : QuickAnswer) (handle : ℕ) (side : Side) (compared : ℕ) → 1 ≤ handle → handle ≤ length c.weights
     → answer ≡ Found handle side compared
-    → weighed_of answer (run_weights c.weights) (run_firsts c.weights) (length c.weights) ≡ Weighs (weight_of c.weights handle)
+    → weighed_of answer (weights_of_runs c.weights) (firsts_of_runs c.weights) (length c.weights) ≡ Weighs (weight_of c.weights handle)
 unfolding weighed_of weighs
 found_weighs c passes answer handle side compared l m e =
-    ap (λ (a : QuickAnswer). weighed_of a (run_weights c.weights) (run_firsts c.weights) (length c.weights)) e ∙ ap weighs (runs_then_weight c passes handle l m)
+    ap (λ (a : QuickAnswer). weighed_of a (weights_of_runs c.weights) (firsts_of_runs c.weights) (length c.weights)) e ∙ ap weighs (runs_then_weight c passes handle l m)
 
 module _ (c : Collection) (p : ℕ) (passes : Passes c) (sizes : sizes_verdict c.k p ≡ Good) where
   judged : Judged c

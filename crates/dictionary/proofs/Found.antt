@@ -25,7 +25,7 @@ use Rattle.plain.specs.Says.{Says}
 use Rattle.plain.proofs.Found.{plain-says}
 use Rattle.index_stretches.specs.Index.{Index, indexed, row_of}
 use Rattle.index_stretches.specs.Stretches.{Kmer, numbered, walk}
-use Rattle.index_stretches.proofs.Fits.{tables-fit, row_fits}
+use Rattle.index_stretches.proofs.Fits.{tables-fit, row_fits_lem}
 use Rattle.index_stretches.proofs.Rows.{row_walks}
 use Rattle.quick.specs.declared.QuickAnswer.{QuickAnswer}
 use Rattle.quick.specs.declared.QuickAnswer.TheVariants.{Absent}
@@ -97,4 +97,4 @@ module _ (z : List ℕ → ℕ) (d k : ℕ) (letters ends : List ℕ) where
   unfolding rows_verdict
   never-ten s w l m =
       ap (λ (t : Bool). choose t Good (Bad 10 0))
-      (and_both (tables-fit minimizer_of d s) (and_both (row_fits minimizer_of d s (z w) l) (row_fits minimizer_of d s (z (turn w)) m)))
+      (and_both (tables-fit minimizer_of d s) (and_both (row_fits_lem minimizer_of d s (z w) l) (row_fits_lem minimizer_of d s (z (turn w)) m)))

@@ -19,7 +19,7 @@ use Rattle.collection.proofs.Strings.{strings-back}
 use Rattle.collection.proofs.Verdicts.{both_good, done_by}
 use Rattle.sheet.specs.Sheet.{sheet_k, sheet_strings}
 use Rattle.sheet.proofs.Accepted.{accepted_holds}
-use Rattle.sheet.proofs.Calls.{ReadDone, read_done, read-passes}
+use Rattle.sheet.proofs.Calls.{ReadDone, read_done_lem, read-passes}
 use Rattle.repeats.proofs.Checked.{check-distinct}
 use Rattle.cover_trails.specs.Groups.{least}
 use Rattle.cover_trails.specs.Places.{SignedPermutation}
@@ -43,7 +43,7 @@ use Rattle.cover_fewest.proofs.Fewest.{fewest-runs, cover-fewest}
 use Rattle.runs.specs.declared.RunsAnswer.TheVariants as listing
 use Rattle.runs.specs.Calls as runs_calls
 use Rattle.runs.specs.Calls.{runs_of}
-use Rattle.runs.specs.Runs.{runs, run_weights, run_firsts, run_count}
+use Rattle.runs.specs.Runs.{runs, weights_of_runs, firsts_of_runs, run_count}
 use Rattle.index.specs.declared.IndexAnswer.TheVariants as index
 use Rattle.index.specs.Indexing.{stretch_count, first_entries, index_with, index_verdict, index_of}
 use Rattle.index.proofs.Success.{index-told, index-success}
@@ -77,7 +77,7 @@ module _ {sheet : List ℕ} (r : Reading sheet) where
   k = r.k
 
   done : ReadDone sheet r.lent r.k r.N r.m r.n
-  done = read_done sheet r.lent r.k r.N r.m r.n r.filled
+  done = read_done_lem sheet r.lent r.k r.N r.m r.n r.filled
 
   -- what READ gave passes, and its strings are those of the sheet
   passes-read : Passes (collection_read r)
@@ -161,8 +161,8 @@ module _ {sheet : List ℕ} {r : Reading sheet} {o : Reordering r} {p : ℕ} (x 
   -- RUNS listed the runs of the new weights
   pub record Listed : Type 0 where
     pub runs-many : x.runs ≡ run_count new.weights
-    pub weights_are : run_weights_listed x ≡ run_weights new.weights
-    pub firsts-are : run_firsts_listed x ≡ run_firsts new.weights
+    pub weights_are : run_weights_listed x ≡ weights_of_runs new.weights
+    pub firsts-are : run_firsts_listed x ≡ firsts_of_runs new.weights
 
   listed : Listed
   unfolding runs_of
@@ -174,9 +174,9 @@ module _ {sheet : List ℕ} {r : Reading sheet} {o : Reordering r} {p : ℕ} (x 
         runs-many = sym n;
         weights_are =
             ap (λ (y : runs_calls.Outcome). take x.runs y.weights_after) t.1
-            ∙ take-fill (run_weights new.weights) x.run_weights₀ x.runs (length-map (runs new.weights) (λ e. e.0) ∙ n);
+            ∙ take-fill (weights_of_runs new.weights) x.run_weights₀ x.runs (length-map (runs new.weights) (λ e. e.0) ∙ n);
         firsts-are = ap (λ (y : runs_calls.Outcome). take x.runs y.firsts_after) t.1
-            ∙ take-fill (run_firsts new.weights) x.run_firsts₀ x.runs (length-map (runs new.weights) (λ e. e.1) ∙ n);
+            ∙ take-fill (firsts_of_runs new.weights) x.run_firsts₀ x.runs (length-map (runs new.weights) (λ e. e.1) ∙ n);
       }
 
   -- INDEX made the index of the new collection
@@ -198,8 +198,8 @@ module _ {sheet : List ℕ} {r : Reading sheet} {o : Reordering r} {p : ℕ} (x 
   on-the-way asked =
       let f = filled o in
       let i = made ∙ ap (λ (x : Collection). index_with (spelling_of x) p) f.collection-is in
-      let a = listed.weights_are ∙ ap (λ (x : Collection). run_weights x.weights) f.collection-is in
-      let b = listed.firsts-are ∙ ap (λ (x : Collection). run_firsts x.weights) f.collection-is in
+      let a = listed.weights_are ∙ ap (λ (x : Collection). weights_of_runs x.weights) f.collection-is in
+      let b = listed.firsts-are ∙ ap (λ (x : Collection). firsts_of_runs x.weights) f.collection-is in
       λ j. weighed_of (quick_of r.k p asked (f.collection-is j).letters (i j)) (a j) (b j) (f.weights-many j)
 
 -- ─── the end ─────────────────────────────────────────────────────────────────

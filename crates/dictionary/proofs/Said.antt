@@ -24,7 +24,7 @@ use Rattle.apply_strings.specs.Reordered.{reordered}
 use Rattle.apply_strings.specs.Weighs.{WeighsAt}
 use Rattle.apply_strings.proofs.Handles.{weight-kept, weight-from}
 use Rattle.apply_strings.proofs.Reordered.{reordered-passes}
-use Rattle.runs.specs.Runs.{run_weights, run_firsts}
+use Rattle.runs.specs.Runs.{weights_of_runs, firsts_of_runs}
 use Rattle.index.specs.Indexing.{index_with}
 use Rattle.index_minimizers.specs.Minimizer.{sizes_verdict}
 use Rattle.quick.specs.declared.QuickAnswer.{QuickAnswer}
@@ -98,5 +98,5 @@ module _ (c : Collection) (p : ℕ) (places : List ℤ) (passes : Passes c) (per
             back (weight_of new.weights handle) (stands_weighs new (spell asked) (word_spelt c.k asked good) side handle s),
           )
       go (Absent compared) e =
-          inr (ap (λ (x : QuickAnswer). weighed_of x (run_weights new.weights) (run_firsts new.weights) (length new.weights)) e, none compared e)
+          inr (ap (λ (x : QuickAnswer). weighed_of x (weights_of_runs new.weights) (firsts_of_runs new.weights) (length new.weights)) e, none compared e)
       go (Refused number place) e = absurd (a.taken asked good number place e)

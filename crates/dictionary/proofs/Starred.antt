@@ -29,7 +29,7 @@ use Rattle.cover_trails.specs.Groups.{least}
 use Rattle.cover_trails.specs.Places.{standing, arranged_to}
 use Rattle.apply_places.specs.Places.{bad_place, first_bad, places_verdict}
 use Rattle.apply_strings.specs.Turned.{turn_letters}
-use Rattle.runs.specs.Runs.{later_runs, runs, inner_runs, run_weights, run_firsts}
+use Rattle.runs.specs.Runs.{later_runs, runs, inner_runs, weights_of_runs, firsts_of_runs}
 use Rattle.weight.specs.RunList.{all_follow, is_run_list, run_list_verdict, last_at}
 use Rattle.weight.specs.Weight.{weight_answer}
 use Rattle.index_minimizers.specs.Minimizer.{sizes_verdict, smallest, minimizer}
@@ -69,7 +69,7 @@ answered = (refl, refl, refl)
 
 cag_weighs : weighed (bytes "CAG") ≡ Weighs 7
 unfolding weighed_of weighs weight_answer run_list_verdict is_run_list all_follow last_at runs later_runs and_then settle handle_verdict
-cag_weighs = ap (λ (a : QuickAnswer). weighed_of a (run_weights weights') (run_firsts weights') 10) answered.0
+cag_weighs = ap (λ (a : QuickAnswer). weighed_of a (weights_of_runs weights') (firsts_of_runs weights') 10) answered.0
 
 -- ─── verdicts ────────────────────────────────────────────────────────────────
 

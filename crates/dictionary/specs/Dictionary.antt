@@ -10,7 +10,7 @@ use Rattle.collection.specs.Judge.{Passes, word_verdict}
 use Rattle.collection.specs.Kmers.{word_of, weight_of, Distinct}
 use Rattle.access.specs.Access.{access_verdict, access_part}
 use Rattle.plain.specs.Says.{Stands, Nowhere}
-use Rattle.runs.specs.Runs.{run_weights, run_firsts}
+use Rattle.runs.specs.Runs.{weights_of_runs, firsts_of_runs}
 use Rattle.index.specs.Indexing.{index_with}
 use Rattle.quick.specs.declared.QuickAnswer.{QuickAnswer}
 use Rattle.quick.specs.declared.QuickAnswer.TheVariants.{Found, Absent, Refused}
@@ -32,7 +32,7 @@ module _ (c : Collection) (p : ℕ) where
 
   -- what the word weighs, over the index and the run list
   abbrev pub weighed : List ℕ → WordAnswer
-  weighed word = weighed_of (asked word) (run_weights c.weights) (run_firsts c.weights) (length c.weights)
+  weighed word = weighed_of (asked word) (weights_of_runs c.weights) (firsts_of_runs c.weights) (length c.weights)
 
   pub record Answers : Type 0 where
     -- a word that stands at a handle, as asked or turned, is found with that handle and its weight

@@ -15,7 +15,7 @@ use Rattle.sheet.specs.Sheet.{sheet_k, sheet_strings}
 use Rattle.cover_trails.specs.Groups.{least}
 use Rattle.apply_strings.specs.Reordered.{reordered}
 use Rattle.apply_places.specs.Places.{places_verdict}
-use Rattle.runs.specs.Runs.{runs, run_weights, run_firsts}
+use Rattle.runs.specs.Runs.{runs, weights_of_runs, firsts_of_runs}
 use Rattle.cover_fewest.specs.Fewest.{least_runs}
 use Rattle.index_minimizers.specs.Minimizer.{minimizer_at}
 use Rattle.index_stretches.specs.Stretches.{stretch, of_string}
@@ -66,7 +66,7 @@ abbrev pub asked : List ℕ → QuickAnswer
 asked word = quick_of 3 2 word letters' (index_with (spelling 3 letters' ends') 2)
 
 abbrev pub weighed : List ℕ → WordAnswer
-weighed word = weighed_of (asked word) (run_weights weights') (run_firsts weights') 10
+weighed word = weighed_of (asked word) (weights_of_runs weights') (firsts_of_runs weights') 10
 
 -- ─── the list ────────────────────────────────────────────────────────────────
 

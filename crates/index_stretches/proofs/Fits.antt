@@ -112,9 +112,9 @@ module _ (q : ℕ → ℕ) (d : ℕ) {t : Spelling} (s : Shape t) where
   length-firsts = length-map (arranged q d ss) (λ x. x.first)
 
   -- and the row of each minimizer fits
-  pub row_fits : (v : ℕ) → v < d → row_fits t.k (length t.letters) (indexed q d t.k t.ends) v ≡ true
+  pub row_fits_lem : (v : ℕ) → v < d → row_fits t.k (length t.letters) (indexed q d t.k t.ends) v ≡ true
   unfolding row_fits
-  row_fits v h =
+  row_fits_lem v h =
       let index : Index = indexed q d t.k t.ends in
       let a = start-of-built q d ss v (omega arith) in
       let b = start-of-built q d ss (suc v) h in

@@ -9,10 +9,10 @@ use Rattle.quick.specs.declared.QuickAnswer.{QuickAnswer}
 use Rattle.quick.specs.declared.QuickAnswer.TheVariants.{Found}
 use Rattle.quick.specs.Weighed.{weighs, weighed_of}
 
-module _ (run_weights run_firsts : List ℕ) (n : ℕ) where
+module _ (weights_of_runs firsts_of_runs : List ℕ) (n : ℕ) where
   -- a found word weighs what its handle does
   pub found_weighs : (a : QuickAnswer) (handle compared : ℕ) (side : Side) (r : WeightAnswer) → a ≡ Found handle side compared
-      → r ≡ weight_answer run_weights run_firsts n handle
-      → weighs r ≡ weighed_of a run_weights run_firsts n
+      → r ≡ weight_answer weights_of_runs firsts_of_runs n handle
+      → weighs r ≡ weighed_of a weights_of_runs firsts_of_runs n
   unfolding weighed_of
-  found_weighs a handle compared side r e f = ap weighs f ∙ sym (ap (λ (x : QuickAnswer). weighed_of x run_weights run_firsts n) e)
+  found_weighs a handle compared side r e f = ap weighs f ∙ sym (ap (λ (x : QuickAnswer). weighed_of x weights_of_runs firsts_of_runs n) e)

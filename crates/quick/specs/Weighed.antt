@@ -22,6 +22,6 @@ unweighed (Refused number place) = word.Refused number place
 
 -- QUICK's refusals come first, then WEIGHT's, 12 and 9, of the handle found
 unfoldable pub weighed_of : QuickAnswer → List ℕ → List ℕ → ℕ → WordAnswer
-weighed_of (Found handle side compared) run_weights run_firsts n = weighs (weight_answer run_weights run_firsts n handle)
-weighed_of (Absent compared) run_weights run_firsts n = word.Absent
-weighed_of (Refused number place) run_weights run_firsts n = word.Refused number place
+weighed_of (Found handle side compared) weights_of_runs firsts_of_runs n = weighs (weight_answer weights_of_runs firsts_of_runs n handle)
+weighed_of (Absent compared) weights_of_runs firsts_of_runs n = word.Absent
+weighed_of (Refused number place) weights_of_runs firsts_of_runs n = word.Refused number place

@@ -8,7 +8,7 @@ use Rattle.collection.specs.Judge.{collection_verdict}
 use Rattle.collection.specs.Verdict.{and_then, settle, room_verdict}
 use Rattle.runs.specs.declared.RunsAnswer.{RunsAnswer}
 use Rattle.runs.specs.declared.RunsAnswer.TheVariants.{Filled, Refused}
-use Rattle.runs.specs.Runs.{run_weights, run_firsts, run_count}
+use Rattle.runs.specs.Runs.{weights_of_runs, firsts_of_runs, run_count}
 
 -- the answer, and what the two tables hold afterwards
 pub record Outcome : Type 0 where
@@ -29,4 +29,4 @@ unfoldable pub runs_of : Collection → List ℕ → List ℕ → Outcome
 runs_of c table₁ table₂ =
     settle (runs_verdict c (length table₁) (length table₂))
     (λ number place. outcome (Refused number place) table₁ table₂)
-    (outcome (Filled (run_count c.weights)) (fill (run_weights c.weights) table₁) (fill (run_firsts c.weights) table₂))
+    (outcome (Filled (run_count c.weights)) (fill (weights_of_runs c.weights) table₁) (fill (firsts_of_runs c.weights) table₂))

@@ -22,11 +22,11 @@ runs [] = []
 runs (w ∷ ws) = (w, 1) ∷ later_runs 1 w ws
 
 -- the run list as two tables: each run's weight, and each run's first handle
-abbrev pub run_weights : List ℕ → List ℕ
-run_weights ws = map (λ r. r.0) (runs ws)
+abbrev pub weights_of_runs : List ℕ → List ℕ
+weights_of_runs ws = map (λ r. r.0) (runs ws)
 
-abbrev pub run_firsts : List ℕ → List ℕ
-run_firsts ws = map (λ r. r.1) (runs ws)
+abbrev pub firsts_of_runs : List ℕ → List ℕ
+firsts_of_runs ws = map (λ r. r.1) (runs ws)
 
 -- how many runs
 abbrev pub run_count : List ℕ → ℕ

@@ -2,7 +2,7 @@
 ghost use Rattle.std.specs.Prelude.{◌≡◌, ◌≤◌, length};
 ghost use Rattle.lists.specs.Fill.{fill};
 ghost use Rattle.lists.specs.Limits.{most_letters};
-ghost use Rattle.runs.specs.Runs.{run_count, run_weights, run_firsts};
+ghost use Rattle.runs.specs.Runs.{run_count, weights_of_runs, firsts_of_runs};
 
 // How many runs.
 pub fn count_runs(weights: &[u32]) -> usize
@@ -29,8 +29,8 @@ pub fn count_runs(weights: &[u32]) -> usize
 pub fn fill_runs(weights: &[u32], run_weights: &mut [u32], run_firsts: &mut [u32])
     requires weights_len_bound { length weights.now ≤ most_letters }
     requires weights_in_bounds { (run_count weights.now ≤ length run_weights.old) × (run_count weights.now ≤ length run_firsts.old) }
-    ensures weights_filled { run_weights.new ≡ fill (run_weights weights.now) run_weights.old }
-    ensures firsts_filled { run_firsts.new ≡ fill (run_firsts weights.now) run_firsts.old }
+    ensures weights_filled { run_weights.new ≡ fill (weights_of_runs weights.now) run_weights.old }
+    ensures firsts_filled { run_firsts.new ≡ fill (firsts_of_runs weights.now) run_firsts.old }
 {
     if weights.len() == 0 {
         return;

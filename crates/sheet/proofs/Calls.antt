@@ -55,9 +55,9 @@ module _ (bs : List ℕ) (t : Tables) where
   filled-good k a b c e = (done_by (λ (o : ReadOutcome). o.answer) _ _ _ (read.Filled k a b c) (λ number place q. refuted (cc)) e).0
 
   -- where READ answers `Filled`, it took the sheet, and its tables start with what the sheet means
-  pub read_done : (k a b c : ℕ) → (read_of bs t).answer ≡ read.Filled k a b c → ReadDone bs t k a b c
+  pub read_done_lem : (k a b c : ℕ) → (read_of bs t).answer ≡ read.Filled k a b c → ReadDone bs t k a b c
   unfolding read_done
-  read_done k a b c e =
+  read_done_lem k a b c e =
       let h = filled-good k a b c e in
       let r = read-good h in
       let taken = read_takes bs _ h in
@@ -102,7 +102,7 @@ module _ (bs : List ℕ) (t : Tables) (k a b c : ℕ) (e : (read_of bs t).answer
   collection-read = collection_in k a b c (read_of bs t).after
 
   done : ReadDone bs t k a b c
-  done = read_done bs t k a b c e
+  done = read_done_lem bs t k a b c e
 
   -- it is the sheet's
   pub read_is : collection-read ≡ joined (sheet_k bs) (sheet_strings bs)

@@ -21,7 +21,7 @@ use Rattle.sheet.specs.declared.ReadAnswer.{ReadAnswer}
 use Rattle.sheet.specs.declared.ReadAnswer.TheVariants as read
 use Rattle.sheet.specs.Read.{sheet_n, sheet_m, sheet_weights, read_verdict, ReadOutcome, read_outcome, read_of}
 use Rattle.sheet.specs.Sheet.{sheet_k, sheet_strings, sheet_verdict, Accepted}
-use Rattle.sheet.proofs.Calls.{ReadDone, read_done, read-passes}
+use Rattle.sheet.proofs.Calls.{ReadDone, read_done_lem, read-passes}
 use Rattle.collection.proofs.Verdicts.{good_room}
 use Rattle.sheet.proofs.Taken.{takes_read}
 use Rattle.summary_text.specs.declared.Summary.{Summary}
@@ -89,7 +89,7 @@ module _ (bs : List ℕ) (t : Tables) (places work : ℕ) (l : length bs ≤ mos
 
     module _ {k n m w : ℕ} (q : a ≡ read.Filled k n m w) where
       done : ReadDone bs t k n m w
-      done = read_done bs t k n m w (answered q)
+      done = read_done_lem bs t k n m w (answered q)
 
       verdict : read_verdict bs (rooms_of t) ≡ Good
       verdict = takes_read bs (rooms_of t) done.accepted done.within

@@ -21,7 +21,7 @@ use Rattle.collection.proofs.Verdicts.{then_good, settled}
 use Rattle.weight.specs.declared.WeightAnswer.TheVariants.{Found, Refused}
 use Rattle.weight.specs.Weight.{weight_answer}
 use Rattle.runs.proofs.Later.{later-nil, later_equal, later-other, later-above}
-use Rattle.runs.specs.Runs.{Run, later_runs, runs, run_weights, run_firsts}
+use Rattle.runs.specs.Runs.{Run, later_runs, runs, weights_of_runs, firsts_of_runs}
 use Rattle.weight.specs.RunList.{all_follow, is_run_list, run_list_verdict, last_at, weight_at}
 use Rattle.weight.proofs.RunLists.{last_none}
 
@@ -47,7 +47,7 @@ later_follow n h w f (v ∷ ws) l m a = go (ℕ_discrete v w)
         ∙ and_both (and_both (and_both a.0 (ap not (ne_eqb v w e))) (and_both (lt-ltb f (suc h) (omega arith)) (le-leb (suc h) n (omega arith)))) q
 
 -- the run list of weights in range passes 12
-pub runs_listed : (ws : List ℕ) → All (λ v. is_weight v ≡ true) ws → is_run_list (length ws) (run_weights ws) (run_firsts ws) ≡ true
+pub runs_listed : (ws : List ℕ) → All (λ v. is_weight v ≡ true) ws → is_run_list (length ws) (weights_of_runs ws) (firsts_of_runs ws) ≡ true
 unfolding is_run_list runs
 runs_listed [] a = refl
 runs_listed (w ∷ ws) a =
@@ -89,7 +89,7 @@ later_weight h w (v ∷ ws) handle l m = go (ℕ_discrete handle h) (ℕ_discret
         ∙ (q (omega arith) (omega arith) ∙ sym (ap (λ (i : ℕ). get_or (w ∷ (v ∷ ws)) i 0) z)))
 
 -- the run list gives each handle its weight
-pub runs_weight : (ws : List ℕ) (handle : ℕ) → 1 ≤ handle → handle ≤ length ws → weight_at handle (run_weights ws) (run_firsts ws) ≡ weight_of ws handle
+pub runs_weight : (ws : List ℕ) (handle : ℕ) → 1 ≤ handle → handle ≤ length ws → weight_at handle (weights_of_runs ws) (firsts_of_runs ws) ≡ weight_of ws handle
 unfolding runs last_at
 runs_weight [] handle l m = absurd (let z : ⊥ = omega arith in z)
 runs_weight (w ∷ ws) handle l m =
@@ -106,12 +106,12 @@ handle_verdict_lem n handle l m = rw (le-leb 1 handle l, le-leb handle n m)
 
 -- RUNS, then WEIGHT of any handle 1 to n, is that k-mer's weight
 pub runs_then_weight : (c : Collection) → Passes c → (handle : ℕ) → 1 ≤ handle → handle ≤ length c.weights
-    → weight_answer (run_weights c.weights) (run_firsts c.weights) (length c.weights) handle ≡ Found (weight_of c.weights handle)
+    → weight_answer (weights_of_runs c.weights) (firsts_of_runs c.weights) (length c.weights) handle ≡ Found (weight_of c.weights handle)
 unfolding weight_answer
 runs_then_weight c p handle l m =
     let j = collection_good c p in
     sym
     (settled Refused (ap Found (sym (runs_weight c.weights handle l m)))
-    (then_good _ (list_verdict_lem (length c.weights) (run_weights c.weights) (run_firsts c.weights) (omega (arith, j.counted, j.shape.letters_high))
+    (then_good _ (list_verdict_lem (length c.weights) (weights_of_runs c.weights) (firsts_of_runs c.weights) (omega (arith, j.counted, j.shape.letters_high))
     (runs_listed c.weights j.all_weights))
     (handle_verdict_lem (length c.weights) handle l m)))

@@ -14,7 +14,7 @@ use Rattle.lists.proofs.Every.{and_left, and_right, all_map}
 use Rattle.lists.proofs.Refuted.{never}
 use Rattle.collection_faults.specs.Faults.{is_weight}
 use Rattle.collection.specs.Kmers.{weight_of}
-use Rattle.runs.specs.Runs.{Run, later_runs, runs, run_weights, run_firsts}
+use Rattle.runs.specs.Runs.{Run, later_runs, runs, weights_of_runs, firsts_of_runs}
 use Rattle.weight.specs.RunList.{follows, all_follow, is_run_list, last_at, weight_at}
 use Rattle.weight.proofs.RunLists.{Later, follow_good, last_none}
 use Rattle.runs.proofs.Later.{later-nil, later_equal, later-other}
@@ -96,7 +96,7 @@ module _ (n : ℕ) where
 -- a good list of n k-mers that gives each handle its weight is the run list of the weights
 pub runs_only : (ws vs gs : List ℕ) → is_run_list (length ws) vs gs ≡ true
     → ((handle : ℕ) → 1 ≤ handle → handle ≤ length ws → weight_at handle vs gs ≡ weight_of ws handle)
-    → (vs ≡ run_weights ws) × (gs ≡ run_firsts ws)
+    → (vs ≡ weights_of_runs ws) × (gs ≡ firsts_of_runs ws)
 unfolding is_run_list runs last_at
 runs_only [] [] [] a k = (refl, refl)
 runs_only [] [] (g ∷ gs) a k = never a

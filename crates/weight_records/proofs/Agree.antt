@@ -10,7 +10,7 @@ use Rattle.collection.specs.Judge.{Passes}
 use Rattle.collection.specs.Kmers.{weight_of}
 use Rattle.weight.specs.declared.WeightAnswer.TheVariants.{Found}
 use Rattle.weight.specs.Weight.{weight_answer}
-use Rattle.runs.specs.Runs.{runs, run_weights, run_firsts}
+use Rattle.runs.specs.Runs.{runs, weights_of_runs, firsts_of_runs}
 use Rattle.weight.specs.RunList.{is_run_list}
 use Rattle.weight.proofs.GivenBack.{runs_then_weight}
 use Rattle.weight.proofs.RunLists.{list_good}
@@ -42,10 +42,10 @@ records_agree weights firsts n handle e = tables_agree weights firsts n handle (
 
 -- RUNS, its list as records, then WEIGHT over them of any handle 1 to n, is that k-mer's weight
 pub runs_then_records : (c : Collection) → Passes c → (handle : ℕ) → 1 ≤ handle → handle ≤ length c.weights
-    → weight_answer (map weight_in (records_of (run_weights c.weights) (run_firsts c.weights)))
-    (map first_in (records_of (run_weights c.weights) (run_firsts c.weights))) (length c.weights) handle
+    → weight_answer (map weight_in (records_of (weights_of_runs c.weights) (firsts_of_runs c.weights)))
+    (map first_in (records_of (weights_of_runs c.weights) (firsts_of_runs c.weights))) (length c.weights) handle
     ≡ Found (weight_of c.weights handle)
 runs_then_records c p handle l m =
-    tables_agree (run_weights c.weights) (run_firsts c.weights) (length c.weights) handle
+    tables_agree (weights_of_runs c.weights) (firsts_of_runs c.weights) (length c.weights) handle
     (length-map (runs c.weights) (λ r. r.0) ∙ sym (length-map (runs c.weights) (λ r. r.1)))
     ∙ runs_then_weight c p handle l m

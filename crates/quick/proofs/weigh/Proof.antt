@@ -19,13 +19,13 @@ abbrev start : tie.After-quick → tie.Start
 start c = c.before.before.before.before.before.before.before.before.before
 
 -- an answer that is not the first variant, Found
-not-found-weighs : (run_weights run_firsts : List ℕ) (n : ℕ) (a : QuickAnswer) → (tag_of answers.the_type a ≡ 1) ⊎ (tag_of answers.the_type a ≡ 2)
-    → unweighed a ≡ weighed_of a run_weights run_firsts n
+not-found-weighs : (weights_of_runs firsts_of_runs : List ℕ) (n : ℕ) (a : QuickAnswer) → (tag_of answers.the_type a ≡ 1) ⊎ (tag_of answers.the_type a ≡ 2)
+    → unweighed a ≡ weighed_of a weights_of_runs firsts_of_runs n
 unfolding unweighed weighed_of
-not-found-weighs run_weights run_firsts n (Found handle side compared) (inl e) = absurd (let z : ⊥ = omega (arith, e) in z)
-not-found-weighs run_weights run_firsts n (Found handle side compared) (inr e) = absurd (let z : ⊥ = omega (arith, e) in z)
-not-found-weighs run_weights run_firsts n (Absent compared) e = refl
-not-found-weighs run_weights run_firsts n (Refused number place) e = refl
+not-found-weighs weights_of_runs firsts_of_runs n (Found handle side compared) (inl e) = absurd (let z : ⊥ = omega (arith, e) in z)
+not-found-weighs weights_of_runs firsts_of_runs n (Found handle side compared) (inr e) = absurd (let z : ⊥ = omega (arith, e) in z)
+not-found-weighs weights_of_runs firsts_of_runs n (Absent compared) e = refl
+not-found-weighs weights_of_runs firsts_of_runs n (Refused number place) e = refl
 
 quick-requires : tie.Need-quick-requires
 quick-requires c κs = search rules

@@ -1,0 +1,85 @@
+-- `scan_string` meets its contract. Invariant: c ends in the k - 1 letters before the next k-mer, and the pass over the k-mers that are left
+-- gives the answer. Assumes nothing.
+use mathlib.Core.Path.{◌≡◌, sym, ap, ◌∙◌}
+use Prim.Native.Nat.{ℕ, ◌+◌, ◌-◌, ◌≤◌}
+use native.Mathlib.Omega.{arith}
+use borrow.Author.Tests.{eq-eqb, ne_eqb}
+use lib.Dec.{eqb}
+use lib.ListN.{get_or, drop, length-take}
+use Rattle.lists.specs.Count.{count_from}
+use Rattle.lists.proofs.Every.{every-all}
+use Rattle.alphabet.specs.Letter.{is_letter}
+use Rattle.words.specs.Word.{code, word_at}
+use Rattle.alphabet.proofs.Letters.{bits_lt}
+use Rattle.plain.specs.Scan.{scan_from}
+use Rattle.words.proofs.Along.{Rolls, rolls-begin, word-here, word_on}
+use Rattle.plain.proofs.Scans.{string-start, string-asked, string-other, string-end}
+use borrow.Author.Rules.{rules}
+use Rattle.plain.proofs.scanning.scan_string.Goals as goal
+use Rattle.plain.proofs.scanning.scan_string.Lts as lts
+use Rattle.plain.proofs.scanning.scan_string.Tie as tie
+use Rattle.plain.proofs.scanning.scan_string.Reads as reads
+
+abbrev Place-At-loop : Type 0
+Place-At-loop = lts.At-loop tie.the-claims reads.Pre reads.Post goal.the-invariant-loop-i goal.the-decreases-loop-i tie.handed_clauses
+
+abbrev Place-Start : Type 0
+Place-Start = lts.Start tie.the-claims reads.Pre reads.Post goal.the-invariant-loop-i goal.the-decreases-loop-i tie.handed_clauses
+
+-- the start, seen from the loop
+abbrev start : Place-At-loop → Place-Start
+start c = c.before.before.before.before
+
+pub word_code-c-requires : goal.word_code-c-requires
+word_code-c-requires c =
+    let a = c.args in
+    omega (arith, length-take (a.at + (a.k - 1) - a.at) (drop a.at a.letters.now))
+
+pub loop-i-init : goal.loop-i-init
+loop-i-init c =
+    let a = c.args in
+    let p = c.requires in (
+      omega arith,
+      rolls-begin a.k a.letters.now p.le_k.0 p.le_k.1 a.at _ (omega arith) c.word_code-c.ensures,
+      string-start _ _ _ _ _ _,
+    )
+
+pub roll-c-requires : goal.roll-c-requires
+roll-c-requires c =
+    let a = (start c.before.before.before.before).args in (
+      omega arith,
+      c.loop-i.invariant.1.small,
+      omega (arith, c.letter_code.ensures, bits_lt (get_or a.letters.now (a.at + (a.k - 1) + c.loop-i.i) 0)),
+    )
+
+pub returns-then-c-asked : goal.returns-then-c-asked
+returns-then-c-asked c =
+    let t = c.before in
+    let l = t.loop-i in
+    let s = start t.before.before.before.before.before in
+    let a = s.args in
+    let p = s.requires in
+    let e = (c.roll-c.ensures
+    ∙ word-here a.k a.letters.now p.le_k.0 p.le_k.1 (every-all is_letter _ p.letters_value) a.at l.i _ _ (omega arith) l.invariant.1
+    c.letter_code.ensures) in
+    sym (l.invariant.2 ∙ string-asked _ _ _ _ _ _ _ t.loop-i-test.true (eq-eqb _ _ (sym e ∙ c.if-c-asked.true)))
+
+pub loop-i-preserved : goal.loop-i-preserved
+loop-i-preserved c =
+    let t = c.before in
+    let l = t.loop-i in
+    let s = start t.before.before.before.before.before.before in
+    let a = s.args in
+    let p = s.requires in
+    let e = (c.roll-c.ensures
+    ∙ word-here a.k a.letters.now p.le_k.0 p.le_k.1 (every-all is_letter _ p.letters_value) a.at l.i _ _ (omega arith) l.invariant.1
+    c.letter_code.ensures) in (
+      omega arith,
+      word_on a.k a.letters.now p.le_k.0 p.le_k.1 (every-all is_letter _ p.letters_value) a.at l.i _ (omega arith) e,
+      l.invariant.2
+          ∙ string-other _ _ _ _ _ _ _ t.loop-i-test.true (ne_eqb _ _ (λ q. c.if-c-asked.false (e ∙ q))) _ (ap (λ (n : ℕ). eqb n a.turned) e) _
+          c.first_turned-first.ensures,
+    )
+
+pub returns : goal.returns
+returns c = sym (c.loop-i.invariant.2 ∙ string-end _ _ _ _ _ _ _ c.loop-i-test.false)

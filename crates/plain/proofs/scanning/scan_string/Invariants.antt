@@ -1,0 +1,28 @@
+-- `scan_string` meets its contract. Invariant: c ends in the k - 1 letters before the next k-mer, and the pass over the k-mers that are left
+-- gives the answer. Assumes nothing.
+use mathlib.Core.Path.{◌≡◌, sym, ap, ◌∙◌}
+use Prim.Native.Nat.{ℕ, ◌+◌, ◌-◌, ◌≤◌}
+use native.Mathlib.Omega.{arith}
+use borrow.Author.Tests.{eq-eqb, ne_eqb}
+use lib.Dec.{eqb}
+use lib.ListN.{get_or, drop, length-take}
+use Rattle.lists.specs.Count.{count_from}
+use Rattle.lists.proofs.Every.{every-all}
+use Rattle.alphabet.specs.Letter.{is_letter}
+use Rattle.words.specs.Word.{code, word_at}
+use Rattle.alphabet.proofs.Letters.{bits_lt}
+use Rattle.plain.specs.Scan.{scan_from}
+use Rattle.words.proofs.Along.{Rolls, rolls-begin, word-here, word_on}
+use Rattle.plain.proofs.Scans.{string-start, string-asked, string-other, string-end}
+use borrow.Author.Rules.{rules}
+use Rattle.plain.proofs.scanning.scan_string.Given as goal
+
+abbrev pub invariant-loop-i : goal.invariant-loop-i
+invariant-loop-i l =
+    (l.i ≤ l.number)
+    × Rolls l.k l.letters (l.at + l.i) l.c
+    × (scan_from (λ a. eqb (code (word_at l.k l.letters a)) l.asked) (λ a. eqb (code (word_at l.k l.letters a)) l.turned) l.passed l.seen (count_from l.at l.number)
+    ≡ scan_from (λ a. eqb (code (word_at l.k l.letters a)) l.asked) (λ a. eqb (code (word_at l.k l.letters a)) l.turned) (l.passed + l.i) l.first (count_from (l.at + l.i) (l.number - l.i)))
+
+abbrev pub decreases-loop-i : goal.decreases-loop-i
+decreases-loop-i l = l.number - l.i
