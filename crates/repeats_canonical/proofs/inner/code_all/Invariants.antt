@@ -1,0 +1,17 @@
+-- `code_all` meets its contract. Invariant: the codes of the k-mers of the strings that have passed are stored. Assumes nothing.
+use Prim.Native.Nat.{◌-◌}
+use mathlib.Core.Path.{refl}
+use native.Mathlib.Omega.{arith}
+use lib.ListN.{length}
+use Rattle.collection.specs.Collection.{spelling}
+use Rattle.collection.proofs.Kmers.{StringsLeft, strings_begin, strings-on, next-string}
+use Rattle.repeats_canonical.proofs.Stringwise.{Coding, coding-begin, coding-room, coding-on, coding-end}
+use borrow.Author.Rules.{rules}
+use Rattle.repeats_canonical.proofs.inner.code_all.Given as goal
+
+abbrev pub invariant-loop-i : goal.invariant-loop-i
+invariant-loop-i l =
+    StringsLeft l.k (length l.letters) l.ends l.i l.at l.passed × Coding (spelling l.k l.letters l.ends) l.n l.i l.at l.passed l.initial.work l.work
+
+abbrev pub decreases-loop-i : goal.decreases-loop-i
+decreases-loop-i l = length l.ends - l.i

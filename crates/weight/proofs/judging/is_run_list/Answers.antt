@@ -1,0 +1,60 @@
+-- `is_run_list` meets its contract. Invariant: what was seen and the test of the runs that are left together are the test of all. Assumes nothing.
+use mathlib.Core.Path.{◌≡◌, sym}
+use mathlib.Core.Bool.{◌&&◌}
+use Prim.Native.Nat.{◌-◌, ◌≤◌}
+use native.Mathlib.Omega.{arith}
+use lib.ListN.{length, drop}
+use Rattle.weight.specs.RunList.{is_run_list, all_follow}
+use Rattle.weight.proofs.Followed.{list-uneven, list-none, list-first, follow-next, follow-end}
+use borrow.Author.Rules.{rules}
+use Rattle.weight.proofs.judging.is_run_list.Goals as goal
+use Rattle.weight.proofs.judging.is_run_list.Lts as lts
+use Rattle.weight.proofs.judging.is_run_list.Tie as tie
+use Rattle.weight.proofs.judging.is_run_list.Reads as reads
+
+abbrev Place-After-may_begin : Type 0
+Place-After-may_begin = lts.After-may_begin tie.the-claims reads.Pre reads.Post goal.the-invariant-loop-i goal.the-decreases-loop-i
+
+abbrev Place-Else1 : Type 0
+Place-Else1 = lts.Else1 tie.the-claims reads.Pre reads.Post goal.the-invariant-loop-i goal.the-decreases-loop-i
+
+abbrev Place-At-loop : Type 0
+Place-At-loop = lts.At-loop tie.the-claims reads.Pre reads.Post goal.the-invariant-loop-i goal.the-decreases-loop-i
+
+abbrev Place-Start : Type 0
+Place-Start = lts.Start tie.the-claims reads.Pre reads.Post goal.the-invariant-loop-i goal.the-decreases-loop-i
+
+-- where the two tables are known to be as long, seen from `may_begin`; the start, seen from the loop
+abbrev even : Place-After-may_begin → Place-Else1
+even c = c.before.before.before.before
+
+abbrev start : Place-At-loop → Place-Start
+start c = c.before.before.before.before.before.before.before.before
+
+pub returns-then-run_weights-run_firsts : goal.returns-then-run_weights-run_firsts
+returns-then-run_weights-run_firsts c = sym (list-uneven _ _ _ c.if-run_weights-run_firsts.true)
+
+pub returns-then-run_weights-eq0 : goal.returns-then-run_weights-eq0
+returns-then-run_weights-eq0 c = sym (list-none _ _ _ c.if-run_weights-run_firsts.false c.if-run_weights-eq0.true)
+
+pub loop-i-init : goal.loop-i-init
+loop-i-init c =
+    let same = (even c.before).if-run_weights-run_firsts.false in
+    let some = c.if-run_weights-eq0.false in
+    (omega (arith, some), same, list-first _ _ _ same some _ c.may_begin-good.ensures)
+
+pub loop-i-preserved : goal.loop-i-preserved
+loop-i-preserved c =
+    let loop-test = c.loop-i-test in
+    let l = c.loop-i in
+    let a = (start c.before.before.before.before.before).args in (
+      omega (arith, loop-test.true),
+      l.invariant.1,
+      follow-next _ a.run_weights.now a.run_firsts.now l.w l.f l.i l.good _ loop-test.true
+          (omega (arith, loop-test.true, l.invariant.1)) _ c.may_follow-good.ensures l.invariant.2,
+    )
+
+pub returns : goal.returns
+returns c =
+    let l = c.loop-i in
+    follow-end _ _ _ l.w l.f l.i l.good _ c.loop-i-test.false (omega (arith, c.loop-i-test.false, l.invariant.1)) l.invariant.2
