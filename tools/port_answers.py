@@ -171,8 +171,8 @@ class Function:
 
     def rest_of(self, step, parts):
         own = self.clauses_here
-        if parts and parts[0] in ("last", "kept", "taken"):
-            parts = [{"last": "new", "kept": "auto", "taken": "true"}[parts[0]]] + parts[1:]
+        if parts and parts[0] in ("last", "kept", "taken", "left"):
+            parts = [{"last": "new", "kept": "auto", "taken": "true", "left": "false"}[parts[0]]] + parts[1:]
         if parts == ["auto"] and self.clauses_of_step(step) and len(self.clauses_of_step(step)["slices"]) >= 1:
             return [step, "auto", "+".join(self.clauses_of_step(step)["slices"])]
         if step in ("requires", "pre"):

@@ -22,32 +22,28 @@ Place-After-wide = lts.After-wide tie.the-claims reads.Pre reads.Post tie.handed
 abbrev Place-After-seek : Type 0
 Place-After-seek = lts.After-seek tie.the-claims reads.Pre reads.Post tie.handed_clauses
 
--- the start, seen from the call of `seek`
-abbrev start : tie.After-seek-arg → Place-Start
-start c = c
-
 -- the search starts at the cursor
 from-cursor : (c : Place-After-wide) → let a = c.args in c.wide-start.result ≡ get_or (tables a.m a.work.now).cursors a.v 0
 from-cursor c = c.wide-start.ensures ∙ cursor_at _ _ _ (omega (arith, c.requires.fits.1, c.requires.fits.0.some))
 
 sought : (c : Place-After-seek)
-    → let a = (start c).args in Sought a.m (tables a.m a.work.now) a.v (get_or (tables a.m a.work.now).cursors a.v 0)
+    → let a = c.args in Sought a.m (tables a.m a.work.now) a.v (get_or (tables a.m a.work.now).cursors a.v 0)
     c.seek-e.result
 sought c =
-    let a = (start c).args in
+    let a = c.args in
     subst (λ (x : ℕ). Sought a.m (tables a.m a.work.now) a.v x c.seek-e.result) (from-cursor c.before) c.seek-e.ensures
 
 pub seek-e-requires : goal.seek-e-requires
 seek-e-requires c =
-    let p = (start c).requires in
+    let p = c.requires in
     record { fits = (p.fits.0, rw (from-cursor c) (p.cursors _ p.fits.1).high); graph = p.graph }
 
 pub found_at-r-requires : goal.found_at-r-requires
-found_at-r-requires c = let p = (start c).requires in record { fits = p.fits; graph = p.graph; cursor = p.cursors _ p.fits.1; sought = sought c }
+found_at-r-requires c = let p = c.requires in record { fits = p.fits; graph = p.graph; cursor = p.cursors _ p.fits.1; sought = sought c }
 
 pub returns : goal.returns
 returns c =
-    let p = (start c).requires in
+    let p = c.requires in
     let s = sought c.before in
     record {
       cursor = c.seek-e.result;

@@ -12,6 +12,7 @@ use Rattle.cover_tours.proofs.Regions.{used_at, row_at, used_size}
 use Rattle.cover_tours.proofs.Rows.{present, absent, own_spoke}
 use borrow.Author.Rules.{rules}
 use Rattle.cover_tours.proofs.inner.found_at.Goals as goal
+use Rattle.cover_tours.proofs.inner.found_at.Goals.{then-e-m+else-x-v, else-e-m, then-v-m+else-work-m-eq0, else-v-m}
 use Rattle.cover_tours.proofs.inner.found_at.Lts as lts
 use Rattle.cover_tours.proofs.inner.found_at.Tie as tie
 use Rattle.cover_tours.proofs.inner.found_at.Reads as reads
@@ -30,11 +31,19 @@ own-flag m w v l = let e : 3 * m + v ≡ 2 * m + (m + v) = omega arith in rw e (
 not-here : (c : Place-Joined1)
     → let a = c.args in
     a.e < 4 * a.m → near a.m (tables a.m a.work.now).verts (get_or (tables a.m a.work.now).rows a.e 0) ≡ a.v → ⊥
-not-here c l q = ⊎_elim (λ w. w.4.left (w.3.ensures ∙ (ap (near _ _) (w.2.ensures ∙ row_at _ _ _ l) ∙ q))) (λ w. omega (arith, w.left)) c.if-e-m.branch
+not-here c l q =
+    elim c.if-e-m.branch [
+      then-e-m+else-x-v w ↦ w.if-x-v.false (w.near-x.ensures ∙ (ap (near _ _) (w.wide-c.ensures ∙ row_at _ _ _ l) ∙ q))
+      | else-e-m w ↦ omega arith
+    ]
 
 -- its own spoke is used
 not_own : (c : Place-Joined3) → let a = c.args in a.v < 2 * a.m → get_or (tables a.m a.work.now).used (a.m + a.v) 0 ≡ 0 → ⊥
-not_own c l z = ⊎_elim (λ w. w.2.left (own-flag _ _ _ l ∙ z)) (λ w. omega (arith, w.left)) c.if-v-m.branch
+not_own c l z =
+    elim c.if-v-m.branch [
+      then-v-m+else-work-m-eq0 w ↦ w.if-work-m-eq0.false (own-flag _ _ _ l ∙ z)
+      | else-v-m w ↦ omega arith
+    ]
 
 pub returns-then-x-v : goal.returns-then-x-v
 returns-then-x-v c =

@@ -127,7 +127,7 @@ loop-here-smaller c =
     omega (
       arith,
       ap length (gave_left f.0 f.1 c.give_back-here.ensures.written),
-      ap length (found_left g.find.ensures),
+      ap length (found_left g.find-c.ensures),
       (stuck c.before).if-n-eq0.false,
     )
 
@@ -137,5 +137,5 @@ loop-here-preserved c =
     let g = after-find-from-stuck e in
     let f = searched g in (
       fits-same g.loop-here.invariant.0 (omega arith),
-      going-gave f.0 f.1 e.if-c-m.left e.if-n-eq0.left c.give_back-here.ensures.written c.give_back-here.ensures.come_to,
+      going-gave f.0 f.1 e.if-c-m.false e.if-n-eq0.false c.give_back-here.ensures.written c.give_back-here.ensures.come_to,
     )

@@ -62,7 +62,7 @@ zeros z i l =
     rw (lent-part (tab s.before.before.before) s.args.entries s.args.work.now z.clear.new.count (lent z) (fits s.before.before.before)) (z.clear.ensures i l)
 
 -- counters are all that was written before the ids are kept
-told : (t : Place-After-tell) → let s = (after-clear t).before in Only (tab s) s.args.entries s.args.work.now t.tell.new.work
+told : (t : Place-After-tell) → let s = (after-clear t).before.before.before in Only (tab s) s.args.entries s.args.work.now t.tell.new.work
 told t = let z = after-clear t in among-trans _ _ (zeroed z) _ (only z) t.tell.ensures.counters_alone
 
 pub clear-requires : goal.clear-requires
