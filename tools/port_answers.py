@@ -25,7 +25,7 @@ def read(path):
 def norm(name):
     name = name.replace("-", "_")
     name = name[:-4] if name.endswith("_lem") else name
-    return {"within_range": "in_range", "is_a_number": "is_number"}.get(name, name)
+    return {"within_range": "in_range", "is_a_number": "is_number", "type_size": "size_of", "is_IsWord": "is_word"}.get(name, name).lower()
 
 
 def names_of(crate):
@@ -213,7 +213,7 @@ class Function:
             befores = ["before"] * (n + (1 if answer and root in self.roots else 0))
             return ".".join([root] + befores)
         head = rest[0]
-        if head in ("args", "ranges", "lifetimes", "well_formed"):
+        if head in ("args", "ranges", "lifetimes", "well_formed", "well-formed"):
             return ".".join([root] + [r.replace("-", "_") for r in rest])
         if head in ("requires", "pre"):
             return ".".join([root] + self.rest_of("requires", rest[1:]))
@@ -234,6 +234,21 @@ class Function:
             self.negated = True
             return f"(path.ap bool.not {chain})"
         return chain
+
+    def place_named(self, name):
+        """A place by its old name. Where one is read first, and arguments have places of their own no more, the place above it."""
+        name = norm(name)
+        while name not in self.place_step:
+            m = re.match(r"(.*_arg)(\d*)$", name)
+            if not m:
+                return None
+            n = int(m.group(2) or 1)
+            if n == 1:
+                place = self.place_step.get(name[:-len("_arg")] if name.endswith("_arg") else m.group(1)[:-len("_arg")])
+                return self.parent[place[0]] if place else None
+            name = m.group(1) + (str(n - 1) if n > 2 else "")
+        place = self.place_step[name][0]
+        return self.parent[place] if norm(place + "-unread") in self.place_step else place
 
     def up(self, here, there):
         """How many `.before` lead from one place to another above it; None where there is no way."""
@@ -417,12 +432,12 @@ class Function:
         loops = "".join(rf" {re.escape(w)}" for w in self.tie_args)
 
         def one(m):
-            place = self.place_step.get(norm(m.group(1)))
+            place = self.place_named(m.group(1))
             if place is None:
                 self.say(f"no place {m.group(1)}")
                 return m.group(0)
-            self.places_used[place[0]] = True
-            return f"At.{place[0]}" if False else "Place-" + place[0]
+            self.places_used[place] = True
+            return "Place-" + place
 
         return re.sub(r"tie\.((?:After|At|In|Start|Then|Else|Join)[^\s()]*)" + loops, one, text)
 
@@ -454,9 +469,7 @@ class Function:
             m = re.match(r"(?:(?:abbrev|pub|unfoldable) )*(" + NAME + r") : (?:\((\w+) : )?tie\.((?:After|At|In|Start|Then|Else|Join)[^\s()]*)", body)
             if m:
                 q = re.search(r"→ tie\.((?:After|At|In|Start|Then|Else|Join)[^\s()]*)", body.split("\n" + m.group(1))[0])
-                place = self.place_step.get(norm(m.group(3)))
-                to = self.place_step.get(norm(q.group(1))) if q else None
-                self.typed[m.group(1)] = (place[0] if place else None, to[0] if to else None)
+                self.typed[m.group(1)] = (self.place_named(m.group(3)), self.place_named(q.group(1)) if q else None)
         head, uses, inv_out, ans_out, local = [], [], [], [], []
         for part in parts:
             lines, comment = part["lines"], part["comment"]

@@ -77,7 +77,8 @@ zeros_at v (zero ∷ flags) zero l = omega (arith, agree_same (v + 0) v (omega a
 zeros_at v (suc n ∷ flags) zero l = omega (arith, zeros_below (v + 0) (suc v) flags (omega arith))
 zeros_at v (zero ∷ flags) (suc i) l =
     let q : v + suc i ≡ suc v + i = omega arith in
-    rw q (omega (arith, agree-other (suc v + i) v (λ e. omega arith), zeros_at (suc v) flags i (omega arith)))
+    ap (λ (k : ℕ). occurs k (zeros v (zero ∷ flags))) q
+    ∙ omega (arith, agree-other (suc v + i) v (λ e. omega arith), zeros_at (suc v) flags i (omega arith))
 zeros_at v (suc n ∷ flags) (suc i) l = let q : v + suc i ≡ suc v + i = omega arith in rw q (zeros_at (suc v) flags i (omega arith))
 
 zeros_beyond : (x v : ℕ) (flags : List ℕ) → v + length flags ≤ x → occurs x (zeros v flags) ≡ 0

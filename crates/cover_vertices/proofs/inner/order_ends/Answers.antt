@@ -1,0 +1,54 @@
+-- `order_ends` meets its contract: the weights, their numbers, and the sort of these.
+use mathlib.Core.Path.{sym, subst}
+use Prim.Native.Nat.{◌<◌}
+use native.Mathlib.Omega.{arith}
+use lib.ListN.{length}
+use Rattle.lists.specs.Every.{All}
+use Rattle.cover_trails.specs.Strings.{weights as all_end_weights}
+use Rattle.cover_vertices.specs.Promises.{ends_from}
+use Rattle.cover_vertices.proofs.EndWeights.{length_keys}
+use Rattle.cover_vertices.proofs.Ordering.{keys_low, keys-then, ids-low, ordered, laid}
+use borrow.Author.Rules.{rules}
+use Rattle.cover_vertices.proofs.inner.order_ends.Goals as goal
+use Rattle.cover_vertices.proofs.inner.order_ends.Lts as lts
+use Rattle.cover_vertices.proofs.inner.order_ends.Tie as tie
+use Rattle.cover_vertices.proofs.inner.order_ends.Reads as reads
+
+abbrev Place-After-sort_by_weight-arg : Type 0
+Place-After-sort_by_weight-arg = lts.After-sort_by_weight-arg tie.the-claims reads.Pre reads.Post tie.handed_clauses
+
+abbrev Place-After-write_weights : Type 0
+Place-After-write_weights = lts.After-write_weights tie.the-claims reads.Pre reads.Post tie.handed_clauses
+
+abbrev Place-Start : Type 0
+Place-Start = lts.Start tie.the-claims reads.Pre reads.Post tie.handed_clauses
+
+-- what `write_weights` gave, seen from the call of `sort_by_weight`
+abbrev after-write-weights : Place-After-sort_by_weight-arg → Place-After-write_weights
+after-write-weights c = c.before.before.before.before.before.before.before
+
+-- the start, seen from the call of `sort_by_weight`
+abbrev start : Place-After-sort_by_weight-arg → Place-Start
+start c = c.before.before.before.before.before.before.before.before.before.before.before.before
+
+pub sort_by_weight-requires : goal.sort_by_weight-requires
+sort_by_weight-requires c =
+    let write-weights = (after-write-weights c.before).write_weights in
+    let s = start c.before in
+    let p = s.requires in
+    let a = s.args in
+    let f = p.1 in
+    let l = length_keys a.k a.ends.now a.weights.now in record { laid = laid (length a.ends.now) _ f.few (omega (arith, f.size)); all = ids-low (all_end_weights (ends_from a.k 0 a.ends.now a.weights.now)) f l write-weights.ensures
+            c.write_ladder.ensures (omega arith); all_2 = subst (All (λ k. k < 16777216)) (sym (keys-then (all_end_weights (ends_from a.k 0 a.ends.now a.weights.now)) f l
+            write-weights.ensures c.write_ladder.ensures (omega arith)))
+            (keys_low a.k a.ends.now a.weights.now p.0) }
+
+pub returns : goal.returns
+returns c =
+    let q = c.before in
+    let s = start q.before.before.before in
+    let a = s.args in
+    ordered _ s.requires.1 (length_keys a.k a.ends.now a.weights.now)
+    (after-write-weights q.before.before.before).write_weights.ensures
+    q.write_ladder.ensures (omega arith) (omega arith)
+    c.sort_by_weight.ensures

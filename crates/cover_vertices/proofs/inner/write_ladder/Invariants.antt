@@ -1,0 +1,12 @@
+-- `write_ladder` meets its contract. The loop's invariant: storing the rest of the ladder from entry at + i on gives the promised table.
+use Prim.Native.Nat.{◌-◌}
+use native.Mathlib.Omega.{arith}
+use Rattle.cover_vertices.proofs.Ladder.{Climbing, climb_start, climb-inside, climb-fits, climb-on, climb-end}
+use borrow.Author.Rules.{rules}
+use Rattle.cover_vertices.proofs.inner.write_ladder.Given as goal
+
+abbrev pub invariant-loop-i : goal.invariant-loop-i
+invariant-loop-i l = Climbing l.at l.n l.first l.step l.initial.work l.work l.x l.i
+
+abbrev pub decreases-loop-i : goal.decreases-loop-i
+decreases-loop-i l = l.n - l.i

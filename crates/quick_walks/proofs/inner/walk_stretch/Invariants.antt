@@ -1,0 +1,23 @@
+-- `walk_stretch` meets its contract. Invariant: c ends in the k - 1 bytes before the next k-mer, and the walk of the k-mers that are left gives the answer.
+-- Assumes nothing.
+use mathlib.Core.Path.{◌≡◌, sym, ◌∙◌}
+use Prim.Native.Nat.{◌+◌, ◌-◌, ◌≤◌}
+use native.Mathlib.Omega.{arith}
+use lib.ListN.{get_or, drop, length-take}
+use Rattle.words.specs.Turned.{spelled}
+use Rattle.alphabet.proofs.Letters.{bits_lt}
+use Rattle.index_stretches.specs.Stretches.{stretch, kmers_of}
+use Rattle.quick_walks.specs.Walk.{is_word, seek}
+use Rattle.words.proofs.Along.{Rolls, rolls-begin, rolls-here, rolls-on}
+use Rattle.quick_walks.proofs.Walks.{left, left-start, left-hit, left-on, left_end}
+use borrow.Author.Rules.{rules}
+use Rattle.quick_walks.proofs.inner.walk_stretch.Given as goal
+
+abbrev pub invariant-loop-i : goal.invariant-loop-i
+invariant-loop-i l =
+    (l.i ≤ l.number)
+    × Rolls l.k l.letters (l.at + l.i) l.c
+    × (seek (is_word l.k l.letters (spelled l.k l.w)) l.compared (kmers_of (stretch l.first l.at l.number)) ≡ left (is_word l.k l.letters (spelled l.k l.w)) l.compared l.first l.at l.number l.i)
+
+abbrev pub decreases-loop-i : goal.decreases-loop-i
+decreases-loop-i l = l.number - l.i

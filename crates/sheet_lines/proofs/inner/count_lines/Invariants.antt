@@ -1,0 +1,14 @@
+-- `count_lines` meets its contract. Invariant: the count of the lines left, after what is counted, is the count of all. Assumes nothing.
+use Prim.Native.Nat.{◌-◌}
+use mathlib.Core.Path.{sym, ◌∙◌}
+use native.Mathlib.Omega.{arith}
+use borrow.Author.Rules.{rules}
+use lib.ListN.{length}
+use Rattle.sheet_lines.proofs.Counts.{Counting, counting, count_next, count-wrong, count_end}
+use Rattle.sheet_lines.proofs.inner.count_lines.Given as goal
+
+abbrev pub invariant-loop-i : goal.invariant-loop-i
+invariant-loop-i l = Counting l.k l.s l.at l.n l.m l.w l.i
+
+abbrev pub decreases-loop-i : goal.decreases-loop-i
+decreases-loop-i l = length l.s - l.i

@@ -1,0 +1,17 @@
+-- `head_end` meets its contract: by the byte behind k. Assumes nothing.
+use mathlib.Core.Path.{sym, ◌∙◌}
+use native.Mathlib.Omega.{arith}
+use borrow.Author.Rules.{rules}
+use Rattle.text.proofs.Bytes.{byte_here}
+use Rattle.sheet_lines.proofs.lines.head_end.Goals as goal
+
+pub overflow_add-result : goal.overflow_add-result
+overflow_add-result c =
+    let b = byte_here c.args.s.now c.args.i 10 (sym c.byte_is.ensures ∙ c.if-byte_is.true) in
+    omega (arith, b.0)
+
+pub returns-then-byte_is : goal.returns-then-byte_is
+returns-then-byte_is c = rw (sym c.byte_is.ensures ∙ c.if-byte_is.true)
+
+pub returns : goal.returns
+returns c = rw (sym c.byte_is.ensures ∙ c.if-byte_is.false)
