@@ -266,8 +266,22 @@ class Function:
             n = 0
         return ".".join([root] + ["before"] * (n + (1 if root in self.roots else 0)))
 
+    def past_functions(self, text):
+        """A function from place to place is its argument: a record has every step before it."""
+        moves = [f for f, (_, to) in self.typed.items() if to]
+        if not moves:
+            return text
+        call = re.compile(r"(?<![\w.'₀-₉-])(?:" + "|".join(re.escape(f) for f in sorted(moves, key=len, reverse=True)) + r") ([a-z][\w-]*'*)((?:\.before)*)(?![\w.'₀-₉-])")
+        alone = re.compile(r"\(([a-z][\w-]*'*)(?:\.before)*\)")
+        while True:
+            new = alone.sub(lambda m: m.group(1), call.sub(lambda m: m.group(1), text))
+            if new == text:
+                return text
+            text = new
+
     def turn_body(self, text, answer):
         """Every chain by its new names; a place that is passed on is reached from where the variable stands."""
+        text = self.past_functions(text)
         ident = r"[a-z][\w-]*'*"
         pure = rf"(?:{ident})(?:\.before)*(?![\w.'₀-₉-])"
         whole = re.compile(
@@ -402,20 +416,17 @@ class Function:
         if len(names) < 2:
             return text
         body = text.rstrip()
+        apart = " record { " + "; ".join(f"{n} = ({body.strip()})." + ".".join(["1"] * i + (["0"] if i + 1 < len(names) else [])) for i, n in enumerate(names)) + " }"
         if not body.endswith(")"):
-            self.say(f"asks {names}, and is no tuple")
-            return text
+            return apart
         depth, i = 0, len(body) - 1
         while i >= 0:
             depth += {")": 1, "(": -1}.get(body[i], 0)
             if depth == 0:
                 break
             i -= 1
-        if i > 0 and not body[i - 1].isspace():
-            return text
         if not (i == 0 or re.search(r"(^|\bin|=)\s*$", body[:i])):
-            self.say(f"asks {names}, and is no tuple")
-            return text
+            return apart
         parts = tuple_parts(body[i + 1:-1])
         while len(parts) < len(names) and parts[-1].strip().startswith("(") and parts[-1].strip().endswith(")"):
             parts = parts[:-1] + tuple_parts(parts[-1].strip()[1:-1])
@@ -565,9 +576,7 @@ class Function:
                 for root in {m.group(1) if m else None, p.group(1) if p else None} - {None}:
                     self.env[root] = place
                 if m and to:
-                    head_, _, tail_ = body.rpartition("\n" + m.group(0))
-                    body = head_ + "\n" + m.group(0) + " " + self.reach(m.group(1), to)
-                    lemma = self.place_types(body)
+                    continue
                 else:
                     lemma = self.turn_body(self.place_types(body), False)
             else:

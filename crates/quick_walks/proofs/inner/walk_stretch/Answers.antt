@@ -12,36 +12,6 @@ use Rattle.words.proofs.Along.{Rolls, rolls-begin, rolls-here, rolls-on}
 use Rattle.quick_walks.proofs.Walks.{left, left-start, left-hit, left-on, left_end}
 use borrow.Author.Rules.{rules}
 use Rattle.quick_walks.proofs.inner.walk_stretch.Goals as goal
-use Rattle.quick_walks.proofs.inner.walk_stretch.Lts as lts
-use Rattle.quick_walks.proofs.inner.walk_stretch.Tie as tie
-use Rattle.quick_walks.proofs.inner.walk_stretch.Reads as reads
-
-abbrev Place-At-loop : Type 0
-Place-At-loop = lts.At-loop tie.the-claims reads.Pre reads.Post goal.the-invariant-loop-i goal.the-decreases-loop-i tie.handed_clauses
-
-abbrev Place-Start : Type 0
-Place-Start = lts.Start tie.the-claims reads.Pre reads.Post goal.the-invariant-loop-i goal.the-decreases-loop-i tie.handed_clauses
-
-abbrev Place-After-roll : Type 0
-Place-After-roll = lts.After-roll tie.the-claims reads.Pre reads.Post goal.the-invariant-loop-i goal.the-decreases-loop-i tie.handed_clauses
-
-abbrev Place-After-is_word : Type 0
-Place-After-is_word = lts.After-is_word tie.the-claims reads.Pre reads.Post goal.the-invariant-loop-i goal.the-decreases-loop-i tie.handed_clauses
-
-abbrev Place-In-loop : Type 0
-Place-In-loop = lts.In-loop tie.the-claims reads.Pre reads.Post goal.the-invariant-loop-i goal.the-decreases-loop-i tie.handed_clauses
-
--- the start, seen from the loop
-abbrev start : Place-At-loop → Place-Start
-start c = c.before.before.before.before
-
--- a turn of the loop, seen from behind `roll`
-abbrev turn-from-roll : Place-After-roll → Place-At-loop
-turn-from-roll c = c.before.before.before.before
-
--- a turn of the loop, seen from behind `is_word`
-abbrev turn-from-is-word : Place-After-is_word → Place-In-loop
-turn-from-is-word c = c.before.before.before.before
 
 pub word_code-c-requires : goal.word_code-c-requires
 word_code-c-requires c =
@@ -56,7 +26,7 @@ loop-i-init c =
 
 pub roll-c-requires : goal.roll-c-requires
 roll-c-requires c =
-    let a = (start c.before.before.before.before).args in (
+    let a = c.args in (
       omega arith,
       c.loop-i.invariant.1.small,
       omega (arith, c.letter_code.ensures, bits_lt (get_or a.letters.now (a.at + (a.k - 1) + c.loop-i.i) 0)),
@@ -64,21 +34,21 @@ roll-c-requires c =
 
 pub is_word-requires : goal.is_word-requires
 is_word-requires c =
-    let l = (turn-from-roll c.before).loop-i in
-    let s = start (turn-from-roll c.before) in
+    let l = c.loop-i in
+    let s = c.before in
     let a = s.args in
-    let p = s.requires.*le_k+k_in_bounds in record { w_bound = (p.0.2, omega arith, p.0.3, p.0.1); c_value = c.roll-c.ensures ∙ rolls-here a.k a.letters.now p.0.0 p.0.1 a.at l.i _ _ (omega arith) l.invariant.1 c.letter_code.ensures }
+    let p = s.requires in record { w_bound = (p.le_k.2, omega arith, p.le_k.3, p.le_k.1); c_value = c.roll-c.ensures ∙ rolls-here a.k a.letters.now p.le_k.0 p.le_k.1 a.at l.i _ _ (omega arith) l.invariant.1 c.letter_code.ensures }
 
 pub returns-then-is_word : goal.returns-then-is_word
 returns-then-is_word c =
-    sym ((turn-from-is-word c.before.before).loop-i.invariant.2
-    ∙ left-hit _ _ _ _ _ _ (turn-from-is-word c.before.before).loop-i-test.true (sym c.is_word.ensures ∙ c.if-is_word.true))
+    sym (c.loop-i.invariant.2
+    ∙ left-hit _ _ _ _ _ _ c.loop-i-test.true (sym c.is_word.ensures ∙ c.if-is_word.true))
 
 pub loop-i-preserved : goal.loop-i-preserved
 loop-i-preserved c =
-    let t = turn-from-is-word c.before.before in
+    let t = c.before in
     let l = t.loop-i in
-    let s = start t.before in
+    let s = t in
     let a = s.args in
     let p = s.requires in
     let e = c.roll-c.ensures ∙ rolls-here a.k a.letters.now p.le_k.0 p.le_k.1 a.at l.i _ _ (omega arith) l.invariant.1
