@@ -54,6 +54,11 @@ def clauses_of(crate):
 
 def blocks(text):
     """The top-level declarations of a proof file: (name, signature, unfolding lines, clauses, comment)."""
+    def one_line(m):
+        names = [n.strip() for n in m.group(2).replace("\n", " ").split(",")]
+        return m.group(1) + "{" + ", ".join(n for n in names if n) + "}"
+
+    text = re.sub(r"^(use [^{}\n]*)\{([^{}]*)\}", one_line, text, flags=re.M)
     lines = text.split("\n")
     parts, comment, current = [], [], None
     for line in lines:
@@ -171,7 +176,9 @@ class Function:
 
     def rest_of(self, step, parts):
         own = self.clauses_here
-        if parts and parts[0] in ("last", "kept", "taken", "left"):
+        if parts and parts[0] == "type-inv":
+            parts = ["type_inv"] + parts[1:]
+        if parts and parts[0] in ("last", "kept", "taken", "left") and (parts[0] in ("last", "kept") or re.match(r"if|.*test$", norm(step))):
             parts = [{"last": "new", "kept": "auto", "taken": "true", "left": "false"}[parts[0]]] + parts[1:]
         if parts == ["auto"] and self.clauses_of_step(step) and len(self.clauses_of_step(step)["slices"]) >= 1:
             return [step, "auto", "+".join(self.clauses_of_step(step)["slices"])]

@@ -38,7 +38,7 @@ pub enum WordAnswer {
 
 // A word to be asked for, by its code and its reverse complement's, and the minimizers under which they are looked for: `row` for the word, `other` for the
 // turned one.
-#[derive(Drop)]
+#[derive(Clone, Copy)]
 pub struct Question {
     pub asked: u64,
     pub turned: u64,

@@ -1,0 +1,12 @@
+-- `copy_letters` meets its contract. Invariant: the first i entries are copied. Assumes nothing.
+use Prim.Native.Nat.{◌-◌}
+use lib.ListN.{length}
+use Rattle.lists.proofs.Copying.{Copying, copy_start, copy-inside, copy-next, copied}
+use borrow.Author.Rules.{rules}
+use Rattle.apply_strings.proofs.writing.copy_letters.Given as goal
+
+abbrev pub invariant-loop-i : goal.invariant-loop-i
+invariant-loop-i l = Copying l.from l.initial.to l.to l.i
+
+abbrev pub decreases-loop-i : goal.decreases-loop-i
+decreases-loop-i l = length l.from - l.i

@@ -1,0 +1,23 @@
+-- `cut_string` meets its contract. Invariant: c and v are the code and the minimizer of the k-mer before, and the stretches before the open one are stored.
+-- Assumes nothing.
+use mathlib.Core.Path.{◌≡◌, refl, sym, ◌∙◌}
+use Prim.Native.Nat.{ℕ, ◌+◌, ◌-◌, ◌≤◌}
+use native.Mathlib.Omega.{arith}
+use lib.ListN.{drop, length-take}
+use Rattle.lists.proofs.Every.{every-all}
+use Rattle.alphabet.specs.Letter.{is_letter}
+use Rattle.index_minimizers.specs.Minimizer.{minimizer_at}
+use Rattle.index_cutting.proofs.Carried.{Carried, roll-fits, slide-fits, carried-begin, carried_on, carried_small}
+use Rattle.index_cutting.proofs.Cutting.{Cutting, cutting-begin, cutting-on, cutting-ended, cutting-cut, cutting-last}
+use Rattle.index_cutting.proofs.Filling.{filling-inside, filling-store, filling-end}
+use borrow.Author.Rules.{rules}
+use Rattle.index_cutting.proofs.inner.cut_string.Given as goal
+
+abbrev pub invariant-loop-i : goal.invariant-loop-i
+invariant-loop-i l =
+    (l.i ≤ l.n)
+    × Carried l.k l.p l.letters (l.a + l.i) l.c l.v
+    × Cutting (minimizer_at l.k l.p l.letters) l.h l.a l.n l.o l.initial.firsts l.firsts l.initial.positions l.positions l.initial.numbers l.numbers l.initial.keys l.keys l.v l.s l.to l.i
+
+abbrev pub decreases-loop-i : goal.decreases-loop-i
+decreases-loop-i l = l.n - l.i

@@ -1,0 +1,21 @@
+-- `put_lines` meets its contract. Invariant: the lines of the strings left, stored from here on, bring the table to its target. Assumes nothing.
+use Prim.Native.Nat.{◌+◌, ◌-◌}
+use native.Mathlib.Omega.{arith}
+use lib.ListN.{length}
+use Rattle.lists.specs.Fill.{put}
+use Rattle.collection.specs.Collection.{collection}
+use Rattle.collection.specs.Strings.{strings}
+use Rattle.collection.proofs.Judged.{collection_good}
+use Rattle.sheet.specs.Text.{lines_text}
+use Rattle.sheet_write.proofs.Lines.{Lining, lining, next-line, weights-there, line-room, lined, lined_all}
+use Rattle.sheet_write.proofs.Texts.{few_weights}
+use borrow.Author.Rules.{rules}
+use Rattle.sheet_write.proofs.writing.put_lines.Given as goal
+
+abbrev pub invariant-loop-i : goal.invariant-loop-i
+invariant-loop-i l =
+    Lining (collection l.k l.letters l.ends l.weights) (length l.initial.out) (l.at + length (lines_text (strings (collection l.k l.letters l.ends l.weights))))
+    (put l.at (lines_text (strings (collection l.k l.letters l.ends l.weights))) l.initial.out) l.out l.before l.w l.p l.i
+
+abbrev pub decreases-loop-i : goal.decreases-loop-i
+decreases-loop-i l = length l.ends - l.i
