@@ -11,14 +11,15 @@ use Rattle.quick.specs.Weighed.{weighs, unweighed, weighed_of}
 use Rattle.quick.specs.contracts.QuickAnswer as answers
 use Rattle.quick.proofs.Weighing.{found_weighs}
 use borrow.Author.Rules.{rules}
+use Rattle.collection.specs.declared.Side.{Side}
 use Rattle.quick.proofs.weigh.Goals as goal
 
 -- an answer that is not the first variant, Found
-not-found-weighs : (weights_of_runs firsts_of_runs : List ℕ) (n : ℕ) (a : QuickAnswer) → (tag_of answers.the_type a ≡ 1) ⊎ (tag_of answers.the_type a ≡ 2)
+not-found-weighs : (weights_of_runs firsts_of_runs : List ℕ) (n : ℕ) (a : QuickAnswer)
+    → ((handle : ℕ) (side : Side) (compared : ℕ) → a ≡ Found handle side compared → ⊥)
     → unweighed a ≡ weighed_of a weights_of_runs firsts_of_runs n
 unfolding unweighed weighed_of
-not-found-weighs weights_of_runs firsts_of_runs n (Found handle side compared) (inl e) = absurd (let z : ⊥ = omega (arith, e) in z)
-not-found-weighs weights_of_runs firsts_of_runs n (Found handle side compared) (inr e) = absurd (let z : ⊥ = omega (arith, e) in z)
+not-found-weighs weights_of_runs firsts_of_runs n (Found handle side compared) e = absurd (e handle side compared refl)
 not-found-weighs weights_of_runs firsts_of_runs n (Absent compared) e = refl
 not-found-weighs weights_of_runs firsts_of_runs n (Refused number place) e = refl
 
@@ -26,7 +27,7 @@ pub returns-in_default : goal.returns-in_default
 returns-in_default c =
     let a = c.args in
     c.not_found.ensures
-    ∙ (not-found-weighs a.run_weights.now a.run_firsts.now a.n _ c.in_default.keys2
+    ∙ (not-found-weighs a.run_weights.now a.run_firsts.now a.n _ c.in_default.not-Found
     ∙ ap (λ (x : QuickAnswer). weighed_of x a.run_weights.now a.run_firsts.now a.n) c.quick-answer.ensures)
 
 pub returns-in-Found-weight : goal.returns-in-Found-weight

@@ -1,0 +1,11 @@
+-- `apply_reply` meets its contract: each case of the answer has its reply. Assumes nothing.
+use mathlib.Core.Path.{sym, ap}
+use Rattle.exports_replies.specs.Replies.{apply_reply}
+use borrow.Author.Rules.{rules}
+use Rattle.exports_replies.proofs.inner.apply_reply.Goals as goal
+
+pub returns-in-Filled : goal.returns-in-Filled
+returns-in-Filled c = sym (ap apply_reply c.in-Filled.is)
+
+pub returns-in-Refused : goal.returns-in-Refused
+returns-in-Refused c = sym (ap apply_reply c.in-Refused.is)
