@@ -7,7 +7,7 @@ use borrow.Author.Rules.{rules}
 use Rattle.exports_replies.proofs.inner.plain_reply.Goals as goal
 
 pub returns-in-Found : goal.returns-in-Found
-returns-in-Found c = let g = c.answer-1.given in ap (λ (s : ℕ). Two g.0.0 s) c.side_of.ensures ∙ sym (ap plain_reply g.1)
+returns-in-Found c = ap (λ (s : ℕ). Two c.in-Found.handle s) c.side_of.ensures ∙ sym (ap plain_reply c.in-Found.is)
 
 pub returns-in-Refused : goal.returns-in-Refused
 returns-in-Refused c = sym (ap plain_reply c.in-Refused.is)

@@ -7,7 +7,7 @@ use borrow.Author.Rules.{rules}
 use Rattle.exports_replies.proofs.inner.quick_reply.Goals as goal
 
 pub returns-in-Found : goal.returns-in-Found
-returns-in-Found c = let g = c.answer-1.given in ap (λ (s : ℕ). Three g.0.0 s g.0.1.1.0) c.side_of.ensures ∙ sym (ap quick_reply g.1)
+returns-in-Found c = let g = c.in-Found in ap (λ (s : ℕ). Three g.handle s g.compared) c.side_of.ensures ∙ sym (ap quick_reply g.is)
 
 pub returns-in-Absent : goal.returns-in-Absent
 returns-in-Absent c = sym (ap quick_reply c.in-Absent.is)

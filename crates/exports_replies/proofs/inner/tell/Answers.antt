@@ -24,23 +24,16 @@ pub bounds-answer-3 : goal.bounds-answer-3
 bounds-answer-3 c = simp length-set (omega (arith, c.requires))
 
 pub returns-in-Refused : goal.returns-in-Refused
-returns-in-Refused c = let a = c in let g = c.reply-1.given in tells _ g.1 (stored_one a.args.answer.now g.0.1.0 a.requires)
+returns-in-Refused c = tells _ c.in-Refused.is (stored_one c.args.answer.now c.in-Refused.place c.requires)
 
 pub returns-in-One : goal.returns-in-One
-returns-in-One c = let a = c in let g = c.reply-in-One-1.given in tells _ g.1 (stored_one a.args.answer.now g.0.0 a.requires)
+returns-in-One c = let g = c.in-One in tells _ g.is (stored_one c.args.answer.now g.a c.requires)
 
 pub returns-in-Two : goal.returns-in-Two
-returns-in-Two c =
-    let a = c in let g = c.reply-in-Two-1.given in tells _ g.1 (stored_two a.args.answer.now g.0.0 g.0.1.0 a.requires)
+returns-in-Two c = let g = c.in-Two in tells _ g.is (stored_two c.args.answer.now g.a g.b c.requires)
 
 pub returns-in-Three : goal.returns-in-Three
-returns-in-Three c =
-    let a = c in
-    let g = c.reply-in-Three-1.given in
-    tells _ g.1 (stored_three a.args.answer.now g.0.0 g.0.1.0 g.0.1.1.0 a.requires)
+returns-in-Three c = let g = c.in-Three in tells _ g.is (stored_three c.args.answer.now g.a g.b g.c c.requires)
 
 pub returns-in-Four : goal.returns-in-Four
-returns-in-Four c =
-    let a = c in
-    let g = c.reply-in-Four-1.given in
-    tells _ g.1 (stored_four a.args.answer.now g.0.0 g.0.1.0 g.0.1.1.0 g.0.1.1.1.0 a.requires)
+returns-in-Four c = let g = c.in-Four in tells _ g.is (stored_four c.args.answer.now g.a g.b g.c g.d c.requires)
