@@ -10,7 +10,7 @@ use collection::Verdict;
 use weight::WeightAnswer;
 
 // A run: its weight and its first handle.
-#[derive(Drop)]
+#[derive(Clone, Copy)]
 pub struct Run {
     pub weight: u32,
     pub first: u32,
@@ -18,7 +18,7 @@ pub struct Run {
 
 // What is known of the runs that were read: whether they can begin a run list of n k-mers, whether there was one, the last one's
 // weight and first handle, and the weight of the last one that starts at or before the handle.
-#[derive(Drop)]
+#[derive(Clone, Copy)]
 struct State {
     good: bool,
     begun: bool,
