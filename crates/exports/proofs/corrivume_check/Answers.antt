@@ -1,0 +1,15 @@
+-- `corrivume_check` meets its contract: the answer table is judged, then the call is made and its answer told. Assumes nothing.
+use mathlib.Core.Path.{ap, ◌∙◌}
+use Rattle.exports.specs.Calls.{check_exported}
+use Rattle.exports_replies.proofs.Telling.{too_short, shown}
+use borrow.Author.Rules.{rules}
+use Rattle.exports.proofs.corrivume_check.Goals as goal
+
+pub returns-then-answer-lt-ANSWER : goal.returns-then-answer-lt-ANSWER
+returns-then-answer-lt-ANSWER c = let a = c.args in too_short a.answer.now _ _ c.if-answer-lt-ANSWER.true
+
+pub returns : goal.returns
+returns c =
+    let a = c.args in
+    shown a.answer.now a.work.now c.if-answer-lt-ANSWER.false c.check_reply-reply.ensures c.tell.ensures
+    ∙ ap (check_exported a.answer.now a.work.now) c.check-a.ensures
