@@ -6,10 +6,11 @@ mod asking;
 mod reordering;
 
 use collection::{Side, Verdict};
-use libc::STDOUT_FILENO;
 use plain::PlainAnswer;
 use repeats::CheckAnswer;
 use runs::RunsAnswer;
+use std::io;
+use std::io::Write;
 use weight::WeightAnswer;
 
 // The sheet of the examples after the places +1 +4 -3 -2.
@@ -19,42 +20,38 @@ pub(crate) const ENDS: [u32; 4] = [5, 9, 14, 18];
 
 pub(crate) const WEIGHTS: [u32; 10] = [2, 2, 5, 5, 3, 3, 7, 7, 7, 2];
 
-pub(crate) fn show(asked: &[u8], a: u64, b: u64) {
-    io::write_all(STDOUT_FILENO, asked);
-    io::write_all(STDOUT_FILENO, b"\t");
-    io::print_decimal(STDOUT_FILENO, a);
-    io::write_all(STDOUT_FILENO, b"\t");
-    io::print_decimal(STDOUT_FILENO, b);
-    io::write_all(STDOUT_FILENO, b"\n");
+pub(crate) fn show(rt: &impl Print, asked: &[u8], a: u64, b: u64) -> io::Result<()> {
+    io::writer(rt).write_all(asked)?;
+    println!(rt; "\t{a}\t{b}")
 }
 
 // The number and the place of a refusal, 0 and 0 where there is none.
-fn show_verdict(asked: &[u8], v: Verdict) {
+fn show_verdict(rt: &impl Print, asked: &[u8], v: Verdict) -> io::Result<()> {
     match v {
-        Verdict::Good => show(asked, 0, 0),
-        Verdict::Bad { number, place } => show(asked, number as u64, place as u64),
+        Verdict::Good => show(rt, asked, 0, 0),
+        Verdict::Bad { number, place } => show(rt, asked, number as u64, place as u64),
     }
 }
 
 // The letters that ACCESS hands back, and its number and place.
-fn show_access(asked: &[u8], k: usize, handle: usize) {
+fn show_access(rt: &impl Print, asked: &[u8], k: usize, handle: usize) -> io::Result<()> {
     let told = access::access_told(k, &LETTERS, &ENDS, handle);
     let part = access::access(k, &LETTERS, &ENDS, handle);
-    io::write_all(STDOUT_FILENO, part);
-    io::write_all(STDOUT_FILENO, b" ");
-    show(asked, told.number as u64, told.place as u64);
+    io::writer(rt).write_all(part)?;
+    io::writer(rt).write_all(b" ")?;
+    show(rt, asked, told.number as u64, told.place as u64)
 }
 
 // The handle of a word and 1 for side +, 2 for side -; 0 and 0 if absent; 100 + number and the place if refused.
-fn show_plain(word: &[u8]) {
+fn show_plain(rt: &impl Print, word: &[u8]) -> io::Result<()> {
     let answer = plain::plain(3, &LETTERS, &ENDS, &WEIGHTS, word);
     match answer {
         PlainAnswer::Found { handle, side } => match side {
-            Side::Asked => show(word, handle as u64, 1),
-            Side::Turned => show(word, handle as u64, 2),
+            Side::Asked => show(rt, word, handle as u64, 1),
+            Side::Turned => show(rt, word, handle as u64, 2),
         },
-        PlainAnswer::Absent => show(word, 0, 0),
-        PlainAnswer::Refused { number, place } => show(word, 100 + number as u64, place as u64),
+        PlainAnswer::Absent => show(rt, word, 0, 0),
+        PlainAnswer::Refused { number, place } => show(rt, word, 100 + number as u64, place as u64),
     }
 }
 
@@ -63,149 +60,174 @@ pub(crate) fn wide(x: u32) -> u64 {
 }
 
 // One run's weight and first handle.
-fn show_run(weights: &[u32], firsts: &[u32], i: usize) {
+fn show_run(rt: &impl Print, weights: &[u32], firsts: &[u32], i: usize) -> io::Result<()> {
     if weights.len() <= i {
-        return;
+        return Ok(());
     }
     if firsts.len() <= i {
-        return;
+        return Ok(());
     }
-    show(b"run", wide(weights[i]), wide(firsts[i]));
+    show(rt, b"run", wide(weights[i]), wide(firsts[i]))
 }
 
 // Each of five runs in a line of its own.
-fn show_list(weights: &[u32], firsts: &[u32]) {
-    show_run(weights, firsts, 0);
-    show_run(weights, firsts, 1);
-    show_run(weights, firsts, 2);
-    show_run(weights, firsts, 3);
-    show_run(weights, firsts, 4);
+fn show_list(rt: &impl Print, weights: &[u32], firsts: &[u32]) -> io::Result<()> {
+    show_run(rt, weights, firsts, 0)?;
+    show_run(rt, weights, firsts, 1)?;
+    show_run(rt, weights, firsts, 2)?;
+    show_run(rt, weights, firsts, 3)?;
+    show_run(rt, weights, firsts, 4)
 }
 
 // How many runs there are, or 100 + number and the place if RUNS refuses.
-pub(crate) fn show_count(asked: &[u8], answer: RunsAnswer) {
+pub(crate) fn show_count(rt: &impl Print, asked: &[u8], answer: RunsAnswer) -> io::Result<()> {
     match answer {
-        RunsAnswer::Filled { runs } => show(asked, runs as u64, 0),
-        RunsAnswer::Refused { number, place } => show(asked, 100 + number as u64, place as u64),
+        RunsAnswer::Filled { runs } => show(rt, asked, runs as u64, 0),
+        RunsAnswer::Refused { number, place } => show(rt, asked, 100 + number as u64, place as u64),
     }
 }
 
 // The runs of the sheet.
-fn runs_all() {
+fn runs_all(rt: &impl Print) -> io::Result<()> {
     let mut weights = [0u32; 5];
     let mut firsts = [0u32; 5];
     let answer = runs::runs(3, &LETTERS, &ENDS, &WEIGHTS, &mut weights, &mut firsts);
-    show_count(b"runs", answer);
-    show_list(&weights, &firsts);
+    show_count(rt, b"runs", answer)?;
+    show_list(rt, &weights, &firsts)
 }
 
 // The weight of a handle in the run list of the sheet, or 100 + number and the place if refused.
-fn show_weight(asked: &[u8], n: usize, handle: usize) {
+fn show_weight(rt: &impl Print, asked: &[u8], n: usize, handle: usize) -> io::Result<()> {
     match weight::weight(&[2, 5, 3, 7, 2], &[1, 3, 5, 7, 10], n, handle) {
-        WeightAnswer::Found { weight } => show(asked, weight as u64, 0),
-        WeightAnswer::Refused { number, place } => show(asked, 100 + number as u64, place as u64),
+        WeightAnswer::Found { weight } => show(rt, asked, weight as u64, 0),
+        WeightAnswer::Refused { number, place } => show(
+            rt,
+            asked,
+            100 + number as u64,
+            place as u64,
+        ),
     }
 }
 
-fn judge(asked: &[u8], k: usize, letters: &[u8], ends: &[u32], weights: &[u32]) {
+fn judge(
+    rt: &impl Print,
+    asked: &[u8],
+    k: usize,
+    letters: &[u8],
+    ends: &[u32],
+    weights: &[u32],
+) -> io::Result<()> {
     show_verdict(
+        rt,
         asked,
         collection::judge_collection(k, letters, ends, weights),
-    );
+    )
 }
 
-fn judge_sheet(asked: &[u8], k: usize) {
-    judge(asked, k, &LETTERS, &ENDS, &WEIGHTS);
+fn judge_sheet(rt: &impl Print, asked: &[u8], k: usize) -> io::Result<()> {
+    judge(rt, asked, k, &LETTERS, &ENDS, &WEIGHTS)
 }
 
-fn judge_none() {
-    judge(b"no strings", 3, b"", &[], &[]);
+fn judge_none(rt: &impl Print) -> io::Result<()> {
+    judge(rt, b"no strings", 3, b"", &[], &[])
 }
 
 // One string of 31 letters, with one weight.
-fn judge_long(asked: &[u8], k: usize, weight: u32) {
-    judge(asked, k, &[b'A'; 31], &[31], &[weight]);
+fn judge_long(rt: &impl Print, asked: &[u8], k: usize, weight: u32) -> io::Result<()> {
+    judge(rt, asked, k, &[b'A'; 31], &[31], &[weight])
 }
 
-fn judge_all() {
-    judge_sheet(b"the sheet of the examples", 3);
-    judge_sheet(b"k = 2", 2);
-    judge_long(b"k = 31, weight 1", 31, 1);
-    judge_long(b"k = 32", 32, 1);
-    judge_long(b"weight 0", 31, 0);
-    judge_none();
+fn judge_all(rt: &impl Print) -> io::Result<()> {
+    judge_sheet(rt, b"the sheet of the examples", 3)?;
+    judge_sheet(rt, b"k = 2", 2)?;
+    judge_long(rt, b"k = 31, weight 1", 31, 1)?;
+    judge_long(rt, b"k = 32", 32, 1)?;
+    judge_long(rt, b"weight 0", 31, 0)?;
+    judge_none(rt)
 }
 
-fn turn_all() {
-    show(b"AACC turned", words::turned_four(5) as u64, 0);
-    show(b"ACGT turned", words::turned_four(27) as u64, 0);
+fn turn_all(rt: &impl Print) -> io::Result<()> {
+    show(rt, b"AACC turned", words::turned_four(5) as u64, 0)?;
+    show(rt, b"ACGT turned", words::turned_four(27) as u64, 0)
 }
 
-fn access_all() {
-    show_access(b"handle 8", 3, 8);
-    show_access(b"handle 1", 3, 1);
-    show_access(b"handle 10", 3, 10);
-    show_access(b"handle 11", 3, 11);
-    show_access(b"k = 2, handle 1", 2, 1);
+fn access_all(rt: &impl Print) -> io::Result<()> {
+    show_access(rt, b"handle 8", 3, 8)?;
+    show_access(rt, b"handle 1", 3, 1)?;
+    show_access(rt, b"handle 10", 3, 10)?;
+    show_access(rt, b"handle 11", 3, 11)?;
+    show_access(rt, b"k = 2, handle 1", 2, 1)
 }
 
-fn plain_all() {
-    show_plain(b"CAG");
-    show_plain(b"TTT");
-    show_plain(b"CCC");
-    show_plain(b"GGC");
-    show_plain(b"GGCT");
-    show_plain(b"cag");
+fn plain_all(rt: &impl Print) -> io::Result<()> {
+    show_plain(rt, b"CAG")?;
+    show_plain(rt, b"TTT")?;
+    show_plain(rt, b"CCC")?;
+    show_plain(rt, b"GGC")?;
+    show_plain(rt, b"GGCT")?;
+    show_plain(rt, b"cag")
 }
 
-fn weigh_all() {
-    show_weight(b"weight of 8", 10, 8);
-    show_weight(b"weight of 9", 10, 9);
-    show_weight(b"weight of 10", 10, 10);
-    show_weight(b"weight of 11", 10, 11);
-    show_weight(b"a run past n", 9, 8);
+fn weigh_all(rt: &impl Print) -> io::Result<()> {
+    show_weight(rt, b"weight of 8", 10, 8)?;
+    show_weight(rt, b"weight of 9", 10, 9)?;
+    show_weight(rt, b"weight of 10", 10, 10)?;
+    show_weight(rt, b"weight of 11", 10, 11)?;
+    show_weight(rt, b"a run past n", 9, 8)
 }
 
 // How many k-mers CHECK looked at, or 100 + number and the place if it refuses.
-fn show_check(asked: &[u8], k: usize, letters: &[u8], ends: &[u32], weights: &[u32]) {
+fn show_check(
+    rt: &impl Print,
+    asked: &[u8],
+    k: usize,
+    letters: &[u8],
+    ends: &[u32],
+    weights: &[u32],
+) -> io::Result<()> {
     let mut work = [0u32; 64];
     let answer = repeats::check(k, letters, ends, weights, &mut work);
     match answer {
-        CheckAnswer::Checked { kmers } => show(asked, kmers as u64, 0),
-        CheckAnswer::Refused { number, place } => show(asked, 100 + number as u64, place as u64),
+        CheckAnswer::Checked { kmers } => show(rt, asked, kmers as u64, 0),
+        CheckAnswer::Refused { number, place } => show(
+            rt,
+            asked,
+            100 + number as u64,
+            place as u64,
+        ),
     }
 }
 
 // Two strings of three letters.
-fn check_two(asked: &[u8], letters: &[u8]) {
-    show_check(asked, 3, letters, &[3, 6], &[1, 1]);
+fn check_two(rt: &impl Print, asked: &[u8], letters: &[u8]) -> io::Result<()> {
+    show_check(rt, asked, 3, letters, &[3, 6], &[1, 1])
 }
 
-fn check_sheet() {
-    show_check(b"the sheet checked", 3, &LETTERS, &ENDS, &WEIGHTS);
+fn check_sheet(rt: &impl Print) -> io::Result<()> {
+    show_check(rt, b"the sheet checked", 3, &LETTERS, &ENDS, &WEIGHTS)
 }
 
 // A word that is its own reverse complement, once.
-fn check_own() {
-    show_check(b"ACGT is its own pair", 4, b"ACGT", &[4], &[1]);
+fn check_own(rt: &impl Print) -> io::Result<()> {
+    show_check(rt, b"ACGT is its own pair", 4, b"ACGT", &[4], &[1])
 }
 
-fn check_all() {
-    check_sheet();
-    check_two(b"ACG and CGT", b"ACGCGT");
-    check_two(b"ACG and GTC", b"ACGGTC");
-    check_own();
+fn check_all(rt: &impl Print) -> io::Result<()> {
+    check_sheet(rt)?;
+    check_two(rt, b"ACG and CGT", b"ACGCGT")?;
+    check_two(rt, b"ACG and GTC", b"ACGGTC")?;
+    check_own(rt)
 }
 
-fn main() {
-    turn_all();
-    judge_all();
-    access_all();
-    plain_all();
-    runs_all();
-    weigh_all();
-    check_all();
-    reordering::cover_sheet();
-    reordering::apply_all();
-    asking::ask_all();
+fn main(rt: HostRuntime) -> io::Result<()> {
+    turn_all(&rt)?;
+    judge_all(&rt)?;
+    access_all(&rt)?;
+    plain_all(&rt)?;
+    runs_all(&rt)?;
+    weigh_all(&rt)?;
+    check_all(&rt)?;
+    reordering::cover_sheet(&rt)?;
+    reordering::apply_all(&rt)?;
+    asking::ask_all(&rt)
 }

@@ -2,6 +2,7 @@
 use crate::{show, show_count};
 use apply::ApplyAnswer;
 use cover::CoverAnswer;
+use std::io;
 
 const LETTERS: [u8; 18] = *b"AAACCAGATCAGCCTACA";
 
@@ -10,15 +11,21 @@ const ENDS: [u32; 4] = [5, 9, 14, 18];
 const WEIGHTS: [u32; 10] = [2, 2, 5, 7, 2, 7, 7, 3, 3, 5];
 
 // How many runs a collection has.
-fn show_runs(asked: &[u8], letters: &[u8], ends: &[u32], weights: &[u32]) {
+fn show_runs(
+    rt: &impl Print,
+    asked: &[u8],
+    letters: &[u8],
+    ends: &[u32],
+    weights: &[u32],
+) -> io::Result<()> {
     let mut run_weights = [0u32; 10];
     let mut run_firsts = [0u32; 10];
     let answer = runs::runs(3, letters, ends, weights, &mut run_weights, &mut run_firsts);
-    show_count(asked, answer);
+    show_count(rt, asked, answer)
 }
 
 // The runs after the strings are put to these places, or 100 + number and the place if APPLY refuses.
-fn show_applied(asked: &[u8], places: &[i32]) {
+fn show_applied(rt: &impl Print, asked: &[u8], places: &[i32]) -> io::Result<()> {
     let mut letters = [0u8; 18];
     let mut ends = [0u32; 4];
     let mut weights = [0u32; 10];
@@ -39,15 +46,21 @@ fn show_applied(asked: &[u8], places: &[i32]) {
             letters: _,
             ends: _,
             weights: _,
-        } => show_runs(asked, &letters, &ends, &weights),
-        ApplyAnswer::Refused { number, place } => show(asked, 100 + number as u64, place as u64),
+        } => show_runs(rt, asked, &letters, &ends, &weights),
+        ApplyAnswer::Refused { number, place } => show(
+            rt,
+            asked,
+            100 + number as u64,
+            place as u64,
+        ),
     }
 }
 
-fn show_cover(answer: CoverAnswer) {
+fn show_cover(rt: &impl Print, answer: CoverAnswer) -> io::Result<()> {
     match answer {
-        CoverAnswer::Covered { places, paths } => show(b"covered", places as u64, paths as u64),
+        CoverAnswer::Covered { places, paths } => show(rt, b"covered", places as u64, paths as u64),
         CoverAnswer::Refused { number, place } => show(
+            rt,
             b"cover refused",
             number as u64,
             place as u64,
@@ -56,18 +69,18 @@ fn show_cover(answer: CoverAnswer) {
 }
 
 // The number of places that COVER fills and its paths, and the runs with these places.
-pub(crate) fn cover_sheet() {
-    show_runs(b"runs as given", &LETTERS, &ENDS, &WEIGHTS);
+pub(crate) fn cover_sheet(rt: &impl Print) -> io::Result<()> {
+    show_runs(rt, b"runs as given", &LETTERS, &ENDS, &WEIGHTS)?;
     let mut places = [0i32; 4];
     let mut work = [0u32; 64];
     let answer = cover::cover(3, &LETTERS, &ENDS, &WEIGHTS, &mut places, &mut work);
-    show_cover(answer);
-    show_applied(b"runs as covered", &places);
+    show_cover(rt, answer)?;
+    show_applied(rt, b"runs as covered", &places)
 }
 
 // Places that are given, and some that are refused.
-pub(crate) fn apply_all() {
-    show_applied(b"runs at +1 +4 -3 -2", &[1, 4, -3, -2]);
-    show_applied(b"places +1 -1", &[1, -1, 2, 3]);
-    show_applied(b"the smallest place", &[1, 2, 3, -2147483648]);
+pub(crate) fn apply_all(rt: &impl Print) -> io::Result<()> {
+    show_applied(rt, b"runs at +1 +4 -3 -2", &[1, 4, -3, -2])?;
+    show_applied(rt, b"places +1 -1", &[1, -1, 2, 3])?;
+    show_applied(rt, b"the smallest place", &[1, 2, 3, -2147483648])
 }

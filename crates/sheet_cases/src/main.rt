@@ -6,14 +6,15 @@
 ghost use Rattle.std.specs.Prelude.{◌<◌, ◌≤◌, length};
 
 use sheet::{ReadAnswer, WriteAnswer};
+use std::io;
+use std::io::Write;
 
 // Writes `y` or `n`.
-fn say(good: bool) {
+fn say(rt: &impl Print, good: bool) -> io::Result<()> {
     if good {
-        io::write_all(1, b"y");
-    } else {
-        io::write_all(1, b"n");
+        return io::writer(rt).write_all(b"y");
     }
+    io::writer(rt).write_all(b"n")
 }
 
 // Whether READ refuses a sheet with this number and place.
@@ -41,7 +42,7 @@ fn is_sheet(out: &[u8], n: usize, sheet: &[u8]) -> bool {
     if out.len() < n {
         return false;
     }
-    check::same(&out[..n], sheet)
+    &out[..n] == sheet
 }
 
 // Whether WRITE of the collection in the first n letters, m ends and w weights is the sheet.
@@ -131,22 +132,22 @@ fn case_end(cases: &[u8], at: usize) -> usize
 }
 
 // One case after the other.
-fn run(cases: &[u8]) {
+fn run(rt: &impl Print, cases: &[u8]) -> io::Result<()> {
     let mut at = 0;
     while at < cases.len() {
         let e = case_end(cases, at);
-        say(answers(cases[at], &cases[at + 1..e]));
+        say(rt, answers(cases[at], &cases[at + 1..e]))?;
         if e == cases.len() {
-            return;
+            return Ok(());
         }
         at = e + 1;
     }
+    Ok(())
 }
 
-fn main() {
-    let mut buffer = io::buffer();
-    let got = libc::read(0, &mut buffer);
-    let n = io::count(got, &buffer);
-    run(&buffer[..n]);
-    io::write_all(1, b"\n");
+fn main(rt: HostRuntime) -> io::Result<()> {
+    let mut buffer = [0u8; 4096];
+    let n = streams::read_full(&mut rt.stdin(), &mut buffer)?;
+    run(&rt, &buffer[..n])?;
+    io::writer(&rt).write_all(b"\n")
 }

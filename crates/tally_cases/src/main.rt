@@ -3,18 +3,19 @@
 
 ghost use Rattle.std.specs.Prelude.{◌<◌, ◌≤◌, length};
 
-use libc::{STDIN_FILENO, STDOUT_FILENO};
+use std::io;
+use std::io::Write;
 use summary_text::ReportAnswer;
 
 // Writes the report of one sheet, as `tally` does, and an empty line.
-fn tell(sheet: &[u8]) {
+fn tell(rt: &impl Print, sheet: &[u8]) -> io::Result<()> {
     let mut text = [0u8; 256];
     let answer = summary::report(sheet, &mut text);
     let ReportAnswer::Written { bytes } = answer else {
-        return;
+        return Ok(());
     };
-    io::write_all(STDOUT_FILENO, &text[..bytes]);
-    io::write_all(STDOUT_FILENO, b"\n");
+    io::writer(rt).write_all(&text[..bytes])?;
+    io::writer(rt).write_all(b"\n")
 }
 
 // Where the sheet at a place ends: at the next `~`, or at the end.
@@ -33,20 +34,21 @@ fn sheet_end(sheets: &[u8], at: usize) -> usize
 }
 
 // One sheet after the other.
-fn run(sheets: &[u8]) {
+fn run(rt: &impl Print, sheets: &[u8]) -> io::Result<()> {
     let mut at = 0;
     while at < sheets.len() {
         let e = sheet_end(sheets, at);
-        tell(&sheets[at..e]);
+        tell(rt, &sheets[at..e])?;
         if e == sheets.len() {
-            return;
+            return Ok(());
         }
         at = e + 1;
     }
+    Ok(())
 }
 
-fn main() {
-    let mut sheets = io::large_buffer();
-    let n = io::read_full(STDIN_FILENO, &mut sheets);
-    run(&sheets[..n]);
+fn main(rt: HostRuntime) -> io::Result<()> {
+    let mut sheets = [0u8; 65536];
+    let n = streams::read_full(&mut rt.stdin(), &mut sheets)?;
+    run(&rt, &sheets[..n])
 }
