@@ -79,10 +79,13 @@ pub fill_runs-requires : goal.fill_runs-requires
 fill_runs-requires c =
     let j = c.before in
     let e = j in
-    let g = collection_good _ (good (judged e.before.before.before.before)) in record { weights_len_bound = omega (arith, g.counted, g.shape.letters_high); weights_in_bounds = (
+    let g = collection_good _ (good (judged e.before.before.before.before)) in record {
+      weights_len_bound = omega (arith, g.counted, g.shape.letters_high);
+      weights_in_bounds = (
         room_good _ _ (room-weights e.before.before.before.before.before ∙ e.in_default-b.is),
         room_good _ _ (room-firsts j.before.before.before ∙ c.in_default-c.is),
-      ) }
+      );
+    }
 
 pub returns : goal.returns
 unfolding runs_of runs_verdict

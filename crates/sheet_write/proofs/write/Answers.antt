@@ -12,13 +12,16 @@ returns-in-Bad c =
     c.in-Bad.is
 
 pub put_sheet-n-requires : goal.put_sheet-n-requires
-put_sheet-n-requires c = record { passes = (let j = c.before in
-    let g = j in
-    write-ready (collection g.args.k g.args.letters.now g.args.ends.now g.args.weights.now) g.args.sheet.now j.judge_write-v.ensures
-    c.in_default.is).0; weights_in_bounds = (let j = c.before in
-    let g = j in
-    write-ready (collection g.args.k g.args.letters.now g.args.ends.now g.args.weights.now) g.args.sheet.now j.judge_write-v.ensures
-    c.in_default.is).1 }
+put_sheet-n-requires c = record {
+  passes = (let j = c.before in
+      let g = j in
+      write-ready (collection g.args.k g.args.letters.now g.args.ends.now g.args.weights.now) g.args.sheet.now j.judge_write-v.ensures
+      c.in_default.is).0;
+  weights_in_bounds = (let j = c.before in
+      let g = j in
+      write-ready (collection g.args.k g.args.letters.now g.args.ends.now g.args.weights.now) g.args.sheet.now j.judge_write-v.ensures
+      c.in_default.is).1;
+}
 
 pub returns : goal.returns
 returns c =

@@ -13,5 +13,8 @@ pub returns : goal.returns
 unfolding report_of text_of
 returns c =
     let w = c.before in
-    let t = w in record { text_after = w.write_summary.ensures.text_after
-          ∙ ap (λ (s : Summary). written_of (text_for s) t.args.text.now) t.tell-s.ensures; sheet_len_bound = subst (λ (s : Summary). length (text_for s) ≤ 247) t.tell-s.ensures w.write_summary.ensures.summary_len_bound }
+    let t = w in record {
+      text_after = w.write_summary.ensures.text_after
+          ∙ ap (λ (s : Summary). written_of (text_for s) t.args.text.now) t.tell-s.ensures;
+      sheet_len_bound = subst (λ (s : Summary). length (text_for s) ≤ 247) t.tell-s.ensures w.write_summary.ensures.summary_len_bound;
+    }

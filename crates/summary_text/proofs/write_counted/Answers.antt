@@ -33,5 +33,8 @@ returns c =
     let y = z in
     let x = y in
     let n = counted-length x.args.n x.numbers_length-a.ensures.0 y.numbers_length-b.ensures.0 z.numbers_length-c.ensures.0 in
-    let p = c.before in record { text_after = written-done _ _ n j.judge_room-v.ensures e.in_default.is p.put_counted-bytes.ensures.0
-          p.put_counted-bytes.ensures.1; n_len_bound = omega (arith, n, x.numbers_length-a.ensures.1, y.numbers_length-b.ensures.1, z.numbers_length-c.ensures.1) }
+    let p = c.before in record {
+      text_after = written-done _ _ n j.judge_room-v.ensures e.in_default.is p.put_counted-bytes.ensures.0
+          p.put_counted-bytes.ensures.1;
+      n_len_bound = omega (arith, n, x.numbers_length-a.ensures.1, y.numbers_length-b.ensures.1, z.numbers_length-c.ensures.1);
+    }

@@ -30,5 +30,8 @@ returns c =
     let y = j in
     let x = y in
     let n = refused_length _ _ x.digit_count-a.ensures.0 y.digit_count-b.ensures.0 in
-    let p = c.before in record { text_after = written-done _ _ n j.judge_room-v.ensures e.in_default.is p.put_refused-n.ensures.0
-          p.put_refused-n.ensures.1; place_len_bound = omega (arith, n, x.digit_count-a.ensures.1, y.digit_count-b.ensures.1) }
+    let p = c.before in record {
+      text_after = written-done _ _ n j.judge_room-v.ensures e.in_default.is p.put_refused-n.ensures.0
+          p.put_refused-n.ensures.1;
+      place_len_bound = omega (arith, n, x.digit_count-a.ensures.1, y.digit_count-b.ensures.1);
+    }

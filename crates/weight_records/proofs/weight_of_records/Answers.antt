@@ -15,13 +15,12 @@ pub loop-i-init : goal.loop-i-init
 loop-i-init c = (omega arith, c.start-s.ensures ∙ sym (after_none _ _))
 
 pub loop-i-preserved : goal.loop-i-preserved
-loop-i-preserved c =
-    (
-      omega arith,
-      c.step-s.ensures
+loop-i-preserved c = (
+  omega arith,
+  c.step-s.ensures
       ∙ (ap (λ (s : State). stepped s (get_or c.args.runs.now c.loop-i.i zeros)) c.loop-i.invariant.1
       ∙ sym (after_next (started c.args.n c.args.handle) c.args.runs.now c.loop-i.i c.loop-i-test.true)),
-    )
+)
 
 pub returns : goal.returns
 returns c =

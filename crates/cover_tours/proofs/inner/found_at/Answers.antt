@@ -33,7 +33,7 @@ not-here : (c : Place-Joined1)
     a.e < 4 * a.m → near a.m (tables a.m a.work.now).verts (get_or (tables a.m a.work.now).rows a.e 0) ≡ a.v → ⊥
 not-here c l q =
     elim c.if-e-m.branch [
-      then-e-m+else-x-v w ↦ w.if-x-v.false (w.near-x.ensures ∙ (ap (near _ _) (w.wide-c.ensures ∙ row_at _ _ _ l) ∙ q))
+      | then-e-m+else-x-v w ↦ w.if-x-v.false (w.near-x.ensures ∙ (ap (near _ _) (w.wide-c.ensures ∙ row_at _ _ _ l) ∙ q))
       | else-e-m w ↦ omega arith
     ]
 
@@ -41,7 +41,7 @@ not-here c l q =
 not_own : (c : Place-Joined3) → let a = c.args in a.v < 2 * a.m → get_or (tables a.m a.work.now).used (a.m + a.v) 0 ≡ 0 → ⊥
 not_own c l z =
     elim c.if-v-m.branch [
-      then-v-m+else-work-m-eq0 w ↦ w.if-work-m-eq0.false (own-flag _ _ _ l ∙ z)
+      | then-v-m+else-work-m-eq0 w ↦ w.if-work-m-eq0.false (own-flag _ _ _ l ∙ z)
       | else-v-m w ↦ omega arith
     ]
 

@@ -26,10 +26,13 @@ returns-then-work-m-ne0 c =
 
 pub walk-start-requires : goal.walk-start-requires
 walk-start-requires c =
-    let p = (start c).requires in record { fits = (
+    let p = (start c).requires in record {
+      fits = (
         p.fits.0,
         rw c.near-s.ensures (at-vertex p.walks_le_i.1 _ p.fits.1 (sym (used_at _ _ _ (omega (arith, p.fits.1))) ∙ c.if-work-m-ne0.false)),
-      ); ready = p.walks_le_i.1.ready }
+      );
+      ready = p.walks_le_i.1.ready;
+    }
 
 pub returns : goal.returns
 returns c =

@@ -52,8 +52,12 @@ blank-requires c = fits-same (start-from-blank c.before).requires.1 (omega arith
 
 pub mark_odd-requires : goal.mark_odd-requires
 mark_odd-requires c =
-    let p = (start-from-name-vertices (after-name-vertices c.before).before).requires in record { fits = fits-same p.1 (omega arith); all = blank_low (omega (arith, p.1.size)) (after-order-ends c.before).order_ends.ensures (after-name-vertices c.before).name_vertices.ensures
-            c.blank.ensures; work_value = c.blank.ensures.even }
+    let p = (start-from-name-vertices (after-name-vertices c.before).before).requires in record {
+      fits = fits-same p.1 (omega arith);
+      all = blank_low (omega (arith, p.1.size)) (after-order-ends c.before).order_ends.ensures (after-name-vertices c.before).name_vertices.ensures
+          c.blank.ensures;
+      work_value = c.blank.ensures.even;
+    }
 
 pub returns : goal.returns
 returns c =

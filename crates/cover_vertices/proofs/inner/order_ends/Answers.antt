@@ -38,10 +38,14 @@ sort_by_weight-requires c =
     let p = s.requires in
     let a = s.args in
     let f = p.1 in
-    let l = length_keys a.k a.ends.now a.weights.now in record { laid = laid (length a.ends.now) _ f.few (omega (arith, f.size)); all = ids-low (all_end_weights (ends_from a.k 0 a.ends.now a.weights.now)) f l write-weights.ensures
-            c.write_ladder.ensures (omega arith); all_2 = subst (All (λ k. k < 16777216)) (sym (keys-then (all_end_weights (ends_from a.k 0 a.ends.now a.weights.now)) f l
-            write-weights.ensures c.write_ladder.ensures (omega arith)))
-            (keys_low a.k a.ends.now a.weights.now p.0) }
+    let l = length_keys a.k a.ends.now a.weights.now in record {
+      laid = laid (length a.ends.now) _ f.few (omega (arith, f.size));
+      all = ids-low (all_end_weights (ends_from a.k 0 a.ends.now a.weights.now)) f l write-weights.ensures
+          c.write_ladder.ensures (omega arith);
+      all_2 = subst (All (λ k. k < 16777216)) (sym (keys-then (all_end_weights (ends_from a.k 0 a.ends.now a.weights.now)) f l
+          write-weights.ensures c.write_ladder.ensures (omega arith)))
+          (keys_low a.k a.ends.now a.weights.now p.0);
+    }
 
 pub returns : goal.returns
 returns c =

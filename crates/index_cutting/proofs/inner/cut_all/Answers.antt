@@ -32,17 +32,21 @@ cut_string-o-requires c =
     let i = l.loop-i.invariant in
     let t = u.loop-i-test.true in
     let e = next-string i.strings t in
-    let d = r.ready.few_letters in record { letters_value = r.ready.all_letters; le_p = (
-          p.0,
-          p.1,
-          p.2,
-          r.ready.ends_long.k_high,
-          omega (arith, e.long),
-          omega (arith, e.long, e.inside),
-          d,
-          omega (arith, e.long, e.inside, i.strings.few, i.few, p.0, p.2, d),
-          omega (arith, e.long, e.inside, i.strings.few, i.few, d),
-        ); room4 = passed-room i t }
+    let d = r.ready.few_letters in record {
+      letters_value = r.ready.all_letters;
+      le_p = (
+        p.0,
+        p.1,
+        p.2,
+        r.ready.ends_long.k_high,
+        omega (arith, e.long),
+        omega (arith, e.long, e.inside),
+        d,
+        omega (arith, e.long, e.inside, i.strings.few, i.few, p.0, p.2, d),
+        omega (arith, e.long, e.inside, i.strings.few, i.few, d),
+      );
+      room4 = passed-room i t;
+    }
 
 pub overflow_add-h : goal.overflow_add-h
 overflow_add-h c =

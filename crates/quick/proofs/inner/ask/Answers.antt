@@ -16,14 +16,17 @@ walk_row-met-requires c =
 pub ask_turned-requires : goal.ask_turned-requires
 ask_turned-requires c =
     let p = c.requires in
-    let r = p.row in record { askable = (
+    let r = p.row in record {
+      askable = (
         p.askable,
         omega (
           arith,
           miss_counts _ _ _ _ (sym c.walk_row-met.ensures ∙ c.in-Miss.is),
           row_short _ _ _ _ r.fits r.alike.few,
         ),
-      ); row = p.row_2 }
+      );
+      row = p.row_2;
+    }
 
 pub returns-in-Hit : goal.returns-in-Hit
 returns-in-Hit c = asked-hit _ _ _ _ _ _ _ c.walk_row-met.ensures c.in-Hit.is

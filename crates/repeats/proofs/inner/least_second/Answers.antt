@@ -41,7 +41,7 @@ loop-i-preserved c =
     let i = l.i in
     let test : Bool → Bool = λ (t : Bool). ltb (id_at n w₀ i) l.least && t in
     elim c.if-y-least.branch [
-      then-y-least w ↦ (
+      | then-y-least w ↦ (
         omega arith,
         subst (Least (held_at n w₀) (id_at n w₀) n s.args.m (i + 1)) (sym w.least-is)
             (least-take (held_at n w₀) (id_at n w₀) n s.args.m i l.least l.invariant.0 u.loop-i-test.true l.invariant.1

@@ -97,6 +97,9 @@ returns c =
     let st = start c.before.before in
     let a = st.args in
     let p = st.requires in
-    let s = l.invariant in record { weights_filled = stored (restated (ap (map (λ r. r.0)) (later_end l.w a.weights.now l.i c.loop-i-test.false)) s.1)
-          ∙ column_stored (λ r. r.0) a.weights.now a.run_weights.now if1.false (room_some a.weights.now _ if1.false p.weights_in_bounds.0); firsts_filled = stored (restated (ap (map (λ r. r.1)) (later_end l.w a.weights.now l.i c.loop-i-test.false)) s.2)
-          ∙ column_stored (λ r. r.1) a.weights.now a.run_firsts.now if1.false (room_some a.weights.now _ if1.false p.weights_in_bounds.1) }
+    let s = l.invariant in record {
+      weights_filled = stored (restated (ap (map (λ r. r.0)) (later_end l.w a.weights.now l.i c.loop-i-test.false)) s.1)
+          ∙ column_stored (λ r. r.0) a.weights.now a.run_weights.now if1.false (room_some a.weights.now _ if1.false p.weights_in_bounds.0);
+      firsts_filled = stored (restated (ap (map (λ r. r.1)) (later_end l.w a.weights.now l.i c.loop-i-test.false)) s.2)
+          ∙ column_stored (λ r. r.1) a.weights.now a.run_firsts.now if1.false (room_some a.weights.now _ if1.false p.weights_in_bounds.1);
+    }

@@ -20,16 +20,20 @@ number_ids-requires c =
     ids-few _ _ g.requires.0 g.requires.1 y.copy_weights.ensures
 
 pub sort_by_weight-requires : goal.sort_by_weight-requires
-sort_by_weight-requires c = record { laid = (let w = c.before in
-    let y = w in
-    let g = y in
-    ready _ _ g.requires.0 g.requires.1 y.copy_weights.ensures w.number_ids.ensures).0; all = (let w = c.before in
-    let y = w in
-    let g = y in
-    ready _ _ g.requires.0 g.requires.1 y.copy_weights.ensures w.number_ids.ensures).1.0; all_2 = (let w = c.before in
-    let y = w in
-    let g = y in
-    ready _ _ g.requires.0 g.requires.1 y.copy_weights.ensures w.number_ids.ensures).1.1 }
+sort_by_weight-requires c = record {
+  laid = (let w = c.before in
+      let y = w in
+      let g = y in
+      ready _ _ g.requires.0 g.requires.1 y.copy_weights.ensures w.number_ids.ensures).0;
+  all = (let w = c.before in
+      let y = w in
+      let g = y in
+      ready _ _ g.requires.0 g.requires.1 y.copy_weights.ensures w.number_ids.ensures).1.0;
+  all_2 = (let w = c.before in
+      let y = w in
+      let g = y in
+      ready _ _ g.requires.0 g.requires.1 y.copy_weights.ensures w.number_ids.ensures).1.1;
+}
 
 pub offset_bounds-work-n-2 : goal.offset_bounds-work-n-2
 offset_bounds-work-n-2 c = omega (arith, c.requires.0.few)
