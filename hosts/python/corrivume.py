@@ -54,7 +54,7 @@ def _load() -> ctypes.CDLL:
     except OSError as error:
         raise ImportError(
             f"no shared library at {path} ({error}); make it, from the root of the repository, by "
-            "`rt staticlib exports` and then `hosts/python/build`"
+            "`hosts/library` and then `hosts/python/build`"
         ) from error
 
 

@@ -6,7 +6,7 @@ fn main() {
     let folder = Path::new(&here).join("../../target/staticlib");
     let library = folder.join("libexports.a");
     if !library.exists() {
-        panic!("{} is missing; make it, from the root of the repository, by `rt staticlib exports`", library.display());
+        panic!("{} is missing; make it, from the root of the repository, by `hosts/library`", library.display());
     }
     println!("cargo::rustc-link-search=native={}", folder.display());
     println!("cargo::rustc-link-lib=static=exports");

@@ -16,24 +16,17 @@ use Rattle.plain.proofs.plain.Reads as reads
 abbrev Place-After-enum_told : Type 0
 Place-After-enum_told = lts.Past-After-enum_told tie.the-claims reads.Pre reads.Post tie.handed_clauses
 
-abbrev Place-Start : Type 0
-Place-Start = lts.Start tie.the-claims reads.Pre reads.Post tie.handed_clauses
-
 abbrev Place-After-enum_told2 : Type 0
 Place-After-enum_told2 = lts.Past-After-enum_told2 tie.the-claims reads.Pre reads.Post tie.handed_clauses
 
--- the start, seen from where the collection is judged good
-abbrev start : Place-After-enum_told → Place-Start
-start c = c.before.before.before.before.before.before
-
 -- the collection is judged good, and then the word
 good : (c : Place-After-enum_told)
-    → let a = (start c).args in
+    → let a = c.args in
     collection_verdict (collection a.k a.letters.now a.ends.now a.weights.now) ≡ Good
 good c = sym c.judge_collection-a.ensures ∙ c.in_default.is
 
 good-word : (c : Place-After-enum_told2)
-    → let a = (start c.before.before).args in
+    → let a = c.args in
     word_verdict a.k a.word.now ≡ Good
 good-word c = sym c.judge_word-b.ensures ∙ c.in_default-b.is
 

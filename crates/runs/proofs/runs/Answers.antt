@@ -20,39 +20,26 @@ use Rattle.runs.proofs.runs.Reads as reads
 abbrev Place-After-enum_told : Type 0
 Place-After-enum_told = lts.Past-After-enum_told tie.the-claims reads.Pre reads.Post tie.handed_clauses
 
-abbrev Place-Start : Type 0
-Place-Start = lts.Start tie.the-claims reads.Pre reads.Post tie.handed_clauses
-
-abbrev Place-After-enum_told2 : Type 0
-Place-After-enum_told2 = lts.Past-After-enum_told2 tie.the-claims reads.Pre reads.Post tie.handed_clauses
-
 abbrev Place-After-judge_room : Type 0
 Place-After-judge_room = lts.After-judge_room tie.the-claims reads.Pre reads.Post tie.handed_clauses
 
 abbrev Place-After-judge_room2 : Type 0
 Place-After-judge_room2 = lts.After-judge_room2 tie.the-claims reads.Pre reads.Post tie.handed_clauses
 
--- the start, seen from where the collection is judged good; that place, seen from where the first table is
-abbrev start : Place-After-enum_told → Place-Start
-start c = c.before.before.before.before.before.before.before
-
-abbrev judged : Place-After-enum_told2 → Place-After-enum_told
-judged c = c.before.before.before
-
 -- the collection is judged good
 good : (c : Place-After-enum_told)
-    → let a = (start c).args in
+    → let a = c.args in
     collection_verdict (collection a.k a.letters.now a.ends.now a.weights.now) ≡ Good
 good c = sym c.judge_collection-a.ensures ∙ c.in_default.is
 
 -- what the judgements of the two tables' rooms gave: each is asked for as many entries as there are runs
 room-weights : (c : Place-After-judge_room)
-    → let a = (start c.before.before).args in
+    → let a = c.args in
     room_verdict (length a.run_weights.now) (run_count a.weights.now) ≡ c.judge_room-b.result
 room-weights c = sym (c.judge_room-b.ensures ∙ ap (room_verdict _) c.count_runs-n.ensures)
 
 room-firsts : (c : Place-After-judge_room2)
-    → let a = (start (judged c.before)).args in
+    → let a = c.args in
     room_verdict (length a.run_firsts.now) (run_count a.weights.now) ≡ c.judge_room-c.result
 room-firsts c = sym (c.judge_room-c.ensures ∙ ap (room_verdict _) c.count_runs-n.ensures)
 
@@ -72,14 +59,14 @@ returns-in-Bad-c c =
     let j = c.before in
     let e = j in
     refused _ _
-    (then_good _ (good (judged e.before.before))
+    (then_good _ (good e.before.before.before.before.before)
     (then_good _ (room-weights e.before.before.before ∙ e.in_default-b.is) (room-firsts j.before ∙ c.in-Bad-c.is)))
 
 pub fill_runs-requires : goal.fill_runs-requires
 fill_runs-requires c =
     let j = c.before in
     let e = j in
-    let g = collection_good _ (good (judged e.before.before.before.before)) in record {
+    let g = collection_good _ (good e.before.before.before.before.before.before.before) in record {
       weights_len_bound = omega (arith, g.counted, g.shape.letters_high);
       weights_in_bounds = (
         room_good _ _ (room-weights e.before.before.before.before.before ∙ e.in_default-b.is),
@@ -95,5 +82,5 @@ returns c =
     let j = d in
     let e = j in
     settled _ (λ x. outcome (Filled (e.count_runs-n.ensures x)) (f.fill_runs.ensures.weights_filled x) (f.fill_runs.ensures.firsts_filled x))
-    (then_good _ (good (judged e.before.before.before.before.before.before.before.before.before))
+    (then_good _ (good e.before.before.before.before.before.before.before.before.before.before.before.before)
     (then_good _ (room-weights e.before.before.before.before.before.before.before.before.before.before ∙ e.in_default-b.is) (room-firsts j.before.before.before.before.before.before.before.before ∙ d.in_default-c.is)))

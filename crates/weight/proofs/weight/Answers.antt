@@ -7,19 +7,6 @@ use Rattle.weight.specs.Weight.{weight_answer}
 use Rattle.weight.proofs.RunLists.{list_verdict_good}
 use borrow.Author.Rules.{rules}
 use Rattle.weight.proofs.weight.Goals as goal
-use Rattle.weight.proofs.weight.Lts as lts
-use Rattle.weight.proofs.weight.Tie as tie
-use Rattle.weight.proofs.weight.Reads as reads
-
-abbrev Place-After-enum_told2 : Type 0
-Place-After-enum_told2 = lts.Past-After-enum_told2 tie.the-claims reads.Pre reads.Post
-
-abbrev Place-After-judge_run_list : Type 0
-Place-After-judge_run_list = lts.After-judge_run_list tie.the-claims reads.Pre reads.Post
-
--- what `judge_run_list` gave, seen from where the second judgement is good
-abbrev after-judge-run-list : Place-After-enum_told2 → Place-After-judge_run_list
-after-judge-run-list c = c.before.before.before
 
 pub returns-in-Bad : goal.returns-in-Bad
 unfolding weight_answer
@@ -36,7 +23,7 @@ pub weight_at-w-requires : goal.weight_at-w-requires
 weight_at-w-requires c =
     let h = handle_good _ _ (sym c.judge_handle-b.ensures ∙ c.in_default-b.is) in
     record {
-      list = (list_verdict_good _ _ _ (sym (after-judge-run-list c.before).judge_run_list-a.ensures ∙ c.in_default.is)).1;
+      list = (list_verdict_good _ _ _ (sym c.judge_run_list-a.ensures ∙ c.in_default.is)).1;
       low = h.0;
       high = h.1;
     }

@@ -12,37 +12,23 @@ use Rattle.apply_places.proofs.inner.mark_places.Lts as lts
 use Rattle.apply_places.proofs.inner.mark_places.Tie as tie
 use Rattle.apply_places.proofs.inner.mark_places.Reads as reads
 
-abbrev Place-At-loop : Type 0
-Place-At-loop = lts.At-loop tie.the-claims reads.Pre reads.Post goal.the-invariant-loop-i goal.the-decreases-loop-i
-
-abbrev Place-Start : Type 0
-Place-Start = lts.Start tie.the-claims reads.Pre reads.Post goal.the-invariant-loop-i goal.the-decreases-loop-i
-
 abbrev Place-After-size_of : Type 0
 Place-After-size_of = lts.After-size_of tie.the-claims reads.Pre reads.Post goal.the-invariant-loop-i goal.the-decreases-loop-i
 
--- the start, seen from the loop
-abbrev start : Place-At-loop → Place-Start
-start c = c.before.before
-
--- a turn of the loop, seen from where the size of the string's place is known
-abbrev turn : Place-After-size_of → Place-At-loop
-turn c = c.before.before.before
-
 -- that size, without what memory and the call make of the place
 size : (c : Place-After-size_of)
-    → c.size_of-a.result ≡ nat_abs (get_or (start (turn c)).args.signed.now (turn c).loop-i.i (pos 0))
-size c = c.size_of-a.ensures ∙ ap nat_abs (kept (get_or (start (turn c)).args.signed.now (turn c).loop-i.i (pos 0)) c.p-1.given)
+    → c.size_of-a.result ≡ nat_abs (get_or c.args.signed.now c.loop-i.i (pos 0))
+size c = c.size_of-a.ensures ∙ ap nat_abs (kept (get_or c.args.signed.now c.loop-i.i (pos 0)) c.p-1.given)
 
 pub loop-i-init : goal.loop-i-init
 loop-i-init c = marking_begins _ _ c.requires.2
 
 pub shape_of-work-then-a-eq0 : goal.shape_of-work-then-a-eq0
-shape_of-work-then-a-eq0 c = (turn c.before).loop-i.invariant.size
+shape_of-work-then-a-eq0 c = c.loop-i.invariant.size
 
 pub returns-then-a-eq0 : goal.returns-then-a-eq0
 returns-then-a-eq0 c =
-    let l = (turn c.before).loop-i in
+    let l = c.loop-i in
     record {
       first = marking-stops l.invariant c.loop-i-test.true _ (size c.before) (bad-zero _ _ _ c.if-a-eq0.true);
       size = l.invariant.size;
@@ -51,12 +37,12 @@ returns-then-a-eq0 c =
     }
 
 pub shape_of-work-then-m-a : goal.shape_of-work-then-m-a
-shape_of-work-then-m-a c = (turn c.before.before).loop-i.invariant.size
+shape_of-work-then-m-a c = c.loop-i.invariant.size
 
 pub returns-then-m-a : goal.returns-then-m-a
 returns-then-m-a c =
     let s = c in
-    let l = (turn s.before.before).loop-i in
+    let l = s.loop-i in
     record {
       first = marking-stops l.invariant s.loop-i-test.true _ (size s.before.before) (bad-high _ _ _ c.if-a-eq0.false c.if-m-a.true);
       size = l.invariant.size;
@@ -66,16 +52,16 @@ returns-then-m-a c =
 
 pub bounds-work-a : goal.bounds-work-a
 bounds-work-a c =
-    let t = turn c.before.before.before.before in
-    omega (arith, t.loop-i.invariant.size, (start t).requires.1)
+    let t = c.before in
+    omega (arith, t.loop-i.invariant.size, t.requires.1)
 
 pub shape_of-work-then-work-a-ne0 : goal.shape_of-work-then-work-a-ne0
-shape_of-work-then-work-a-ne0 c = (turn c.before.before.before.before.before).loop-i.invariant.size
+shape_of-work-then-work-a-ne0 c = c.loop-i.invariant.size
 
 pub returns-then-work-a-ne0 : goal.returns-then-work-a-ne0
 returns-then-work-a-ne0 c =
     let s = c.before in
-    let l = (turn s.before.before.before.before).loop-i in
+    let l = s.loop-i in
     let u = marking-used l.invariant s.loop-i-test.true _ (size s.before.before.before.before) c.if-a-eq0.false c.if-m-a.false
     c.if-work-a-ne0.true in
     record {
@@ -87,15 +73,15 @@ returns-then-work-a-ne0 c =
 
 pub bounds-work-a-in-loop-i : goal.bounds-work-a-in-loop-i
 bounds-work-a-in-loop-i c =
-    let t = turn c.before.before.before.before in
-    omega (arith, t.loop-i.invariant.size, (start t).requires.1)
+    let t = c in
+    omega (arith, t.loop-i.invariant.size, t.requires.1)
 
 pub loop-i-preserved : goal.loop-i-preserved
 loop-i-preserved c =
     let s = c in
-    let l = (turn s.before.before.before.before).loop-i in
+    let l = s.loop-i in
     marking-next l.invariant s.loop-i-test.true _ (size s.before.before.before.before) c.if-a-eq0.false c.if-m-a.false
-    (omega (arith, l.invariant.size, (start (turn s.before.before.before.before)).requires.1)) c.if-work-a-ne0.false s.loop-i-test.true
+    (omega (arith, l.invariant.size, s.requires.1)) c.if-work-a-ne0.false s.loop-i-test.true
 
 pub shape_of-work : goal.shape_of-work
 shape_of-work c = c.loop-i.invariant.size

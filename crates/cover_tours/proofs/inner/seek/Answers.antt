@@ -14,60 +14,43 @@ use Rattle.cover_tours.proofs.inner.seek.Lts as lts
 use Rattle.cover_tours.proofs.inner.seek.Tie as tie
 use Rattle.cover_tours.proofs.inner.seek.Reads as reads
 
-abbrev Place-At-loop : Type 0
-Place-At-loop = lts.At-loop tie.the-claims reads.Pre reads.Post goal.the-invariant-loop-e goal.the-decreases-loop-e tie.handed_clauses
-
-abbrev Place-Start : Type 0
-Place-Start = lts.Start tie.the-claims reads.Pre reads.Post goal.the-invariant-loop-e goal.the-decreases-loop-e tie.handed_clauses
-
-abbrev Place-After-near : Type 0
-Place-After-near = lts.After-near tie.the-claims reads.Pre reads.Post goal.the-invariant-loop-e goal.the-decreases-loop-e tie.handed_clauses
-
 abbrev Place-After-wide : Type 0
 Place-After-wide = lts.After-wide tie.the-claims reads.Pre reads.Post goal.the-invariant-loop-e goal.the-decreases-loop-e tie.handed_clauses
 
-abbrev Place-After-shared_slice_known3 : Type 0
-Place-After-shared_slice_known3 = lts.After-shared_slice_known3 tie.the-claims reads.Pre reads.Post goal.the-invariant-loop-e goal.the-decreases-loop-e tie.handed_clauses
-
--- the start, seen from the loop
-abbrev start-from-loop : Place-At-loop → Place-Start
-start-from-loop c = c.before.before
-
--- a turn of the loop, seen from behind `near`
-abbrev turn : Place-After-near → Place-At-loop
-turn c = c.before.before.before.before
+abbrev Place-Else1 : Type 0
+Place-Else1 = lts.Else1 tie.the-claims reads.Pre reads.Post goal.the-invariant-loop-e goal.the-decreases-loop-e tie.handed_clauses
 
 -- the half at e, which is one of the table
 half : (c : Place-After-wide)
-    → let a = (start-from-loop c.before.before.before).args in
+    → let a = c.args in
     c.wide-c.result ≡ get_or (tables a.m a.work.now).rows c.loop-e.e 0
 half c = c.wide-c.ensures ∙ row_at _ _ _ c.loop-e-test.true
 
-half-low : (c : Place-After-wide) → c.wide-c.result < 6 * (start-from-loop c.before.before.before).args.m
+half-low : (c : Place-After-wide) → c.wide-c.result < 6 * c.args.m
 half-low c =
-    let s = start-from-loop c.before.before.before in
+    let s = c in
     subst (λ (h : ℕ). h < 6 * s.args.m) (sym (half c)) (s.requires.graph.rows_low _ c.loop-e-test.true)
 
 -- its flag
-flag : (c : Place-After-shared_slice_known3)
-    → let t = turn c.before.before in
-    let a = (start-from-loop t).args in
+flag : (c : Place-Else1)
+    → let t = c in
+    let a = t.args in
     let now = tables a.m a.work.now in
     get_or now.used (get_or now.rows t.loop-e.e 0 / 2) 0 ≡ get_or a.work.now (2 * a.m + c.wide-c.result / 2) 0
 flag c =
-    let a = (start-from-loop (turn c.before.before)).args in
-    ap (λ (x : ℕ). get_or (tables a.m a.work.now).used (x / 2) 0) (sym (half c.before.before.before))
-    ∙ sym (used_at _ _ _ (omega (arith, half-low c.before.before.before)))
+    let a = c.args in
+    ap (λ (x : ℕ). get_or (tables a.m a.work.now).used (x / 2) 0) (sym (half c.before.before))
+    ∙ sym (used_at _ _ _ (omega (arith, half-low c.before.before)))
 
 pub loop-e-init : goal.loop-e-init
 loop-e-init c = (omega arith, c.requires.fits.1, record { all_used = λ q k l z. omega arith })
 
 pub overflow_mul-m : goal.overflow_mul-m
-overflow_mul-m c = omega (arith, (start-from-loop c.before).requires.fits.0.few)
+overflow_mul-m c = omega (arith, c.requires.fits.0.few)
 
 pub returns-then-x-v : goal.returns-then-x-v
 returns-then-x-v c =
-    let l = (turn c.before.before).loop-e in
+    let l = c.loop-e in
     record {
       low = l.invariant.0;
       high = l.invariant.1;
@@ -76,29 +59,29 @@ returns-then-x-v c =
     }
 
 pub overflow_mul-m-in-loop-e-2 : goal.overflow_mul-m-in-loop-e-2
-overflow_mul-m-in-loop-e-2 c = omega (arith, (start-from-loop (turn c.before.before)).requires.fits.0.few, half-low c.before.before.before)
+overflow_mul-m-in-loop-e-2 c = omega (arith, c.requires.fits.0.few, half-low c.before.before.before)
 
 pub overflow_add-m-in-loop-e : goal.overflow_add-m-in-loop-e
-overflow_add-m-in-loop-e c = omega (arith, (start-from-loop (turn c.before.before)).requires.fits.0.few, half-low c.before.before.before)
+overflow_add-m-in-loop-e c = omega (arith, c.requires.fits.0.few, half-low c.before.before.before)
 
 pub offset_bounds-work-m-in-loop-e : goal.offset_bounds-work-m-in-loop-e
-offset_bounds-work-m-in-loop-e c = omega (arith, (start-from-loop (turn c.before.before)).requires.fits.0.few, half-low c.before.before.before)
+offset_bounds-work-m-in-loop-e c = omega (arith, c.requires.fits.0.few, half-low c.before.before.before)
 
 pub bounds-work-m-in-loop-e : goal.bounds-work-m-in-loop-e
-bounds-work-m-in-loop-e c = omega (arith, (start-from-loop (turn c.before.before.before)).requires.fits.0.size, half-low c.before.before.before.before)
+bounds-work-m-in-loop-e c = omega (arith, c.requires.fits.0.size, half-low c.before.before.before.before)
 
 pub returns-then-work-m-eq0 : goal.returns-then-work-m-eq0
 returns-then-work-m-eq0 c =
-    let l = (turn c.before.before.before.before).loop-e in
+    let l = c.loop-e in
     record {
       low = l.invariant.0;
       high = l.invariant.1;
       passed = l.invariant.2;
-      stop = λ l q. flag c.before.before ∙ c.if-work-m-eq0.true;
+      stop = λ l q. flag c.before.before.before ∙ c.if-work-m-eq0.true;
     }
 
 pub loop-e-preserved : goal.loop-e-preserved
-loop-e-preserved c = (omega arith, omega arith, passed_more (turn c.before.before.before.before).loop-e.invariant.2 (λ z. c.if-work-m-eq0.false (sym (flag c.before.before) ∙ z)))
+loop-e-preserved c = (omega arith, omega arith, passed_more c.loop-e.invariant.2 (λ z. c.if-work-m-eq0.false (sym (flag c.before.before.before) ∙ z)))
 
 pub returns : goal.returns
 returns c = record { low = c.loop-e.invariant.0; high = c.loop-e.invariant.1; passed = c.loop-e.invariant.2; stop = λ l q. absurd (omega arith) }

@@ -9,67 +9,50 @@ use Rattle.cover_vertices.proofs.inner.mark_odd.Lts as lts
 use Rattle.cover_vertices.proofs.inner.mark_odd.Tie as tie
 use Rattle.cover_vertices.proofs.inner.mark_odd.Reads as reads
 
-abbrev Place-At-loop : Type 0
-Place-At-loop = lts.At-loop tie.the-claims reads.Pre reads.Post goal.the-invariant-loop-c goal.the-decreases-loop-c tie.handed_clauses
-
-abbrev Place-Start : Type 0
-Place-Start = lts.Start tie.the-claims reads.Pre reads.Post goal.the-invariant-loop-c goal.the-decreases-loop-c tie.handed_clauses
-
-abbrev Place-After-slice_known3 : Type 0
-Place-After-slice_known3 = lts.After-slice_known3 tie.the-claims reads.Pre reads.Post goal.the-invariant-loop-c goal.the-decreases-loop-c tie.handed_clauses
-
 abbrev Place-After-wide : Type 0
 Place-After-wide = lts.After-wide tie.the-claims reads.Pre reads.Post goal.the-invariant-loop-c goal.the-decreases-loop-c tie.handed_clauses
 
--- the start, seen from the loop
-abbrev start : Place-At-loop → Place-Start
-start c = c.before.before
-
--- a turn of the loop, seen from the end of a turn
-abbrev turn : Place-After-slice_known3 → Place-At-loop
-turn c = c.before.before.before.before
-
 -- the vertex of this turn's end, and its flag, are in the table
-vertex : (c : Place-After-wide) → c.wide.result < 2 * (start c.before.before.before).args.m
+vertex : (c : Place-After-wide) → c.wide.result < 2 * c.args.m
 vertex c =
-    let s = start c.before.before.before in
+    let s = c in
     omega (arith, vertex-low s.requires.fits s.requires.all c.loop-c.invariant c.loop-c-test.true, c.wide.ensures)
 
-flag : (c : Place-After-wide) → 3 * (start c.before.before.before).args.m + c.wide.result < length c.loop-c.work
-flag c = omega (arith, vertex c, (start c.before.before.before).requires.fits.size, c.loop-c.invariant.rest.size)
+flag : (c : Place-After-wide) → 3 * c.args.m + c.wide.result < length c.loop-c.work
+flag c = omega (arith, vertex c, c.requires.fits.size, c.loop-c.invariant.rest.size)
 
 pub loop-c-init : goal.loop-c-init
 loop-c-init c = marking_start _ _ c.requires.work_value
 
 pub overflow_add-at : goal.overflow_add-at
-overflow_add-at c = omega (arith, vertex c.before, (start c.before.before.before.before).requires.fits.few)
+overflow_add-at c = omega (arith, vertex c.before, c.requires.fits.few)
 
 pub offset_bounds-work-at : goal.offset_bounds-work-at
-offset_bounds-work-at c = omega (arith, vertex c.before, (start c.before.before.before.before).requires.fits.few)
+offset_bounds-work-at c = omega (arith, vertex c.before, c.requires.fits.few)
 
 pub bounds-work-at : goal.bounds-work-at
 bounds-work-at c = flag c.before.before
 
 pub overflow_sub-work : goal.overflow_sub-work
 overflow_sub-work c =
-    let t = turn c in
-    let p = (start t).requires in
+    let t = c in
+    let p = t.requires in
     flag-low p.fits p.all t.loop-c.invariant c.loop-c-test.true _ c.wide.ensures
 
 pub offset_bounds-work-at-in-loop-c : goal.offset_bounds-work-at-in-loop-c
-offset_bounds-work-at-in-loop-c c = omega (arith, vertex c.before, (start (turn c)).requires.fits.few)
+offset_bounds-work-at-in-loop-c c = omega (arith, vertex c.before, c.requires.fits.few)
 
 pub bounds-work-at-in-loop-c : goal.bounds-work-at-in-loop-c
 bounds-work-at-in-loop-c c = flag c.before
 
 pub loop-c-preserved : goal.loop-c-preserved
 loop-c-preserved c =
-    let t = turn c in
-    let p = (start t).requires in
+    let t = c in
+    let p = t.requires in
     marking-on p.fits p.all t.loop-c.invariant c.loop-c-test.true _ c.wide.ensures
 
 pub shape_of-work : goal.shape_of-work
 shape_of-work c = c.loop-c.invariant.rest.size
 
 pub returns : goal.returns
-returns c = marking_end (start c.before).requires.fits c.loop-c.invariant c.loop-c-test.false
+returns c = marking_end c.requires.fits c.loop-c.invariant c.loop-c-test.false

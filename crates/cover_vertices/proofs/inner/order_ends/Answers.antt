@@ -10,31 +10,11 @@ use Rattle.cover_vertices.proofs.EndWeights.{length_keys}
 use Rattle.cover_vertices.proofs.Ordering.{keys_low, keys-then, ids-low, ordered, laid}
 use borrow.Author.Rules.{rules}
 use Rattle.cover_vertices.proofs.inner.order_ends.Goals as goal
-use Rattle.cover_vertices.proofs.inner.order_ends.Lts as lts
-use Rattle.cover_vertices.proofs.inner.order_ends.Tie as tie
-use Rattle.cover_vertices.proofs.inner.order_ends.Reads as reads
-
-abbrev Place-After-sort_by_weight-arg : Type 0
-Place-After-sort_by_weight-arg = lts.After-sort_by_weight-arg tie.the-claims reads.Pre reads.Post tie.handed_clauses
-
-abbrev Place-After-write_weights : Type 0
-Place-After-write_weights = lts.After-write_weights tie.the-claims reads.Pre reads.Post tie.handed_clauses
-
-abbrev Place-Start : Type 0
-Place-Start = lts.Start tie.the-claims reads.Pre reads.Post tie.handed_clauses
-
--- what `write_weights` gave, seen from the call of `sort_by_weight`
-abbrev after-write-weights : Place-After-sort_by_weight-arg → Place-After-write_weights
-after-write-weights c = c.before.before.before.before.before.before.before
-
--- the start, seen from the call of `sort_by_weight`
-abbrev start : Place-After-sort_by_weight-arg → Place-Start
-start c = c.before.before.before.before.before.before.before.before.before.before.before.before
 
 pub sort_by_weight-requires : goal.sort_by_weight-requires
 sort_by_weight-requires c =
-    let write-weights = (after-write-weights c.before).write_weights in
-    let s = start c.before in
+    let write-weights = c.write_weights in
+    let s = c.before in
     let p = s.requires in
     let a = s.args in
     let f = p.1 in
@@ -50,9 +30,9 @@ sort_by_weight-requires c =
 pub returns : goal.returns
 returns c =
     let q = c.before in
-    let s = start q.before.before.before in
+    let s = q in
     let a = s.args in
     ordered _ s.requires.1 (length_keys a.k a.ends.now a.weights.now)
-    (after-write-weights q.before.before.before).write_weights.ensures
+    q.write_weights.ensures
     q.write_ladder.ensures (omega arith) (omega arith)
     c.sort_by_weight.ensures

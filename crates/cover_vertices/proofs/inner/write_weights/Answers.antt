@@ -14,55 +14,28 @@ use Rattle.cover_vertices.proofs.inner.write_weights.Lts as lts
 use Rattle.cover_vertices.proofs.inner.write_weights.Tie as tie
 use Rattle.cover_vertices.proofs.inner.write_weights.Reads as reads
 
-abbrev Place-At-loop : Type 0
-Place-At-loop = lts.At-loop tie.the-claims reads.Pre reads.Post goal.the-invariant-loop-i goal.the-decreases-loop-i
-
-abbrev Place-Start : Type 0
-Place-Start = lts.Start tie.the-claims reads.Pre reads.Post goal.the-invariant-loop-i goal.the-decreases-loop-i
-
-abbrev Place-After-shared_slice_known4 : Type 0
-Place-After-shared_slice_known4 = lts.After-shared_slice_known4 tie.the-claims reads.Pre reads.Post goal.the-invariant-loop-i goal.the-decreases-loop-i
-
-abbrev Place-After-shared_slice_known5 : Type 0
-Place-After-shared_slice_known5 = lts.After-shared_slice_known5 tie.the-claims reads.Pre reads.Post goal.the-invariant-loop-i goal.the-decreases-loop-i
-
-abbrev Place-In-loop : Type 0
-Place-In-loop = lts.In-loop tie.the-claims reads.Pre reads.Post goal.the-invariant-loop-i goal.the-decreases-loop-i
-
 abbrev Place-After-wide : Type 0
 Place-After-wide = lts.After-wide tie.the-claims reads.Pre reads.Post goal.the-invariant-loop-i goal.the-decreases-loop-i
 
--- the start, seen from the loop
-abbrev start : Place-At-loop → Place-Start
-start c = c.before.before.before.before
-
--- a turn of the loop, seen from where the string's first weight is read
-abbrev turn-from-first : Place-After-shared_slice_known4 → Place-At-loop
-turn-from-first c = c.before.before.before.before
-
--- a turn of the loop, seen from the end of a turn
-abbrev turn-from-end : Place-After-shared_slice_known5 → Place-In-loop
-turn-from-end c = c.before.before.before.before
-
 -- the string of this turn, and its weights
 next : (c : Place-After-wide)
-    → Next (start c.before.before.before).args.k (last_end 0 (start c.before.before.before).args.ends.now)
+    → Next c.args.k (last_end 0 c.args.ends.now)
     c.loop-i.before c.wide-e.result
 next c = string-here c.loop-i.invariant.walk c.loop-i-test.true c.wide-e.ensures
 
 inside : (c : Place-After-wide)
-    → c.loop-i.passed + within (start c.before.before.before).args.k c.loop-i.before c.wide-e.result
-    ≤ length (start c.before.before.before).args.weights.now
+    → c.loop-i.passed + within c.args.k c.loop-i.before c.wide-e.result
+    ≤ length c.args.weights.now
 inside c = weights-inside c.loop-i.invariant.walk c.loop-i-test.true c.wide-e.ensures
 
 pub loop-i-init : goal.loop-i-init
 loop-i-init c = writing_start _ _ _ _ _ c.requires.0 c.requires.1
 
 pub overflow_add-n : goal.overflow_add-n
-overflow_add-n c = omega (arith, next c.before, (start c.before.before.before.before).requires.0.few_letters)
+overflow_add-n c = omega (arith, next c.before, c.requires.0.few_letters)
 
 pub overflow_add-n-in-loop-i : goal.overflow_add-n-in-loop-i
-overflow_add-n-in-loop-i c = omega (arith, next c.before, (start c.before.before.before.before).requires.0.few_letters)
+overflow_add-n-in-loop-i c = omega (arith, next c.before, c.requires.0.few_letters)
 
 pub overflow_sub-n : goal.overflow_sub-n
 overflow_sub-n c = omega (arith, next c.before)
@@ -71,7 +44,7 @@ pub bounds-weights-passed : goal.bounds-weights-passed
 bounds-weights-passed c = omega (arith, next c.before.before, inside c.before.before)
 
 pub bounds-work-at : goal.bounds-work-at
-bounds-work-at c = first-inside (turn-from-first c.before).loop-i.invariant c.loop-i-test.true c.wide-e.ensures
+bounds-work-at c = first-inside c.loop-i.invariant c.loop-i-test.true c.wide-e.ensures
 
 pub overflow_add-passed : goal.overflow_add-passed
 overflow_add-passed c = omega (arith, inside c.before.before)
@@ -88,13 +61,13 @@ bounds-weights-passed-in-loop-i c = omega (arith, next c.before.before.before, i
 pub bounds-work-at-in-loop-i : goal.bounds-work-at-in-loop-i
 bounds-work-at-in-loop-i c =
     simp length-set
-    (second-inside (turn-from-end c.before).loop-i.invariant (turn-from-end c.before).loop-i-test.true
+    (second-inside c.loop-i.invariant c.loop-i-test.true
     c.wide-e.ensures)
 
 pub loop-i-preserved : goal.loop-i-preserved
 loop-i-preserved c =
-    writing-on (turn-from-end c.before).loop-i.invariant (turn-from-end c.before).loop-i-test.true c.wide-e.ensures
-    (start (turn-from-end c.before).before).requires.0.ends_long.k_low
+    writing-on c.loop-i.invariant c.loop-i-test.true c.wide-e.ensures
+    c.requires.0.ends_long.k_low
 
 pub shape_of-work : goal.shape_of-work
 shape_of-work c = c.loop-i.invariant.storing.size_kept

@@ -15,37 +15,27 @@ use Rattle.plain.proofs.scanning.found.Lts as lts
 use Rattle.plain.proofs.scanning.found.Tie as tie
 use Rattle.plain.proofs.scanning.found.Reads as reads
 
-abbrev Place-After-word_code : Type 0
-Place-After-word_code = lts.After-word_code tie.the-claims reads.Pre reads.Post tie.handed_clauses
-
-abbrev Place-Start : Type 0
-Place-Start = lts.Start tie.the-claims reads.Pre reads.Post tie.handed_clauses
-
 abbrev Place-After-scan : Type 0
 Place-After-scan = lts.After-scan tie.the-claims reads.Pre reads.Post tie.handed_clauses
-
--- the start, seen from behind the asked word's code
-abbrev start : Place-After-word_code → Place-Start
-start c = c.before.before.before.before
 
 -- behind the pass: whether the k-mer at a position is the asked word, and whether it is the turned one
 abbrev is-asked : Place-After-scan → ℕ → Bool
 is-asked c a =
     let w = c in
-    eqb (code (word_at (start w.before.before).args.k (start w.before.before).args.letters.now a)) w.word_code-asked.result
+    eqb (code (word_at w.args.k w.args.letters.now a)) w.word_code-asked.result
 
 abbrev is_turned : Place-After-scan → ℕ → Bool
 is_turned c a =
     let w = c in
-    eqb (code (word_at (start w.before.before).args.k (start w.before.before).args.letters.now a)) c.turned_code-turned.result
+    eqb (code (word_at w.args.k w.args.letters.now a)) c.turned_code-turned.result
 
 -- what the pass tells is PLAIN's answer
 told : (c : Place-After-scan)
-    → let a = (start c.before.before).args in
+    → let a = c.args in
     answered (is-asked c) (is_turned c) c.scan-s.result ≡ plain_found (spelling a.k a.letters.now a.ends.now) (spell a.word.now)
 told c =
     let w = c in
-    let p = (start w.before.before).requires in
+    let p = w.requires in
     ap (answered (is-asked c) (is_turned c)) c.scan-s.ensures
     ∙ pass-answers p.ready _ p.word_len.0 p.word_len.1 _ _ w.word_code-asked.ensures c.turned_code-turned.ensures
 
@@ -53,10 +43,10 @@ pub word_code-asked-requires : goal.word_code-asked-requires
 word_code-asked-requires c = omega (arith, c.requires.ready.ends_long.k_high, c.requires.word_len.0)
 
 pub turned_code-turned-requires : goal.turned_code-turned-requires
-turned_code-turned-requires c = (start c.before).requires.ready.ends_long.k_high
+turned_code-turned-requires c = c.requires.ready.ends_long.k_high
 
 pub scan-s-requires : goal.scan-s-requires
-scan-s-requires c = (start c.before.before).requires.ready
+scan-s-requires c = c.requires.ready
 
 pub returns-in-At : goal.returns-in-At
 returns-in-At c =

@@ -20,33 +20,10 @@ use Rattle.plain.proofs.scanning.scan.Reads as reads
 abbrev Place-At-loop : Type 0
 Place-At-loop = lts.At-loop tie.the-claims reads.Pre reads.Post goal.the-invariant-loop-i goal.the-decreases-loop-i tie.handed_clauses
 
-abbrev Place-Start : Type 0
-Place-Start = lts.Start tie.the-claims reads.Pre reads.Post goal.the-invariant-loop-i goal.the-decreases-loop-i tie.handed_clauses
-
-abbrev Place-After-enum_told : Type 0
-Place-After-enum_told = lts.Past-After-enum_told tie.the-claims reads.Pre reads.Post goal.the-invariant-loop-i goal.the-decreases-loop-i tie.handed_clauses
-
-abbrev Place-In-loop : Type 0
-Place-In-loop = lts.In-loop tie.the-claims reads.Pre reads.Post goal.the-invariant-loop-i goal.the-decreases-loop-i tie.handed_clauses
-
-abbrev Place-After-known_told : Type 0
-Place-After-known_told = lts.Past-After-known_told tie.the-claims reads.Pre reads.Post goal.the-invariant-loop-i goal.the-decreases-loop-i tie.handed_clauses
-
--- the start, seen from the loop
-abbrev start : Place-At-loop → Place-Start
-start c = c.before.before.before
-
--- a turn of the loop, seen from where the pass over a string found the asked word, and from the end of a turn
-abbrev turn-from-found : Place-After-enum_told → Place-In-loop
-turn-from-found c = c.before.before.before
-
-abbrev turn : Place-After-known_told → Place-In-loop
-turn c = c.before.before.before
-
 -- the pass from a turn of the loop on, over the k-mers that are left
 abbrev pass : Place-At-loop → List ℕ → Seen
 pass c =
-    let b = (start c).args in
+    let b = c.args in
     scan_from (λ a. eqb (code (word_at b.k b.letters.now a)) b.asked) (λ a. eqb (code (word_at b.k b.letters.now a)) b.turned)
     c.loop-i.passed c.loop-i.first
 
@@ -60,14 +37,14 @@ pub overflow_add-number : goal.overflow_add-number
 overflow_add-number c = omega (arith, c.shared_slice_known-in-loop-i-1.given c.loop-i.i)
 
 pub overflow_add-number-in-loop-i : goal.overflow_add-number-in-loop-i
-overflow_add-number-in-loop-i c = omega (arith, next-string c.loop-i.invariant.0 c.loop-i-test.true, (start c.before.before.before).requires.few_letters)
+overflow_add-number-in-loop-i c = omega (arith, next-string c.loop-i.invariant.0 c.loop-i-test.true, c.requires.few_letters)
 
 pub overflow_sub-number : goal.overflow_sub-number
 overflow_sub-number c = omega (arith, next-string c.loop-i.invariant.0 c.loop-i-test.true)
 
 pub scan_string-s-requires : goal.scan_string-s-requires
 scan_string-s-requires c =
-    let p = (start c.before.before.before).requires in
+    let p = c.requires in
     let g = p.ends_long in
     let n = next-string c.loop-i.invariant.0 c.loop-i-test.true in
     let i = c.loop-i.invariant.0 in
@@ -75,24 +52,24 @@ scan_string-s-requires c =
 
 pub returns-in_default : goal.returns-in_default
 returns-in_default c =
-    sym ((turn-from-found c.before).loop-i.invariant.1
-    ∙ (ap (pass (turn-from-found c.before).before) (kmers_next _ _ _ _ (turn-from-found c.before).loop-i-test.true)
+    sym (c.loop-i.invariant.1
+    ∙ (ap (pass c.before.before.before.before.before) (kmers_next _ _ _ _ c.loop-i-test.true)
     ∙ (scan-found _ _ _ _ _ _ _ (sym c.scan_string-s.ensures ∙ c.in_default.is) ∙ sym c.in_default.is)))
 
 pub overflow_add-passed : goal.overflow_add-passed
 overflow_add-passed c =
-    let t = turn c.before in
+    let t = c.before in
     let l = t.loop-i in
-    omega (arith, next-string l.invariant.0 t.loop-i-test.true, l.invariant.0.few, (start t.before).requires.few_letters)
+    omega (arith, next-string l.invariant.0 t.loop-i-test.true, l.invariant.0.few, t.requires.few_letters)
 
 pub overflow_add-i : goal.overflow_add-i
-overflow_add-i c = omega (arith, (turn c.before).loop-i-test.true)
+overflow_add-i c = omega (arith, c.loop-i-test.true)
 
 pub loop-i-preserved : goal.loop-i-preserved
 loop-i-preserved c = (
-  strings-on (turn c.before).loop-i.invariant.0 (turn c.before).loop-i-test.true (start (turn c.before).before).requires.ends_long.k_low _ refl,
-  (turn c.before).loop-i.invariant.1
-      ∙ (ap (pass (turn c.before).before) (kmers_next _ _ _ _ (turn c.before).loop-i-test.true)
+  strings-on c.loop-i.invariant.0 c.loop-i-test.true c.requires.ends_long.k_low _ refl,
+  c.loop-i.invariant.1
+      ∙ (ap (pass c.before.before.before.before.before) (kmers_next _ _ _ _ c.loop-i-test.true)
       ∙ scan-row-on _ _ _ _ _ _ _ _ (sym c.scan_string-s.ensures ∙ c.in-NotAsked.is)),
 )
 

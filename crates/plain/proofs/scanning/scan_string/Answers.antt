@@ -16,19 +16,6 @@ use Rattle.words.proofs.Along.{Rolls, rolls-begin, word-here, word_on}
 use Rattle.plain.proofs.Scans.{string-start, string-asked, string-other, string-end}
 use borrow.Author.Rules.{rules}
 use Rattle.plain.proofs.scanning.scan_string.Goals as goal
-use Rattle.plain.proofs.scanning.scan_string.Lts as lts
-use Rattle.plain.proofs.scanning.scan_string.Tie as tie
-use Rattle.plain.proofs.scanning.scan_string.Reads as reads
-
-abbrev Place-At-loop : Type 0
-Place-At-loop = lts.At-loop tie.the-claims reads.Pre reads.Post goal.the-invariant-loop-i goal.the-decreases-loop-i tie.handed_clauses
-
-abbrev Place-Start : Type 0
-Place-Start = lts.Start tie.the-claims reads.Pre reads.Post goal.the-invariant-loop-i goal.the-decreases-loop-i tie.handed_clauses
-
--- the start, seen from the loop
-abbrev start : Place-At-loop → Place-Start
-start c = c.before.before.before.before
 
 pub word_code-c-requires : goal.word_code-c-requires
 word_code-c-requires c =
@@ -46,7 +33,7 @@ loop-i-init c =
 
 pub roll-c-requires : goal.roll-c-requires
 roll-c-requires c =
-    let a = (start c.before.before.before.before).args in (
+    let a = c.args in (
       omega arith,
       c.loop-i.invariant.1.small,
       omega (arith, c.letter_code.ensures, bits_lt (get_or a.letters.now (a.at + (a.k - 1) + c.loop-i.i) 0)),
@@ -56,7 +43,7 @@ pub returns-then-c-asked : goal.returns-then-c-asked
 returns-then-c-asked c =
     let t = c.before in
     let l = t.loop-i in
-    let s = start t.before.before.before.before.before in
+    let s = t in
     let a = s.args in
     let p = s.requires in
     let e = (c.roll-c.ensures
@@ -68,7 +55,7 @@ pub loop-i-preserved : goal.loop-i-preserved
 loop-i-preserved c =
     let t = c.before in
     let l = t.loop-i in
-    let s = start t.before.before.before.before.before.before in
+    let s = t in
     let a = s.args in
     let p = s.requires in
     let e = (c.roll-c.ensures

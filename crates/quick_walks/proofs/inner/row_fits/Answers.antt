@@ -9,25 +9,12 @@ use Rattle.index_stretches.specs.Index.{tables, entries, stretch_fits, row_fits}
 use Rattle.quick_walks.proofs.Rows.{row-wrong, row-each, fit_next, fit-end}
 use borrow.Author.Rules.{rules}
 use Rattle.quick_walks.proofs.inner.row_fits.Goals as goal
-use Rattle.quick_walks.proofs.inner.row_fits.Lts as lts
-use Rattle.quick_walks.proofs.inner.row_fits.Tie as tie
-use Rattle.quick_walks.proofs.inner.row_fits.Reads as reads
-
-abbrev Place-After-shared_slice_known5 : Type 0
-Place-After-shared_slice_known5 = lts.After-shared_slice_known5 tie.the-claims reads.Pre reads.Post goal.the-invariant-loop-i goal.the-decreases-loop-i tie.handed_clauses
-
-abbrev Place-Start : Type 0
-Place-Start = lts.Start tie.the-claims reads.Pre reads.Post goal.the-invariant-loop-i goal.the-decreases-loop-i tie.handed_clauses
-
--- the start, seen from where the row's start is read
-abbrev start-from-read : Place-After-shared_slice_known5 → Place-Start
-start-from-read c = c.before.before.before.before.before
 
 pub overflow_cast-start : goal.overflow_cast-start
-overflow_cast-start c = omega (arith, c.shared_slice_known-5-1.given (start-from-read c.before).args.v)
+overflow_cast-start c = omega (arith, c.shared_slice_known-5-1.given c.args.v)
 
 pub overflow_cast-end : goal.overflow_cast-end
-overflow_cast-end c = omega (arith, c.shared_slice_known-6-1.given ((start-from-read c.before.before).args.v + 1))
+overflow_cast-end c = omega (arith, c.shared_slice_known-6-1.given (c.args.v + 1))
 
 pub returns-then-end-start : goal.returns-then-end-start
 returns-then-end-start c = row-wrong _ _ _ _ (λ p q. omega (arith, p, c.if-end-start.true))
@@ -42,7 +29,7 @@ pub loop-i-preserved : goal.loop-i-preserved
 loop-i-preserved c =
     let u = c.before in
     let l = u.loop-i in
-    let a = (start-from-read u.before.before.before.before.before.before.before.before.before).args in
+    let a = u.args in
     let t = tables a.firsts.now a.positions.now a.numbers.now a.before.now in
     (l.invariant.0, fit_next t _ _ _ _ u.loop-i-test.true _ l.good _ c.stretch_fits-good.ensures l.invariant.1)
 

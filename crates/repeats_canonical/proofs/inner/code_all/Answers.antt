@@ -8,29 +8,6 @@ use Rattle.collection.proofs.Kmers.{StringsLeft, strings_begin, strings-on, next
 use Rattle.repeats_canonical.proofs.Stringwise.{Coding, coding-begin, coding-room, coding-on, coding-end}
 use borrow.Author.Rules.{rules}
 use Rattle.repeats_canonical.proofs.inner.code_all.Goals as goal
-use Rattle.repeats_canonical.proofs.inner.code_all.Lts as lts
-use Rattle.repeats_canonical.proofs.inner.code_all.Tie as tie
-use Rattle.repeats_canonical.proofs.inner.code_all.Reads as reads
-
-abbrev Place-At-loop : Type 0
-Place-At-loop = lts.At-loop tie.the-claims reads.Pre reads.Post goal.the-invariant-loop-i goal.the-decreases-loop-i tie.handed_clauses
-
-abbrev Place-Start : Type 0
-Place-Start = lts.Start tie.the-claims reads.Pre reads.Post goal.the-invariant-loop-i goal.the-decreases-loop-i tie.handed_clauses
-
-abbrev Place-After-slice_known2 : Type 0
-Place-After-slice_known2 = lts.After-slice_known2 tie.the-claims reads.Pre reads.Post goal.the-invariant-loop-i goal.the-decreases-loop-i tie.handed_clauses
-
-abbrev Place-In-loop : Type 0
-Place-In-loop = lts.In-loop tie.the-claims reads.Pre reads.Post goal.the-invariant-loop-i goal.the-decreases-loop-i tie.handed_clauses
-
--- the start, seen from the loop
-abbrev start : Place-At-loop → Place-Start
-start c = c.before.before.before.before
-
--- a turn of the loop, seen from the end of a turn
-abbrev turn : Place-After-slice_known2 → Place-In-loop
-turn c = c.before.before.before.before.before
 
 pub loop-i-init : goal.loop-i-init
 loop-i-init c = let s = c.before in (strings_begin s.requires.ready.ends_long s.requires.ready.ends_last, coding-begin _ _ _)
@@ -42,31 +19,31 @@ pub overflow_add-number : goal.overflow_add-number
 overflow_add-number c = omega (arith, c.shared_slice_known-in-loop-i-1.given c.loop-i.i)
 
 pub overflow_add-number-in-loop-i : goal.overflow_add-number-in-loop-i
-overflow_add-number-in-loop-i c = omega (arith, next-string c.loop-i.invariant.0 c.loop-i-test.true, (start c.before.before.before).requires.ready.few_letters)
+overflow_add-number-in-loop-i c = omega (arith, next-string c.loop-i.invariant.0 c.loop-i-test.true, c.requires.ready.few_letters)
 
 pub overflow_sub-number : goal.overflow_sub-number
 overflow_sub-number c = omega (arith, next-string c.loop-i.invariant.0 c.loop-i-test.true)
 
 pub code_string-requires : goal.code_string-requires
 code_string-requires c =
-    let s = start c.before.before.before.before in
+    let s = c.before in
     let l = c.loop-i in
     let t = c.loop-i-test.true in
     let e = next-string l.invariant.0 t in record { letters_value = s.requires.ready.all_letters; le_k = (s.requires.ready.ends_long.k_low, s.requires.ready.ends_long.k_high, omega (arith, e.long, e.inside)); number_bound = (coding-room _ _ _ l.invariant.1 s.requires.n_value.0 t, omega (arith, s.requires.n_value.1, l.invariant.1.coded.rest.size)) }
 
 pub overflow_add-passed : goal.overflow_add-passed
 overflow_add-passed c =
-    let t = turn c.before in
+    let t = c.before in
     let l = t.loop-i in
-    omega (arith, next-string l.invariant.0 t.loop-i-test.true, l.invariant.0.few, (start t.before).requires.ready.few_letters)
+    omega (arith, next-string l.invariant.0 t.loop-i-test.true, l.invariant.0.few, t.requires.ready.few_letters)
 
 pub overflow_add-i : goal.overflow_add-i
-overflow_add-i c = omega (arith, (turn c.before).loop-i-test.true)
+overflow_add-i c = omega (arith, c.loop-i-test.true)
 
 pub loop-i-preserved : goal.loop-i-preserved
 loop-i-preserved c =
-    let u = turn c.before in
-    let s = start u.before in
+    let u = c.before in
+    let s = u in
     let l = u.loop-i in
     let t = u.loop-i-test.true in
     (strings-on l.invariant.0 t s.requires.ready.ends_long.k_low _ refl, coding-on _ _ _ l.invariant.1 s.requires.n_value.0 t c.code_string.ensures)

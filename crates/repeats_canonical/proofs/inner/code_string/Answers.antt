@@ -18,37 +18,17 @@ use Rattle.repeats_canonical.proofs.inner.code_string.Lts as lts
 use Rattle.repeats_canonical.proofs.inner.code_string.Tie as tie
 use Rattle.repeats_canonical.proofs.inner.code_string.Reads as reads
 
-abbrev Place-After-turned_code : Type 0
-Place-After-turned_code = lts.After-turned_code tie.the-claims reads.Pre reads.Post goal.the-invariant-loop-i goal.the-decreases-loop-i tie.handed_clauses
-
-abbrev Place-Start : Type 0
-Place-Start = lts.Start tie.the-claims reads.Pre reads.Post goal.the-invariant-loop-i goal.the-decreases-loop-i tie.handed_clauses
-
-abbrev Place-After-roll : Type 0
-Place-After-roll = lts.After-roll tie.the-claims reads.Pre reads.Post goal.the-invariant-loop-i goal.the-decreases-loop-i tie.handed_clauses
-
-abbrev Place-At-loop : Type 0
-Place-At-loop = lts.At-loop tie.the-claims reads.Pre reads.Post goal.the-invariant-loop-i goal.the-decreases-loop-i tie.handed_clauses
-
 abbrev Place-After-roll_turned : Type 0
 Place-After-roll_turned = lts.After-roll_turned tie.the-claims reads.Pre reads.Post goal.the-invariant-loop-i goal.the-decreases-loop-i tie.handed_clauses
 
--- the start, seen from behind `turned_code`
-abbrev start : Place-After-turned_code → Place-Start
-start c = c.before.before.before.before.before
-
--- a turn of the loop, seen from behind `roll`
-abbrev turn-from-roll : Place-After-roll → Place-At-loop
-turn-from-roll c = c.before.before.before.before
-
 -- the codes of the k-mer that a turn of the loop comes to
 codes : (c : Place-After-roll_turned)
-    → let a = (start (turn-from-roll c.before).before).args in
-    let w = word_at a.k a.letters.now (a.at + (turn-from-roll c.before).loop-i.i) in
+    → let a = c.args in
+    let w = word_at a.k a.letters.now (a.at + c.loop-i.i) in
     (c.roll-c.result ≡ code w) × (c.roll_turned-t.result ≡ code (turn w))
 codes c =
-    let s = start (turn-from-roll c.before).before in
-    let l = (turn-from-roll c.before).loop-i in
+    let s = c in
+    let l = c.loop-i in
     let g = every-all is_letter _ s.requires.letters_value in
     let f : s.args.at + l.i + s.args.k ≤ length s.args.letters.now = omega arith in (
       c.roll-c.ensures
@@ -66,14 +46,14 @@ word_code-c-requires c =
 
 pub overflow_mul-t : goal.overflow_mul-t
 overflow_mul-t c =
-    let s = start c.before in
+    let s = c.before in
     let h = first_fits s.args.k s.args.letters.now s.requires.le_k.0 s.requires.le_k.1 (every-all is_letter _ s.requires.letters_value) s.args.at _
     (omega arith) c.word_code-c.ensures in
     omega (arith, h, c.turned_code-t.ensures)
 
 pub loop-i-init : goal.loop-i-init
 loop-i-init c =
-    let s = start c.before in (
+    let s = c.before in (
       omega arith,
       turns-begin s.args.k s.args.letters.now s.requires.le_k.0 s.requires.le_k.1 (every-all is_letter _ s.requires.letters_value) s.args.at _
           (omega arith) c.word_code-c.ensures _
@@ -83,7 +63,7 @@ loop-i-init c =
 
 pub roll-c-requires : goal.roll-c-requires
 roll-c-requires c =
-    let s = start c.before.before.before.before.before in
+    let s = c.before in
     let l = c.loop-i in (
       s.requires.le_k.1,
       l.invariant.1.rolls.small,
@@ -92,8 +72,8 @@ roll-c-requires c =
 
 pub roll_turned-t-requires : goal.roll_turned-t-requires
 roll_turned-t-requires c =
-    let s = start (turn-from-roll c.before).before in
-    let l = (turn-from-roll c.before).loop-i in (
+    let s = c.before in
+    let l = c.loop-i in (
       s.requires.le_k.0,
       s.requires.le_k.1,
       l.invariant.1.small,
@@ -101,21 +81,21 @@ roll_turned-t-requires c =
     )
 
 pub offset_bounds-work-p : goal.offset_bounds-work-p
-offset_bounds-work-p c = omega (arith, (turn-from-roll c.before.before.before.before).loop-i.invariant.2.rest.size)
+offset_bounds-work-p c = omega (arith, c.loop-i.invariant.2.rest.size)
 
 pub bounds-work-p : goal.bounds-work-p
-bounds-work-p c = omega (arith, (turn-from-roll c.before.before.before.before).loop-i.invariant.2.rest.size)
+bounds-work-p c = omega (arith, c.loop-i.invariant.2.rest.size)
 
 pub offset_bounds-work-n : goal.offset_bounds-work-n
-offset_bounds-work-n c = omega (arith, (turn-from-roll c.before.before.before.before.before).loop-i.invariant.2.rest.size)
+offset_bounds-work-n c = omega (arith, c.loop-i.invariant.2.rest.size)
 
 pub bounds-work-n : goal.bounds-work-n
-bounds-work-n c = simp length-set (omega (arith, (turn-from-roll c.before.before.before.before.before).loop-i.invariant.2.rest.size))
+bounds-work-n c = simp length-set (omega (arith, c.loop-i.invariant.2.rest.size))
 
 pub loop-i-preserved : goal.loop-i-preserved
 loop-i-preserved c =
-    let s = start (turn-from-roll c.before.before.before.before.before).before in
-    let l = (turn-from-roll c.before.before.before.before.before).loop-i in
+    let s = c.before in
+    let l = c.loop-i in
     let e = codes c.before.before.before.before in (
       omega arith,
       turns-on s.args.k s.args.letters.now s.requires.le_k.0 s.requires.le_k.1 (every-all is_letter _ s.requires.letters_value) s.args.at l.i _ _
@@ -131,6 +111,6 @@ shape_of-work c = c.loop-i.invariant.2.rest.size
 pub returns : goal.returns
 returns c =
     let l = c.loop-i in
-    let a = (start c.before.before.before).args in
+    let a = c.args in
     let e : l.i ≡ a.number = omega arith in
     subst (λ (m : ℕ). Coded a.k a.letters.now a.n a.passed (count_from a.at m) a.work.now l.work) e l.invariant.2

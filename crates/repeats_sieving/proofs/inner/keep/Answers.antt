@@ -16,35 +16,21 @@ use Rattle.repeats_sieving.proofs.inner.keep.Lts as lts
 use Rattle.repeats_sieving.proofs.inner.keep.Tie as tie
 use Rattle.repeats_sieving.proofs.inner.keep.Reads as reads
 
-abbrev Place-At-loop : Type 0
-Place-At-loop = lts.At-loop tie.the-claims reads.Pre reads.Post goal.the-invariant-loop-i goal.the-decreases-loop-i tie.handed_clauses
-
-abbrev Place-Start : Type 0
-Place-Start = lts.Start tie.the-claims reads.Pre reads.Post goal.the-invariant-loop-i goal.the-decreases-loop-i tie.handed_clauses
+abbrev Place-In-loop : Type 0
+Place-In-loop = lts.In-loop tie.the-claims reads.Pre reads.Post goal.the-invariant-loop-i goal.the-decreases-loop-i tie.handed_clauses
 
 abbrev Place-After-slot_of : Type 0
 Place-After-slot_of = lts.After-slot_of tie.the-claims reads.Pre reads.Post goal.the-invariant-loop-i goal.the-decreases-loop-i tie.handed_clauses
 
-abbrev Place-In-loop : Type 0
-Place-In-loop = lts.In-loop tie.the-claims reads.Pre reads.Post goal.the-invariant-loop-i goal.the-decreases-loop-i tie.handed_clauses
-
 abbrev Place-After-full : Type 0
 Place-After-full = lts.After-full tie.the-claims reads.Pre reads.Post goal.the-invariant-loop-i goal.the-decreases-loop-i tie.handed_clauses
 
--- the start, seen from the loop
-abbrev start : Place-At-loop → Place-Start
-start c = c.before.before
-
--- a turn of the loop, seen from behind `slot_of`
-abbrev turn : Place-After-slot_of → Place-At-loop
-turn c = c.before.before.before
-
 -- the id of this turn is the one that the region held at first
 id-is : (c : Place-In-loop)
-    → let a = (start c.before).args in
+    → let a = c.args in
     get_or c.loop-i.work (a.n + a.n + c.loop-i.i) 0 ≡ get_or (part (a.n + a.n) a.m a.work.now) c.loop-i.i 0
 id-is c =
-    let a = (start c.before).args in
+    let a = c.args in
     let i = c.loop-i.i in
     c.loop-i.invariant.behind i (omega arith) c.loop-i-test.true ∙ sym (part_at (a.n + a.n) a.m a.work.now i 0 c.loop-i-test.true)
 
@@ -55,7 +41,7 @@ id-lt c =
 
 -- its slot is that of its codes, which stand as at first
 slot_is : (c : Place-After-slot_of)
-    → let l = turn c in
+    → let l = c in
     let a = l.args in
     c.slot_of-s.result ≡ slot_in a.n a.work.now (16 * a.entries) a.a a.c (get_or l.loop-i.work (a.n + a.n + l.loop-i.i) 0)
 slot_is c =
@@ -65,7 +51,7 @@ slot_is c =
     slot_same s.args.work.now l.loop-i.work l.loop-i.i s.requires.sifting s.requires.all u.loop-i-test.true (id-is u.before.before) l.loop-i.invariant.rest (omega arith)
     c.slot_of-s.ensures
 
-has-slot : (c : Place-After-slot_of) → c.slot_of-s.result < 16 * (start (turn c)).args.entries
+has-slot : (c : Place-After-slot_of) → c.slot_of-s.result < 16 * c.args.entries
 has-slot c =
     let u = c in
     let l = u in
@@ -75,13 +61,13 @@ has-slot c =
 
 -- so is its counter, which tells of its slot
 full_is : (c : Place-After-full)
-    → let l = turn c.before.before in
+    → let l = c in
     let a = l.args in
     let f = slot_in a.n a.work.now (16 * a.entries) a.a a.c in
     c.full-q.result ≡ told_of f (part (a.n + a.n) a.m a.work.now) (f (get_or l.loop-i.work (a.n + a.n + l.loop-i.i) 0)) / 2
 full_is c =
     let q = c in
-    let l = turn q.before.before in
+    let l = q in
     let s = l in
     let a = s.args in
     let n = a.n in
@@ -102,7 +88,7 @@ overflow_cast-x c = omega (arith, id-lt c.before)
 
 pub slot_of-s-requires : goal.slot_of-s-requires
 slot_of-s-requires c =
-    let s = start c.before.before in
+    let s = c in
     let r = s.requires.sifting in record { x_lt_n = (id-lt c.before, omega (arith, r.room, c.loop-i.invariant.rest.size)); slots_bound = (omega (arith, r.few, r.counters), r.a_low, r.c_low) }
 
 pub overflow_add-tab-in-loop-i : goal.overflow_add-tab-in-loop-i
@@ -120,8 +106,8 @@ overflow_add-o c = omega (arith, full_is c)
 pub loop-i-preserved : goal.loop-i-preserved
 loop-i-preserved c =
     let q = c in
-    let l = turn q.before.before in
-    let s = start l in
+    let l = q in
+    let s = l in
     let a = s.args in
     let n = a.n in
     let r = s.requires.sifting in
@@ -134,7 +120,7 @@ loop-i-preserved c =
 pub returns : goal.returns
 returns c =
     let l = c.loop-i in
-    let s = start c.before in
+    let s = c in
     let a = s.args in
     let n = a.n in
     let r = s.requires.sifting in

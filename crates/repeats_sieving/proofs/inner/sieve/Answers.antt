@@ -10,18 +10,11 @@ use Rattle.repeats_sieving.proofs.inner.sieve.Lts as lts
 use Rattle.repeats_sieving.proofs.inner.sieve.Tie as tie
 use Rattle.repeats_sieving.proofs.inner.sieve.Reads as reads
 
-abbrev Place-After-sift-arg2 : Type 0
-Place-After-sift-arg2 = lts.After-sift-arg2 tie.the-claims reads.Pre reads.Post tie.handed_clauses
-
-abbrev Place-After-sift : Type 0
-Place-After-sift = lts.After-sift tie.the-claims reads.Pre reads.Post tie.handed_clauses
-
 abbrev Place-After-slice_known : Type 0
 Place-After-slice_known = lts.After-slice_known tie.the-claims reads.Pre reads.Post tie.handed_clauses
 
--- what the first `sift` gave, seen from the second call of `sift`
-abbrev after-sift : Place-After-sift-arg2 → Place-After-sift
-after-sift c = c.before.before.before.before
+abbrev Place-After-sift : Type 0
+Place-After-sift = lts.After-sift tie.the-claims reads.Pre reads.Post tie.handed_clauses
 
 -- the table holds numbers of 32 bits
 fits : (c : Place-After-slice_known) (i : ℕ) → get_or c.args.work.now i 0 < 2 ^ 32
@@ -47,12 +40,12 @@ returns-then-m-n c = first c.before.before.before.before
 
 pub sift-requires : goal.sift-requires
 sift-requires c =
-    let z = after-sift c in
-    let s = z in record { sifting = sifting _ s.args.n _ _ _ s.requires.n_bound.0 (omega (arith, s.requires.n_bound.1, (first z).rest.size)) (first z).few (omega arith) (omega arith); all = (first z).sieved.inside }
+    let z = c in
+    let s = z in record { sifting = sifting _ s.args.n _ _ _ s.requires.n_bound.0 (omega (arith, s.requires.n_bound.1, (first z.before.before.before.before).rest.size)) (first z.before.before.before.before).few (omega arith) (omega arith); all = (first z.before.before.before.before).sieved.inside }
 
 pub returns : goal.returns
 returns c =
     let t = c.before in
-    let z = after-sift t.before.before.before in
+    let z = t in
     let k = z in
-    left_next 0x42b2ae3d 0x27d4eb2f (fits k.before.before) k.requires.n_bound.1 (omega arith) (first z) t.sift.ensures
+    left_next 0x42b2ae3d 0x27d4eb2f (fits k.before.before.before.before.before.before.before.before.before) k.requires.n_bound.1 (omega arith) (first z.before.before.before.before.before.before.before) t.sift.ensures

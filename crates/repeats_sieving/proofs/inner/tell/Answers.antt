@@ -16,33 +16,19 @@ use Rattle.repeats_sieving.proofs.inner.tell.Lts as lts
 use Rattle.repeats_sieving.proofs.inner.tell.Tie as tie
 use Rattle.repeats_sieving.proofs.inner.tell.Reads as reads
 
-abbrev Place-At-loop : Type 0
-Place-At-loop = lts.At-loop tie.the-claims reads.Pre reads.Post goal.the-invariant-loop-i goal.the-decreases-loop-i tie.handed_clauses
-
-abbrev Place-Start : Type 0
-Place-Start = lts.Start tie.the-claims reads.Pre reads.Post goal.the-invariant-loop-i goal.the-decreases-loop-i tie.handed_clauses
+abbrev Place-In-loop : Type 0
+Place-In-loop = lts.In-loop tie.the-claims reads.Pre reads.Post goal.the-invariant-loop-i goal.the-decreases-loop-i tie.handed_clauses
 
 abbrev Place-After-slot_of : Type 0
 Place-After-slot_of = lts.After-slot_of tie.the-claims reads.Pre reads.Post goal.the-invariant-loop-i goal.the-decreases-loop-i tie.handed_clauses
 
-abbrev Place-In-loop : Type 0
-Place-In-loop = lts.In-loop tie.the-claims reads.Pre reads.Post goal.the-invariant-loop-i goal.the-decreases-loop-i tie.handed_clauses
-
--- the start, seen from the loop
-abbrev start : Place-At-loop → Place-Start
-start c = c.before.before
-
--- a turn of the loop, seen from behind `slot_of`
-abbrev turn : Place-After-slot_of → Place-At-loop
-turn c = c.before.before.before
-
 -- the id of this turn is the one that the region held at first
 id-is : (c : Place-In-loop)
-    → let a = (start c.before).args in
+    → let a = c.args in
     get_or c.loop-i.work (a.n + a.n + c.loop-i.i) 0 ≡ get_or (part (a.n + a.n) a.m a.work.now) c.loop-i.i 0
 id-is c =
     let l = c.loop-i in
-    let s = start c.before in
+    let s = c in
     let n = s.args.n in
     only_at (n + n + n) s.args.entries s.args.work.now l.work l.invariant.1 (n + n) s.args.m (inl (omega (arith, s.requires.sifting.ids)))
     l.i 0 c.loop-i-test.true
@@ -54,7 +40,7 @@ id-lt c =
 
 -- its slot is that of its codes, which stand as at first
 slot_is : (c : Place-After-slot_of)
-    → let l = turn c in
+    → let l = c in
     let a = l.args in
     c.slot_of-s.result ≡ slot_in a.n a.work.now (16 * a.entries) a.a a.c (get_or (part (a.n + a.n) a.m a.work.now) l.loop-i.i 0)
 slot_is c =
@@ -66,7 +52,7 @@ slot_is c =
     c.slot_of-s.ensures
     ∙ ap (slot_in n s.args.work.now (16 * s.args.entries) s.args.a s.args.c) (id-is u.before.before)
 
-has-slot : (c : Place-After-slot_of) → c.slot_of-s.result < 16 * (start (turn c)).args.entries
+has-slot : (c : Place-After-slot_of) → c.slot_of-s.result < 16 * c.args.entries
 has-slot c =
     let u = c in
     let l = u in
@@ -84,7 +70,7 @@ overflow_cast-x c = omega (arith, id-lt c.before)
 
 pub slot_of-s-requires : goal.slot_of-s-requires
 slot_of-s-requires c =
-    let s = start c.before.before in
+    let s = c in
     let r = s.requires.sifting in record { x_lt_n = (id-lt c.before, omega (arith, r.room, c.loop-i.invariant.1.size)); slots_bound = (omega (arith, r.few, r.counters), r.a_low, r.c_low) }
 
 pub overflow_add-t : goal.overflow_add-t
@@ -105,8 +91,8 @@ bounds-work-t-in-loop-i c = omega (arith, has-slot c.before.before)
 pub loop-i-preserved : goal.loop-i-preserved
 loop-i-preserved c =
     let q = c in
-    let l = turn q.before.before in
-    let s = start l in
+    let l = q in
+    let s = l in
     let a = s.args in
     let n = a.n in
     let r = s.requires.sifting in
@@ -124,7 +110,7 @@ loop-i-preserved c =
 pub returns : goal.returns
 returns c =
     let l = c.loop-i in
-    let s = start c.before in
+    let s = c in
     let a = s.args in
     let size = part_length (a.n + a.n) a.m a.work.now (omega (arith, s.requires.sifting.room, s.requires.sifting.ids)) in
     let q : l.i ≡ length (part (a.n + a.n) a.m a.work.now) = omega arith in

@@ -7,19 +7,6 @@ use Rattle.runs.specs.Runs.{later_runs, run_count}
 use Rattle.runs.proofs.Loops.{later_same, later-new, later_end, runs_first, runs_none}
 use borrow.Author.Rules.{rules}
 use Rattle.runs.proofs.inner.count_runs.Goals as goal
-use Rattle.runs.proofs.inner.count_runs.Lts as lts
-use Rattle.runs.proofs.inner.count_runs.Tie as tie
-use Rattle.runs.proofs.inner.count_runs.Reads as reads
-
-abbrev Place-At-loop : Type 0
-Place-At-loop = lts.At-loop reads.Pre reads.Post goal.the-invariant-loop-i goal.the-decreases-loop-i
-
-abbrev Place-Start : Type 0
-Place-Start = lts.Start reads.Pre reads.Post goal.the-invariant-loop-i goal.the-decreases-loop-i
-
--- the start, seen from the loop
-abbrev start : Place-At-loop → Place-Start
-start c = c.before.before.before
 
 pub returns-then-weights-eq0 : goal.returns-then-weights-eq0
 returns-then-weights-eq0 c = sym (ap length (runs_none _ c.if-weights-eq0.true))
@@ -36,7 +23,7 @@ loop-i-preserved-then-v-w c =
       omega (
         arith,
         l.invariant.2,
-        ap length (later-new l.w (start c.before.before.before.before).args.weights.now l.i c.loop-i-test.true
+        ap length (later-new l.w c.args.weights.now l.i c.loop-i-test.true
             c.if-v-w.true),
       ),
     )
@@ -49,7 +36,7 @@ loop-i-preserved c =
       omega (
         arith,
         l.invariant.2,
-        ap length (later_same l.w (start c.before.before.before.before).args.weights.now l.i c.loop-i-test.true
+        ap length (later_same l.w c.args.weights.now l.i c.loop-i-test.true
             c.if-v-w.false),
       ),
     )
@@ -57,4 +44,4 @@ loop-i-preserved c =
 pub returns : goal.returns
 returns c =
     let l = c.loop-i in
-    omega (arith, l.invariant.2, ap length (later_end l.w (start c.before.before).args.weights.now l.i c.loop-i-test.false))
+    omega (arith, l.invariant.2, ap length (later_end l.w c.args.weights.now l.i c.loop-i-test.false))

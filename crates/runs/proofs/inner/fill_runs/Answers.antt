@@ -10,19 +10,6 @@ use Rattle.runs.specs.Runs.{later_runs}
 use Rattle.runs.proofs.Loops.{later_same, later-new, later_end, column_stored, column_none, room_some, room_rest}
 use borrow.Author.Rules.{rules}
 use Rattle.runs.proofs.inner.fill_runs.Goals as goal
-use Rattle.runs.proofs.inner.fill_runs.Lts as lts
-use Rattle.runs.proofs.inner.fill_runs.Tie as tie
-use Rattle.runs.proofs.inner.fill_runs.Reads as reads
-
-abbrev Place-At-loop : Type 0
-Place-At-loop = lts.At-loop reads.Pre reads.Post goal.the-invariant-loop-i goal.the-decreases-loop-i tie.handed_clauses
-
-abbrev Place-Start : Type 0
-Place-Start = lts.Start reads.Pre reads.Post goal.the-invariant-loop-i goal.the-decreases-loop-i tie.handed_clauses
-
--- the start, seen from the loop
-abbrev start : Place-At-loop → Place-Start
-start c = c.before.before.before
 
 pub returns-then-weights-eq0 : goal.returns-then-weights-eq0
 returns-then-weights-eq0 c = record { weights_filled = column_none (λ r. r.0) _ _ c.if-weights-eq0.true; firsts_filled = column_none (λ r. r.1) _ _ c.if-weights-eq0.true }
@@ -44,32 +31,32 @@ loop-i-init c =
 
 pub offset_bounds-run_weights-at : goal.offset_bounds-run_weights-at
 offset_bounds-run_weights-at c =
-    omega (arith, c.loop-i.invariant.0.0, c.loop-i.invariant.0.1, (start c.before.before.before.before).requires.weights_len_bound)
+    omega (arith, c.loop-i.invariant.0.0, c.loop-i.invariant.0.1, c.requires.weights_len_bound)
 
 pub bounds-run_weights-at : goal.bounds-run_weights-at
 bounds-run_weights-at c =
     let l = c.loop-i in
-    inside (restated (ap (map (λ r. r.0)) (later-new l.w (start c.before.before.before.before).args.weights.now l.i
+    inside (restated (ap (map (λ r. r.0)) (later-new l.w c.args.weights.now l.i
     c.loop-i-test.true c.if-v-w.true)) l.invariant.1)
 
 pub offset_bounds-run_firsts-at : goal.offset_bounds-run_firsts-at
 offset_bounds-run_firsts-at c =
-    omega (arith, c.loop-i.invariant.0.0, c.loop-i.invariant.0.1, (start c.before.before.before.before).requires.weights_len_bound)
+    omega (arith, c.loop-i.invariant.0.0, c.loop-i.invariant.0.1, c.requires.weights_len_bound)
 
 pub bounds-run_firsts-at : goal.bounds-run_firsts-at
 bounds-run_firsts-at c =
     let l = c.loop-i in
-    inside (restated (ap (map (λ r. r.1)) (later-new l.w (start c.before.before.before.before).args.weights.now l.i
+    inside (restated (ap (map (λ r. r.1)) (later-new l.w c.args.weights.now l.i
     c.loop-i-test.true c.if-v-w.true)) l.invariant.2)
 
 pub overflow_add-at : goal.overflow_add-at
 overflow_add-at c =
-    omega (arith, c.loop-i.invariant.0.0, c.loop-i.invariant.0.1, (start c.before.before.before.before).requires.weights_len_bound)
+    omega (arith, c.loop-i.invariant.0.0, c.loop-i.invariant.0.1, c.requires.weights_len_bound)
 
 pub loop-i-preserved-then-v-w : goal.loop-i-preserved-then-v-w
 loop-i-preserved-then-v-w c =
     let l = c.loop-i in
-    let a = (start c.before.before.before.before).args in (
+    let a = c.args in (
       (omega arith, omega arith),
       store (restated (ap (map (λ r. r.0)) (later-new l.w a.weights.now l.i c.loop-i-test.true c.if-v-w.true)) l.invariant.1),
       store (restated (ap (map (λ r. r.1)) (later-new l.w a.weights.now l.i c.loop-i-test.true c.if-v-w.true)) l.invariant.2),
@@ -78,23 +65,23 @@ loop-i-preserved-then-v-w c =
 pub loop-i-preserved : goal.loop-i-preserved
 loop-i-preserved c =
     let l = c.loop-i in
-    let a = (start c.before.before.before.before).args in (
+    let a = c.args in (
       (omega arith, omega arith),
       restated (ap (map (λ r. r.0)) (later_same l.w a.weights.now l.i c.loop-i-test.true c.if-v-w.false)) l.invariant.1,
       restated (ap (map (λ r. r.1)) (later_same l.w a.weights.now l.i c.loop-i-test.true c.if-v-w.false)) l.invariant.2,
     )
 
 pub shape_of-run_weights : goal.shape_of-run_weights
-shape_of-run_weights c = c.loop-i.invariant.1.size_kept ∙ length-set (start c.before.before).args.run_weights.now 0 _
+shape_of-run_weights c = c.loop-i.invariant.1.size_kept ∙ length-set c.args.run_weights.now 0 _
 
 pub shape_of-run_firsts : goal.shape_of-run_firsts
-shape_of-run_firsts c = c.loop-i.invariant.2.size_kept ∙ length-set (start c.before.before).args.run_firsts.now 0 _
+shape_of-run_firsts c = c.loop-i.invariant.2.size_kept ∙ length-set c.args.run_firsts.now 0 _
 
 pub returns : goal.returns
 returns c =
     let l = c.loop-i in
     let if1 = c.if-weights-eq0 in
-    let st = start c.before.before in
+    let st = c.before in
     let a = st.args in
     let p = st.requires in
     let s = l.invariant in record {

@@ -6,19 +6,6 @@ use borrow.Author.Rules.{rules}
 use lib.ListN.{length}
 use Rattle.sheet_lines.proofs.Counts.{Counting, counting, count_next, count-wrong, count_end}
 use Rattle.sheet_lines.proofs.inner.count_lines.Goals as goal
-use Rattle.sheet_lines.proofs.inner.count_lines.Lts as lts
-use Rattle.sheet_lines.proofs.inner.count_lines.Tie as tie
-use Rattle.sheet_lines.proofs.inner.count_lines.Reads as reads
-
-abbrev Place-After-known_told : Type 0
-Place-After-known_told = lts.Past-After-known_told tie.the-claims reads.Pre reads.Post goal.the-invariant-loop-i goal.the-decreases-loop-i
-
-abbrev Place-At-loop : Type 0
-Place-At-loop = lts.At-loop tie.the-claims reads.Pre reads.Post goal.the-invariant-loop-i goal.the-decreases-loop-i
-
--- a turn of the loop, seen from the end of a turn
-abbrev turn : Place-After-known_told → Place-At-loop
-turn c = c.before.before.before
 
 pub loop-i-init : goal.loop-i-init
 loop-i-init c = counting _ _ _ c.requires.0 c.requires.1
@@ -30,29 +17,29 @@ returns-in_default c =
 
 pub overflow_add-n : goal.overflow_add-n
 overflow_add-n c =
-    let on = (count_next (turn c.before).loop-i.invariant
+    let on = (count_next c.loop-i.invariant
     (sym c.line_at-l.ensures ∙ c.in-Good.is)).0 in
     omega (arith, on.letters, on.inside)
 
 pub overflow_add-m : goal.overflow_add-m
 overflow_add-m c =
-    let on = (count_next (turn c.before).loop-i.invariant
+    let on = (count_next c.loop-i.invariant
     (sym c.line_at-l.ensures ∙ c.in-Good.is)).0 in
     omega (arith, on.strings, on.inside)
 
 pub overflow_add-w : goal.overflow_add-w
 overflow_add-w c =
-    let on = (count_next (turn c.before).loop-i.invariant
+    let on = (count_next c.loop-i.invariant
     (sym c.line_at-l.ensures ∙ c.in-Good.is)).0 in
     omega (arith, on.weights, on.inside)
 
 pub loop-i-smaller : goal.loop-i-smaller
 loop-i-smaller c =
-    let on = count_next (turn c.before).loop-i.invariant (sym c.line_at-l.ensures ∙ c.in-Good.is) in
+    let on = count_next c.loop-i.invariant (sym c.line_at-l.ensures ∙ c.in-Good.is) in
     omega (arith, on.0.inside, on.1)
 
 pub loop-i-preserved : goal.loop-i-preserved
-loop-i-preserved c = (count_next (turn c.before).loop-i.invariant (sym c.line_at-l.ensures ∙ c.in-Good.is)).0
+loop-i-preserved c = (count_next c.loop-i.invariant (sym c.line_at-l.ensures ∙ c.in-Good.is)).0
 
 pub returns : goal.returns
 returns c = count_end c.loop-i.invariant c.loop-i-test.false

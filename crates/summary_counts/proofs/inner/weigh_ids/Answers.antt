@@ -5,26 +5,6 @@ use lib.ListN.{length, length-set}
 use Rattle.summary_counts.proofs.Ids.{Weighing, weighing, id-low, weighed, weighed-all}
 use borrow.Author.Rules.{rules}
 use Rattle.summary_counts.proofs.inner.weigh_ids.Goals as goal
-use Rattle.summary_counts.proofs.inner.weigh_ids.Lts as lts
-use Rattle.summary_counts.proofs.inner.weigh_ids.Tie as tie
-use Rattle.summary_counts.proofs.inner.weigh_ids.Reads as reads
-
-abbrev Place-At-loop : Type 0
-Place-At-loop = lts.At-loop tie.the-claims reads.Pre reads.Post goal.the-invariant-loop-i goal.the-decreases-loop-i
-
-abbrev Place-Start : Type 0
-Place-Start = lts.Start tie.the-claims reads.Pre reads.Post goal.the-invariant-loop-i goal.the-decreases-loop-i
-
-abbrev Place-After-wide : Type 0
-Place-After-wide = lts.After-wide tie.the-claims reads.Pre reads.Post goal.the-invariant-loop-i goal.the-decreases-loop-i
-
--- the start, seen from the loop
-abbrev start : Place-At-loop → Place-Start
-start c = c.before.before.before
-
--- a turn of the loop, seen from the end of a turn
-abbrev turn : Place-After-wide → Place-At-loop
-turn c = c.before.before.before
 
 pub loop-i-init : goal.loop-i-init
 loop-i-init c = weighing _ _
@@ -33,24 +13,24 @@ pub offset_bounds-weights-x : goal.offset_bounds-weights-x
 offset_bounds-weights-x c = omega (
   arith,
   c.wide-x.ensures,
-  id-low c.loop-i.invariant c.loop-i-test.true (start c.before.before.before.before).requires,
+  id-low c.loop-i.invariant c.loop-i-test.true c.requires,
 )
 
 pub bounds-weights-x : goal.bounds-weights-x
 bounds-weights-x c =
-    let t = turn c.before.before in
+    let t = c.before in
     omega (
       arith,
       c.wide-x.ensures,
       id-low t.loop-i.invariant c.loop-i-test.true
-          (start t).requires,
+          t.requires,
     )
 
 pub loop-i-smaller : goal.loop-i-smaller
 loop-i-smaller c = simp length-set (omega (arith, c.loop-i-test.true))
 
 pub loop-i-preserved : goal.loop-i-preserved
-loop-i-preserved c = weighed (turn c.before.before).loop-i.invariant c.loop-i-test.true c.wide-x.ensures
+loop-i-preserved c = weighed c.loop-i.invariant c.loop-i-test.true c.wide-x.ensures
 
 pub shape_of-ids : goal.shape_of-ids
 shape_of-ids c = c.loop-i.invariant.storing.size_kept

@@ -10,27 +10,14 @@ use Rattle.text.proofs.OneNumber.{number_from, walk_field, walk_end, walk-bad, w
 use Rattle.text.proofs.inner.number_at.Goals as goal
 use mathlib.Core.Path as path
 use mathlib.Core.Bool as bool
-use Rattle.text.proofs.inner.number_at.Lts as lts
-use Rattle.text.proofs.inner.number_at.Tie as tie
-use Rattle.text.proofs.inner.number_at.Reads as reads
-
-abbrev Place-Else1 : Type 0
-Place-Else1 = lts.Else1 tie.the-claims reads.Pre reads.Post goal.the-invariant-loop-i goal.the-decreases-loop-i
-
-abbrev Place-At-loop : Type 0
-Place-At-loop = lts.At-loop tie.the-claims reads.Pre reads.Post goal.the-invariant-loop-i goal.the-decreases-loop-i
-
--- a turn of the loop, seen from where a digit was read
-abbrev turn-from-digit : Place-Else1 → Place-At-loop
-turn-from-digit c = c.before.before.before.before
 
 pub loop-i-init : goal.loop-i-init
 loop-i-init c = (omega arith, sym (walk_field c.args.most c.requires.1 _ _))
 
 pub returns-then-not-is_digit : goal.returns-then-not-is_digit
 returns-then-not-is_digit c =
-    let t = c.before.before.before.before.before in
-    let turn = t.before in
+    let t = c.before in
+    let turn = t in
     let a = turn.args in
     let d = told_no c.is_digit.ensures (path.ap bool.not c.if-not-is_digit.true) in
     c.number_end.ensures
@@ -39,14 +26,14 @@ returns-then-not-is_digit c =
 pub with_digit-v-requires : goal.with_digit-v-requires
 with_digit-v-requires c =
     let d = digit_range _ (told_yes c.is_digit.ensures (path.ap bool.not c.if-not-is_digit.false)) in
-    let turn = turn-from-digit c.before in
+    let turn = c.before in
     (omega (arith, turn.loop-i.invariant.0, turn.requires.2), d.0, d.1)
 
 pub returns-then-not-in_range : goal.returns-then-not-in_range
 returns-then-not-in_range c =
-    let digit = c.before.before.before.before in
-    let turn = turn-from-digit digit in
-    let start = turn.before.before in
+    let digit = c.before in
+    let turn = digit in
+    let start = turn in
     let d = told_yes digit.is_digit.ensures (path.ap bool.not digit.if-not-is_digit.false) in
     let out = told_no c.in_range.ensures (path.ap bool.not c.if-not-in_range.true) in
     let inside = digit.loop-i-test.true in
@@ -55,9 +42,9 @@ returns-then-not-in_range c =
 
 pub loop-i-preserved : goal.loop-i-preserved
 loop-i-preserved c =
-    let digit = c.before.before.before.before in
-    let turn = turn-from-digit digit in
-    let start = turn.before.before in
+    let digit = c.before in
+    let turn = digit in
+    let start = turn in
     let d = told_yes digit.is_digit.ensures (path.ap bool.not digit.if-not-is_digit.false) in
     let within = told_yes c.in_range.ensures (path.ap bool.not c.if-not-in_range.false) in
     let inside = digit.loop-i-test.true in
@@ -67,6 +54,6 @@ loop-i-preserved c =
 
 pub returns : goal.returns
 returns c =
-    let turn = c.before.before.before in
+    let turn = c.before in
     let a = turn.args in
     c.ended.ensures ∙ (sym (walk_none a.sep _ a.most _ _ c.loop-i-test.false) ∙ sym turn.loop-i.invariant.1)

@@ -8,28 +8,6 @@ use Rattle.weight.specs.RunList.{is_run_list, all_follow}
 use Rattle.weight.proofs.Followed.{list-uneven, list-none, list-first, follow-next, follow-end}
 use borrow.Author.Rules.{rules}
 use Rattle.weight.proofs.judging.is_run_list.Goals as goal
-use Rattle.weight.proofs.judging.is_run_list.Lts as lts
-use Rattle.weight.proofs.judging.is_run_list.Tie as tie
-use Rattle.weight.proofs.judging.is_run_list.Reads as reads
-
-abbrev Place-After-may_begin : Type 0
-Place-After-may_begin = lts.After-may_begin tie.the-claims reads.Pre reads.Post goal.the-invariant-loop-i goal.the-decreases-loop-i
-
-abbrev Place-Else1 : Type 0
-Place-Else1 = lts.Else1 tie.the-claims reads.Pre reads.Post goal.the-invariant-loop-i goal.the-decreases-loop-i
-
-abbrev Place-At-loop : Type 0
-Place-At-loop = lts.At-loop tie.the-claims reads.Pre reads.Post goal.the-invariant-loop-i goal.the-decreases-loop-i
-
-abbrev Place-Start : Type 0
-Place-Start = lts.Start tie.the-claims reads.Pre reads.Post goal.the-invariant-loop-i goal.the-decreases-loop-i
-
--- where the two tables are known to be as long, seen from `may_begin`; the start, seen from the loop
-abbrev even : Place-After-may_begin → Place-Else1
-even c = c.before.before.before.before
-
-abbrev start : Place-At-loop → Place-Start
-start c = c.before.before.before.before.before.before.before.before
 
 pub returns-then-run_weights-run_firsts : goal.returns-then-run_weights-run_firsts
 returns-then-run_weights-run_firsts c = sym (list-uneven _ _ _ c.if-run_weights-run_firsts.true)
@@ -39,7 +17,7 @@ returns-then-run_weights-eq0 c = sym (list-none _ _ _ c.if-run_weights-run_first
 
 pub loop-i-init : goal.loop-i-init
 loop-i-init c =
-    let same = (even c.before).if-run_weights-run_firsts.false in
+    let same = c.if-run_weights-run_firsts.false in
     let some = c.if-run_weights-eq0.false in
     (omega (arith, some), same, list-first _ _ _ same some _ c.may_begin-good.ensures)
 
@@ -47,7 +25,7 @@ pub loop-i-preserved : goal.loop-i-preserved
 loop-i-preserved c =
     let loop-test = c.loop-i-test in
     let l = c.loop-i in
-    let a = (start c.before.before.before.before.before).args in (
+    let a = c.args in (
       omega (arith, loop-test.true),
       l.invariant.1,
       follow-next _ a.run_weights.now a.run_firsts.now l.w l.f l.i l.good _ loop-test.true
