@@ -13,7 +13,7 @@ use Rattle.lists.proofs.Every.{at_all}
 use Rattle.lists.proofs.Regions.{part_length, part-add, only_part}
 use Rattle.cover_trails.specs.Counting.{occurs, oddly}
 use Rattle.cover_trails.specs.Strings.{Ends, weights}
-use Rattle.cover_trails.specs.Renamed.{renamed, Renamed}
+use Rattle.cover_trails.specs.Renamed.{Renamed}
 use Rattle.cover_trails.specs.Hub.{spoked}
 use Rattle.cover_trails.specs.Walks.{Reordered, both, AllEven}
 use Rattle.cover_trails.proofs.Counting.{AllBelow, occurs_beyond}

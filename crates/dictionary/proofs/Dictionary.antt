@@ -27,7 +27,7 @@ use Rattle.collection.proofs.Strung.{each_weighed}
 use Rattle.plain.specs.declared.PlainAnswer.TheVariants as plain
 use Rattle.access.specs.Access.{access_verdict}
 use Rattle.access.proofs.Accessed.{access_word}
-use Rattle.plain.specs.Says.{absent, Stands}
+use Rattle.plain.specs.Says.{Stands}
 use Rattle.runs.specs.Runs.{weights_of_runs, firsts_of_runs}
 use Rattle.weight.proofs.GivenBack.{runs_then_weight}
 use Rattle.index_minimizers.specs.Minimizer.{sizes_verdict}

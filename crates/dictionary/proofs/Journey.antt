@@ -48,8 +48,6 @@ use Rattle.index.specs.declared.IndexAnswer.TheVariants as index
 use Rattle.index.specs.Indexing.{stretch_count, first_entries, index_with, index_verdict, index_of}
 use Rattle.index.proofs.Success.{index-told, index-success}
 use Rattle.index_minimizers.specs.Minimizer.{sizes_verdict}
-use Rattle.quick.specs.declared.QuickAnswer.TheVariants.{Refused}
-use Rattle.quick.specs.declared.WordAnswer.TheVariants as word
 use Rattle.quick.specs.Quick.{quick_of}
 use Rattle.quick.specs.Weighed.{weighed_of}
 use Rattle.dictionary.specs.Dictionary.{weighed as weighed_over}

@@ -76,9 +76,9 @@ module _ {A : Type 0} where
   part_at b n w i d h = get_or-take n (drop b w) i d h ∙ get_or-drop b w i d
 
   -- what holds of every entry of the table holds of a region's, and of d past its end
-  pub part-get_d : (P : A → Type 0) (b n : ℕ) (w : List A) (d : A) → P d → ((i : ℕ) → P (get_or w i d)) → (i : ℕ) → P (get_or (part b n w) i d)
+  pub part-get_or : (P : A → Type 0) (b n : ℕ) (w : List A) (d : A) → P d → ((i : ℕ) → P (get_or w i d)) → (i : ℕ) → P (get_or (part b n w) i d)
   unfolding part
-  part-get_d P b n w d z h i = front n (drop b w) (λ j. rw (get_or-drop b w j d) (h (b + j))) i
+  part-get_or P b n w d z h i = front n (drop b w) (λ j. rw (get_or-drop b w j d) (h (b + j))) i
     where
       front : (m : ℕ) (l : List A) → ((j : ℕ) → P (get_or l j d)) → (j : ℕ) → P (get_or (take m l) j d)
       front zero l g j = z

@@ -9,7 +9,7 @@ use lib.Pow.{high, low}
 use Rattle.lists.specs.Count.{count_from}
 use Rattle.lists.specs.Every.{All}
 use Rattle.lists.specs.Regions.{part, Only}
-use Rattle.lists.proofs.Regions.{part_length, part-get_d, only_part, among-refl, among-part, among-trans, among-wider}
+use Rattle.lists.proofs.Regions.{part_length, part-get_or, only_part, among-refl, among-part, among-trans, among-wider}
 use Rattle.lists.proofs.Every.{all-at}
 use Rattle.sorting.specs.Keys.{key_at, code_at}
 use Rattle.sorting.specs.Layout.{both}
@@ -67,7 +67,7 @@ one_slot n slots a c w h x y e =
     hi = part 0 n w
 
     fits : (z : ℕ) → key_at (part n n w) z < 2 ^ 32
-    fits z = part-get_d (λ t. t < 2 ^ 32) n n w 0 (omega arith) h z
+    fits z = part-get_or (λ t. t < 2 ^ 32) n n w 0 (omega arith) h z
 
 -- before the first sieve
 pub left-all : (n : ℕ) (w : List ℕ) → part (n + n) n w ≡ count_from 0 n → Left n w w n

@@ -6,7 +6,6 @@ use Rattle.access.proofs.Accessed.{access_good, part_from, start_refused, start_
 use Rattle.collection.proofs.Judged.{shape_long}
 use Rattle.collection.proofs.Kmers.{position_fits}
 use Rattle.collection.proofs.Verdicts.{refused, settled}
-use borrow.Author.Rules.{rules}
 use Rattle.access.proofs.access.Goals as goal
 
 pub returns-in_default : goal.returns-in_default

@@ -5,7 +5,6 @@ use Rattle.access.specs.Access.{access_at}
 use Rattle.access.proofs.Accessed.{access_good}
 use Rattle.collection.proofs.Judged.{shape_long}
 use Rattle.collection.proofs.Verdicts.{refused, settled}
-use borrow.Author.Rules.{rules}
 use Rattle.access.proofs.access_at.Goals as goal
 
 pub returns-in-Bad : goal.returns-in-Bad

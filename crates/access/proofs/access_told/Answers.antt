@@ -1,7 +1,6 @@
 -- `access_told` meets its contract: each case of the verdict has its number and place. Assumes nothing.
 use mathlib.Core.Path.{sym, ap, ◌∙◌}
 use Rattle.collection.specs.Verdict.{told}
-use borrow.Author.Rules.{rules}
 use Rattle.access.proofs.access_told.Goals as goal
 
 pub returns-in-Good : goal.returns-in-Good

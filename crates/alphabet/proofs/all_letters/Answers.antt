@@ -1,9 +1,5 @@
 -- `all_letters` meets its contract. Invariant: the first i were tested. Assumes nothing.
-use Prim.Native.Nat.{◌-◌}
-use lib.ListN.{length}
-use Rattle.lists.proofs.Every.{Tested, tested-none, tested-next, tested-all}
-use Rattle.alphabet.specs.Letter.{is_letter}
-use borrow.Author.Rules.{rules}
+use Rattle.lists.proofs.Every.{tested-none, tested-next, tested-all}
 use Rattle.alphabet.proofs.all_letters.Goals as goal
 
 pub loop-i-init : goal.loop-i-init

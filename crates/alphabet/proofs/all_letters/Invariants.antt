@@ -1,9 +1,8 @@
 -- `all_letters` meets its contract. Invariant: the first i were tested. Assumes nothing.
 use Prim.Native.Nat.{◌-◌}
 use lib.ListN.{length}
-use Rattle.lists.proofs.Every.{Tested, tested-none, tested-next, tested-all}
+use Rattle.lists.proofs.Every.{Tested}
 use Rattle.alphabet.specs.Letter.{is_letter}
-use borrow.Author.Rules.{rules}
 use Rattle.alphabet.proofs.all_letters.Given as goal
 
 abbrev pub invariant-loop-i : goal.invariant-loop-i

@@ -4,7 +4,6 @@ use Prim.Native.Nat.{ℕ, ◌-◌}
 use native.Mathlib.Omega.{arith}
 use Rattle.alphabet.specs.Letter.{capital}
 use Rattle.alphabet.proofs.Letters.{bits_lt}
-use borrow.Author.Rules.{rules}
 use Rattle.alphabet.proofs.turned_letter.Goals as goal
 
 pub overflow_sub-letter_code : goal.overflow_sub-letter_code

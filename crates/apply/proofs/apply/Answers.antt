@@ -1,7 +1,6 @@
 -- `apply` meets its contract: the tables judged, then the places. Assumes nothing.
 use Rattle.apply.proofs.Applying.{tables_good, apply-refused, apply-goes-on}
 use Rattle.apply.specs.Apply.{Lent, lent}
-use borrow.Author.Rules.{rules}
 use Rattle.collection.specs.Collection.{Collection, collection}
 use Rattle.collection.specs.Tables.{tables}
 use Rattle.apply.proofs.apply.Goals as goal

@@ -1,7 +1,6 @@
 -- `apply_places` meets its contract: the places judged, then the strings written, and work zeroed. Assumes nothing.
 use Rattle.apply.proofs.Applying.{places-refused, placeable, places-filled}
 use Rattle.apply.specs.Apply.{Lent, lent}
-use borrow.Author.Rules.{rules}
 use Rattle.collection.specs.Collection.{Collection, collection}
 use Rattle.collection.specs.Tables.{tables}
 use Rattle.apply.proofs.apply_places.Goals as goal

@@ -5,7 +5,6 @@ use native.Mathlib.Omega.{arith}
 use Rattle.collection.specs.Judge.{collection_verdict, weights_verdict}
 use Rattle.collection.proofs.Judged.{shape_good}
 use Rattle.collection.proofs.Verdicts.{stops, goes_on}
-use borrow.Author.Rules.{rules}
 use Rattle.collection.proofs.judge_collection.Goals as goal
 
 pub returns-in_default : goal.returns-in_default

@@ -1,7 +1,6 @@
 -- `judge_rooms` meets its contract: a row of three judgements. Assumes nothing.
 use Rattle.collection.specs.Tables.{rooms_verdict}
 use Rattle.collection.proofs.Verdicts.{stops, goes_on}
-use borrow.Author.Rules.{rules}
 use Rattle.collection.proofs.judge_rooms.Goals as goal
 
 pub returns-in_default : goal.returns-in_default

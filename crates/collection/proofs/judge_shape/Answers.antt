@@ -3,7 +3,6 @@ use mathlib.Core.Path.{sym, ◌∙◌}
 use Rattle.collection.specs.Judge.{shape_verdict}
 use Rattle.collection.proofs.Judged.{k_good}
 use Rattle.collection.proofs.Verdicts.{stops, goes_on}
-use borrow.Author.Rules.{rules}
 use Rattle.collection.proofs.judge_shape.Goals as goal
 
 pub returns-in_default : goal.returns-in_default

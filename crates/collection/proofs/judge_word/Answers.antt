@@ -6,7 +6,6 @@ use lib.ListN.{length}
 use Rattle.lists.specs.Choose.{choose}
 use Rattle.collection.specs.declared.Verdict.TheVariants.{Good, Bad}
 use Rattle.collection.specs.Judge.{word_verdict}
-use borrow.Author.Rules.{rules}
 use Rattle.collection.proofs.judge_word.Goals as goal
 
 pub returns-then-word-k : goal.returns-then-word-k

@@ -6,7 +6,6 @@ use Rattle.collection.specs.declared.Verdict.TheVariants.{Good}
 use Rattle.collection.proofs.Strung.{judged_strung}
 use Rattle.cover.specs.Cover.{cover_verdict}
 use Rattle.cover.proofs.Promised.{Roomy, cover_good, work-fits, places-fit, cover-refused, cover_none, cover_all}
-use borrow.Author.Rules.{rules}
 use Rattle.cover.proofs.cover.Goals as goal
 use Rattle.cover.proofs.cover.Lts as lts
 use Rattle.cover.proofs.cover.Tie as tie

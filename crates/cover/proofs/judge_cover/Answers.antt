@@ -4,7 +4,6 @@ use native.Mathlib.Omega.{arith}
 use Rattle.collection.proofs.Judged.{collection_good}
 use Rattle.collection.proofs.Verdicts.{stops, goes_on}
 use Rattle.cover.specs.Cover.{cover_verdict}
-use borrow.Author.Rules.{rules}
 use Rattle.cover.proofs.judge_cover.Goals as goal
 
 pub returns-in_default : goal.returns-in_default

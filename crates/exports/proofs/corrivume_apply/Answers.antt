@@ -4,7 +4,6 @@ use Rattle.exports.specs.Calls.{apply_exported}
 use Rattle.collection.specs.Tables.{tables}
 use Rattle.apply.specs.Apply.{lent}
 use Rattle.exports_replies.proofs.Telling.{too_short, shown}
-use borrow.Author.Rules.{rules}
 use Rattle.exports.proofs.corrivume_apply.Goals as goal
 
 pub returns-then-answer-lt-ANSWER : goal.returns-then-answer-lt-ANSWER

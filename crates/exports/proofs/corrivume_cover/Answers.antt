@@ -3,7 +3,6 @@ use Prim.{absurd}
 use native.Mathlib.Omega.{arith}
 use Rattle.cover.specs.declared.CoverAnswer.TheVariants.{Refused}
 use Rattle.exports_replies.proofs.Telling.{too_short, shown}
-use borrow.Author.Rules.{rules}
 use Rattle.exports.proofs.corrivume_cover.Goals as goal
 
 pub returns-then-answer-lt-ANSWER : goal.returns-then-answer-lt-ANSWER

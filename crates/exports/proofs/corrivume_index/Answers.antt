@@ -3,7 +3,6 @@ use mathlib.Core.Path.{ap, ◌∙◌}
 use Rattle.index.specs.Indexing.{lent}
 use Rattle.exports.specs.Calls.{index_exported}
 use Rattle.exports_replies.proofs.Telling.{too_short, shown}
-use borrow.Author.Rules.{rules}
 use Rattle.exports.proofs.corrivume_index.Goals as goal
 
 pub returns-then-answer-lt-ANSWER : goal.returns-then-answer-lt-ANSWER

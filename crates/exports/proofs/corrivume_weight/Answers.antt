@@ -3,7 +3,6 @@ use mathlib.Core.Path.{ap, ◌∙◌}
 use Rattle.exports_replies.specs.Replies.{weight_reply}
 use Rattle.exports_replies.specs.Exported.{none}
 use Rattle.exports_replies.proofs.Telling.{too_short, shown}
-use borrow.Author.Rules.{rules}
 use Rattle.exports.proofs.corrivume_weight.Goals as goal
 
 pub returns-then-answer-lt-ANSWER : goal.returns-then-answer-lt-ANSWER

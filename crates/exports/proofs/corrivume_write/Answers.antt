@@ -2,7 +2,6 @@
 use mathlib.Core.Path.{ap, ◌∙◌}
 use Rattle.exports.specs.Calls.{write_exported}
 use Rattle.exports_replies.proofs.Telling.{too_short, shown}
-use borrow.Author.Rules.{rules}
 use Rattle.exports.proofs.corrivume_write.Goals as goal
 
 pub returns-then-answer-lt-ANSWER : goal.returns-then-answer-lt-ANSWER

@@ -2,7 +2,6 @@
 use mathlib.Core.Path.{sym}
 use Rattle.index.specs.Indexing.{Lent, lent}
 use Rattle.index.proofs.Built.{lent-size, room4, cut-orderable, cut_low, cut-room, index-built}
-use borrow.Author.Rules.{rules}
 use Rattle.index.proofs.build.Goals as goal
 use Rattle.index.proofs.build.Lts as lts
 use Rattle.index.proofs.build.Tie as tie

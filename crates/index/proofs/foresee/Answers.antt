@@ -10,7 +10,6 @@ use Rattle.collection.proofs.Ready.{judged_ready}
 use Rattle.index_minimizers.specs.Minimizer.{sizes_verdict}
 use Rattle.index_minimizers.proofs.Sizes.{sizes_good, words_few}
 use Rattle.index.proofs.Indexed.{sizes-refused, collection-refused, room-enough, room-refused}
-use borrow.Author.Rules.{rules}
 use Rattle.index.proofs.foresee.Goals as goal
 use Rattle.index.proofs.foresee.Lts as lts
 use Rattle.index.proofs.foresee.Tie as tie

@@ -3,7 +3,6 @@ use mathlib.Core.Path.{◌≡◌, refl}
 use Rattle.index.specs.Indexing.{Lent, lent}
 use Rattle.index.specs.Judged.{foreseen}
 use Rattle.index.proofs.Indexed.{index-refused, foreseen-judged, index-goes-on}
-use borrow.Author.Rules.{rules}
 use Rattle.collection.specs.Collection.{Collection, collection}
 use Rattle.index.proofs.index.Goals as goal
 use Rattle.index.proofs.index.Lts as lts

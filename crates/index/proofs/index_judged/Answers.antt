@@ -5,7 +5,6 @@ use native.Mathlib.Omega.{arith}
 use Rattle.repeats.proofs.Arranged.{few_kmers}
 use Rattle.index.specs.Indexing.{Lent, lent}
 use Rattle.index.proofs.Indexed.{repeat-refused, judged-still, index-made, work-still}
-use borrow.Author.Rules.{rules}
 use Rattle.index.proofs.index_judged.Goals as goal
 use Rattle.index.proofs.index_judged.Lts as lts
 use Rattle.index.proofs.index_judged.Tie as tie

@@ -5,7 +5,6 @@ use Rattle.lists.specs.Choose.{choose}
 use Rattle.collection.specs.declared.Verdict.TheVariants.{Good, Bad}
 use Rattle.collection.proofs.Verdicts.{stops, goes_on}
 use Rattle.index_minimizers.specs.Minimizer.{sizes_verdict}
-use borrow.Author.Rules.{rules}
 use Rattle.index_minimizers.proofs.judge_sizes.Goals as goal
 
 pub returns-in_default : goal.returns-in_default

@@ -7,7 +7,6 @@ use Rattle.plain.specs.Plain.{plain_of}
 use Rattle.collection.proofs.Ready.{judged_ready}
 use Rattle.collection.proofs.Judged.{collection_good, word_good}
 use Rattle.collection.proofs.Verdicts.{then_bad, then_good, refused, settled}
-use borrow.Author.Rules.{rules}
 use Rattle.plain.proofs.plain.Goals as goal
 use Rattle.plain.proofs.plain.Lts as lts
 use Rattle.plain.proofs.plain.Tie as tie

@@ -1,7 +1,6 @@
 -- `judge_asked` meets its contract: a row of three judgements. Assumes nothing.
 use Rattle.collection.proofs.Verdicts.{stops, goes_on}
 use Rattle.quick.specs.Quick.{ask_verdict}
-use borrow.Author.Rules.{rules}
 use Rattle.quick.proofs.judge_asked.Goals as goal
 
 pub returns-in_default : goal.returns-in_default

@@ -1,7 +1,6 @@
 -- `not_found` meets its contract: each case of the answer has its own. Assumes nothing.
 use mathlib.Core.Path.{sym, ap}
 use Rattle.quick.specs.Weighed.{unweighed}
-use borrow.Author.Rules.{rules}
 use Rattle.quick.proofs.not_found.Goals as goal
 
 pub returns-in-Found : goal.returns-in-Found

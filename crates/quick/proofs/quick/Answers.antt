@@ -13,7 +13,6 @@ use Rattle.quick.specs.Asking.{question_of, asked_of}
 use Rattle.quick.specs.Judged.{Askable}
 use Rattle.index_minimizers.specs.Minimizer.{minimizer}
 use Rattle.quick.proofs.Asked.{ask_good, askable, asked-quick, row_below, other-below, rows_good}
-use borrow.Author.Rules.{rules}
 use Rattle.quick.proofs.quick.Goals as goal
 use Rattle.quick.proofs.quick.Lts as lts
 use Rattle.quick.proofs.quick.Tie as tie

@@ -1,16 +1,11 @@
 -- `weigh` meets its contract: QUICK's answer is taken apart, and a handle found is weighed. Assumes nothing.
 use mathlib.Core.Path.{◌≡◌, refl, sym, ap, ◌∙◌}
 use mathlib.Core.List.{List}
-use mathlib.Core.Logic.{◌⊎◌, inl, inr}
 use Prim.Native.Nat.{ℕ}
-use native.Mathlib.Omega.{arith}
-use denote.Enum.Declared.{tag_of}
 use Rattle.quick.specs.declared.QuickAnswer.{QuickAnswer}
 use Rattle.quick.specs.declared.QuickAnswer.TheVariants.{Found, Absent, Refused}
 use Rattle.quick.specs.Weighed.{weighs, unweighed, weighed_of}
-use Rattle.quick.specs.contracts.QuickAnswer as answers
 use Rattle.quick.proofs.Weighing.{found_weighs}
-use borrow.Author.Rules.{rules}
 use Rattle.collection.specs.declared.Side.{Side}
 use Rattle.quick.proofs.weigh.Goals as goal
 

@@ -11,7 +11,6 @@ use Rattle.collection.proofs.Verdicts.{refused, settled}
 use Rattle.repeats.specs.declared.CheckAnswer.TheVariants.{Checked, Refused}
 use Rattle.repeats.specs.Check.{check_of, outcome}
 use Rattle.repeats.proofs.Checked.{Started, check-started}
-use borrow.Author.Rules.{rules}
 use Rattle.repeats.proofs.check.Goals as goal
 use Rattle.repeats.proofs.check.Lts as lts
 use Rattle.repeats.proofs.check.Tie as tie

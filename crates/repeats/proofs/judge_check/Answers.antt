@@ -6,7 +6,6 @@ use Rattle.repeats.specs.Check.{check_verdict}
 use Rattle.collection.specs.Verdict.{room_verdict}
 use Rattle.collection.proofs.Judged.{collection_good}
 use Rattle.collection.proofs.Verdicts.{stops, goes_on}
-use borrow.Author.Rules.{rules}
 use Rattle.repeats.proofs.judge_check.Goals as goal
 
 pub returns-in_default : goal.returns-in_default

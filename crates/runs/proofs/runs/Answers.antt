@@ -11,7 +11,6 @@ use Rattle.collection.proofs.Verdicts.{then_bad, then_good, room_good, refused, 
 use Rattle.runs.specs.declared.RunsAnswer.TheVariants.{Filled}
 use Rattle.runs.specs.Runs.{run_count}
 use Rattle.runs.specs.Calls.{outcome, runs_of, runs_verdict}
-use borrow.Author.Rules.{rules}
 use Rattle.runs.proofs.runs.Goals as goal
 use Rattle.runs.proofs.runs.Lts as lts
 use Rattle.runs.proofs.runs.Tie as tie

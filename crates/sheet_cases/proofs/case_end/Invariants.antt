@@ -1,7 +1,6 @@
 -- `case_end` meets its contract. Invariant: the place passed is behind the start and within the bytes. Assumes nothing.
 use Prim.Native.Nat.{◌-◌, ◌<◌, ◌≤◌}
 use lib.ListN.{length}
-use borrow.Author.Rules.{rules}
 use Rattle.sheet_cases.proofs.case_end.Given as goal
 
 abbrev pub invariant-loop-i : goal.invariant-loop-i

@@ -1,7 +1,6 @@
 -- `written` is safe: the tests keep the parts within the tables. Assumes nothing.
 use mathlib.Core.Path.{sym}
 use lib.Seq.{length-take-le}
-use borrow.Author.Rules.{rules}
 use Rattle.sheet_cases.proofs.written.Goals as goal
 
 pub slice_bounds-write-end : goal.slice_bounds-write-end

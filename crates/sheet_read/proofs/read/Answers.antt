@@ -1,7 +1,6 @@
 -- `read` meets its contract: judged, then filled. Assumes nothing.
 use Rattle.collection.specs.Tables.{tables}
 use Rattle.sheet_read.proofs.Outcomes.{read-refused, read_fits, read-filled}
-use borrow.Author.Rules.{rules}
 use Rattle.sheet_read.proofs.read.Goals as goal
 
 pub fill_lines-requires : goal.fill_lines-requires

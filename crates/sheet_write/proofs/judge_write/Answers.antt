@@ -4,7 +4,6 @@ use Prim.Native.Nat.{ℕ}
 use Rattle.collection.specs.Verdict.{room_verdict}
 use Rattle.collection.proofs.Verdicts.{stops, goes_on}
 use Rattle.sheet.specs.Write.{write_verdict}
-use borrow.Author.Rules.{rules}
 use Rattle.sheet_write.proofs.judge_write.Goals as goal
 
 pub returns-in_default : goal.returns-in_default

@@ -1,6 +1,5 @@
 -- `write` meets its contract: judged, then stored. Assumes nothing.
 use Rattle.sheet_write.proofs.Outcomes.{write-refused, write-ready, write_done}
-use borrow.Author.Rules.{rules}
 use Rattle.collection.specs.Collection.{collection}
 use Rattle.sheet_write.proofs.write.Goals as goal
 

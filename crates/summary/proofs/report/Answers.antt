@@ -6,7 +6,6 @@ use Rattle.summary_text.specs.declared.Summary.{Summary}
 use Rattle.summary_text.specs.Text.{text_for}
 use Rattle.summary_text.specs.Written.{written_of}
 use Rattle.summary.specs.Report.{text_of, report_of}
-use borrow.Author.Rules.{rules}
 use Rattle.summary.proofs.report.Goals as goal
 
 pub returns : goal.returns

@@ -1,6 +1,5 @@
 -- `put_counted` meets its contract: three times three lines. Assumes nothing.
 use Rattle.summary_text.proofs.Stored.{first-room, next-room, last-room, counted-end}
-use borrow.Author.Rules.{rules}
 use Rattle.summary_text.proofs.put_counted.Goals as goal
 
 pub put_lines-a-requires : goal.put_lines-a-requires

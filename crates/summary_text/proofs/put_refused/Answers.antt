@@ -1,6 +1,5 @@
 -- `put_refused` meets its contract: the number, then the place. Assumes nothing.
 use Rattle.summary_text.proofs.Stored.{number-room, place-room, refused_end}
-use borrow.Author.Rules.{rules}
 use Rattle.summary_text.proofs.put_refused.Goals as goal
 
 pub put_entry-a-requires : goal.put_entry-a-requires

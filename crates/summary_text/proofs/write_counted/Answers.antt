@@ -3,7 +3,6 @@ use native.Mathlib.Omega.{arith}
 use Rattle.summary_text.specs.Text.{counted_text}
 use Rattle.summary_text.proofs.Stored.{counted-length}
 use Rattle.summary_text.proofs.Outcomes.{written-refused, written-room, written-done}
-use borrow.Author.Rules.{rules}
 use Rattle.summary_text.proofs.write_counted.Goals as goal
 
 pub returns-in-Bad : goal.returns-in-Bad

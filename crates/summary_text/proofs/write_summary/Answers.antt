@@ -1,6 +1,5 @@
 -- `write_summary` meets its contract, by the kind of summary. Assumes nothing.
 use Rattle.summary_text.proofs.Outcomes.{of-counted, of-refused}
-use borrow.Author.Rules.{rules}
 use Rattle.summary_text.proofs.write_summary.Goals as goal
 
 pub returns-in-Counted : goal.returns-in-Counted

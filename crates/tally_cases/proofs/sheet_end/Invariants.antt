@@ -1,7 +1,6 @@
 -- `sheet_end` meets its contract. Invariant: the place passed is not before the start, and within the bytes. Assumes nothing.
 use Prim.Native.Nat.{◌-◌, ◌≤◌}
 use lib.ListN.{length}
-use borrow.Author.Rules.{rules}
 use Rattle.tally_cases.proofs.sheet_end.Given as goal
 
 abbrev pub invariant-loop-i : goal.invariant-loop-i

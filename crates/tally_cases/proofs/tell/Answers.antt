@@ -2,7 +2,6 @@
 use mathlib.Core.Path.{sym}
 use lib.Seq.{length-take-le}
 use Rattle.summary.proofs.Reported.{report_writes}
-use borrow.Author.Rules.{rules}
 use Rattle.tally_cases.proofs.tell.Goals as goal
 
 pub slice_bounds-text-end : goal.slice_bounds-text-end

@@ -1,5 +1,4 @@
 -- `byte_is` meets its contract: by the one test of the index. Assumes nothing.
-use borrow.Author.Rules.{rules}
 use borrow.Author.Tests.{lt-ltb, le-ltb}
 use Rattle.text.proofs.byte_is.Goals as goal
 

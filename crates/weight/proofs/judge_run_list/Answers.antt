@@ -5,7 +5,6 @@ use borrow.Author.Tests.{le-leb, lt-leb}
 use Rattle.lists.specs.Choose.{choose}
 use Rattle.collection.specs.declared.Verdict.TheVariants.{Good, Bad}
 use Rattle.weight.specs.RunList.{is_run_list, run_list_verdict}
-use borrow.Author.Rules.{rules}
 use Rattle.weight.proofs.judge_run_list.Goals as goal
 
 pub returns-then-is_run_list : goal.returns-then-is_run_list

@@ -5,7 +5,6 @@ use Rattle.collection.proofs.Verdicts.{then_bad, then_good, refused, settled}
 use Rattle.weight.specs.declared.WeightAnswer.TheVariants.{Found}
 use Rattle.weight.specs.Weight.{weight_answer}
 use Rattle.weight.proofs.RunLists.{list_verdict_good}
-use borrow.Author.Rules.{rules}
 use Rattle.weight.proofs.weight.Goals as goal
 
 pub returns-in-Bad : goal.returns-in-Bad

@@ -2,7 +2,6 @@
 use mathlib.Core.Path.{refl, sym, ◌∙◌}
 use Rattle.collection.proofs.Verdicts.{then_bad, then_good, refused, settled}
 use Rattle.weight_records.specs.Pass.{finished}
-use borrow.Author.Rules.{rules}
 use Rattle.weight_records.proofs.finish.Goals as goal
 
 pub returns-in-Bad : goal.returns-in-Bad

@@ -5,7 +5,6 @@ use Rattle.lists.specs.Choose.{choose}
 use Rattle.weight.specs.RunList.{follows, begins}
 use Rattle.weight_records.specs.declared.Run.{Run}
 use Rattle.weight_records.specs.declared.State.{State}
-use borrow.Author.Rules.{rules}
 use Rattle.weight_records.proofs.fits_next.Goals as goal
 
 -- the test that `fits` makes, where a run was read before or not

@@ -4,7 +4,6 @@ use mathlib.Core.Bool.{Bool, true, ◌&&◌}
 use Prim.Native.Nat.{ℕ}
 use Rattle.weight_records.specs.declared.Run.{Run}
 use Rattle.weight_records.specs.declared.State.{State}
-use borrow.Author.Rules.{rules}
 use Rattle.weight_records.proofs.step.Goals as goal
 
 -- the state that is made of what the two gave

@@ -1,11 +1,8 @@
 -- `weight_of_records` meets its contract: its steps, one after the other. Assumes nothing.
 --     The state after i records is `after i`. A turn reads record i, hands it and the state to `step`, and stores the state that comes back.
 use mathlib.Core.Path.{◌≡◌, sym, ap, ◌∙◌}
-use mathlib.Core.List.{List}
-use Prim.Native.Nat.{ℕ, ◌≤◌}
 use native.Mathlib.Omega.{arith}
 use lib.ListN.{length, get_or}
-use Rattle.weight_records.specs.declared.Run.{Run}
 use Rattle.weight_records.specs.declared.State.{State}
 use Rattle.weight_records.specs.Pass.{started, stepped, finished}
 use Rattle.weight_records.proofs.Passes.{zeros, after, after_none, after_next, after_all, passed-answers}

@@ -1,5 +1,5 @@
 -- `weight_of_records`: after i records the state is `after i`.
-use Rattle.std.proofs.Common.{length, ◌-◌, ◌≡◌, ◌≤◌, ℕ}
+use Rattle.std.proofs.Common.{length, ◌-◌, ◌≡◌, ◌≤◌}
 use Rattle.weight_records.specs.Pass.{started}
 use Rattle.weight_records.proofs.Passes.{after}
 use Rattle.weight_records.proofs.weight_of_records.Given as goal

@@ -3,7 +3,6 @@ use mathlib.Core.Path.{refl}
 use Rattle.lists.specs.Every.{every_from}
 use Rattle.words.specs.Word.{code_from, turn}
 use Rattle.words.specs.Turned.{spelled, turned_code, turns_four}
-use borrow.Author.Rules.{rules}
 use Rattle.words.proofs.turned_four.Goals as goal
 
 pub looked_up-requires : goal.looked_up-requires

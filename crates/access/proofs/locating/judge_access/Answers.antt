@@ -6,7 +6,6 @@ use Rattle.access.specs.Access.{access_verdict}
 use Rattle.collection.specs.Judge.{handle_verdict}
 use Rattle.collection.proofs.Judged.{shape_good}
 use Rattle.collection.proofs.Verdicts.{stops, goes_on}
-use borrow.Author.Rules.{rules}
 use Rattle.access.proofs.locating.judge_access.Goals as goal
 
 pub returns-in_default : goal.returns-in_default

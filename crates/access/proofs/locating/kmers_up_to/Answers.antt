@@ -1,7 +1,6 @@
 -- `kmers_up_to` meets its contract: each string up to string i has k - 1 letters more than k-mers. Assumes nothing.
 use native.Mathlib.Omega.{arith}
 use Rattle.collection.proofs.Kmers.{up-to-count}
-use borrow.Author.Rules.{rules}
 use Rattle.access.proofs.locating.kmers_up_to.Goals as goal
 
 pub overflow_cast-result : goal.overflow_cast-result

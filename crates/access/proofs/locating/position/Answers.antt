@@ -1,7 +1,6 @@
 -- `position` meets its contract: the string of the handle is found, and the k-mer stands in it. Assumes nothing.
 use native.Mathlib.Omega.{arith}
 use Rattle.access.proofs.Located.{position_in, position_small}
-use borrow.Author.Rules.{rules}
 use Rattle.access.proofs.locating.position.Goals as goal
 
 pub overflow_mul-result : goal.overflow_mul-result

@@ -1,8 +1,6 @@
 -- `string_of` meets its contract. Invariant: the string that is sought is one of low to high. Assumes nothing.
-use Prim.Native.Nat.{◌-◌}
 use native.Mathlib.Omega.{arith}
-use Rattle.access.proofs.Located.{Halving, some-string, halving_begins, halving_ends}
-use borrow.Author.Rules.{rules}
+use Rattle.access.proofs.Located.{some-string, halving_begins, halving_ends}
 use Rattle.access.proofs.locating.string_of.Goals as goal
 
 pub overflow_sub-high : goal.overflow_sub-high

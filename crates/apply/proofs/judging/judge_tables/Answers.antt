@@ -1,7 +1,6 @@
 -- `judge_tables` meets its contract: the collection, the new tables, then work. Assumes nothing.
 use Rattle.collection.proofs.Verdicts.{stops, goes_on}
 use Rattle.apply.specs.Apply.{tables_verdict}
-use borrow.Author.Rules.{rules}
 use Rattle.apply.proofs.judging.judge_tables.Goals as goal
 
 pub returns-in_default : goal.returns-in_default

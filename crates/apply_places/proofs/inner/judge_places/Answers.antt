@@ -2,7 +2,6 @@
 use native.Mathlib.Omega.{arith}
 use Rattle.collection.proofs.Verdicts.{bad_good, place_none, place_some}
 use Rattle.apply_places.proofs.Marking.{judged_number, judged_each, zeros_ready}
-use borrow.Author.Rules.{rules}
 use Rattle.apply_places.proofs.inner.judge_places.Goals as goal
 
 pub returns-then-signed-m : goal.returns-then-signed-m

@@ -8,7 +8,6 @@ use Rattle.collection.specs.Kmers.{within}
 use Rattle.cover_trails.specs.Places.{is_turned}
 use Rattle.cover_trails.proofs.Signed.{kept}
 use Rattle.apply_strings.proofs.Parts.{string-long, weights-before}
-use borrow.Author.Rules.{rules}
 use Rattle.apply_strings.proofs.inner.part_of.Goals as goal
 
 pub overflow_cast-end : goal.overflow_cast-end

@@ -2,10 +2,7 @@
 use Prim.Native.Nat.{◌+◌, ◌-◌, ◌≤◌}
 use native.Mathlib.Omega.{arith}
 use lib.ListN.{length}
-use Rattle.apply_strings.specs.Reordered.{reordered}
-use Rattle.apply_strings.proofs.Placements.{Placing, placing-begins, placing-next, placing-ends, named, part-asked, letters-inside, weights-inside, letters-asked, letters_room, weights_room, ends_room, at-few, kmer-few, few_strings, few_weights}
-use borrow.Author.Rules.{rules}
-use Rattle.collection.specs.Collection.{collection}
+use Rattle.apply_strings.proofs.Placements.{placing-begins, placing-next, placing-ends, named, part-asked, letters-inside, weights-inside, letters-asked, letters_room, weights_room, ends_room, at-few, kmer-few, few_strings, few_weights}
 use Rattle.apply_strings.proofs.inner.place_strings.Goals as goal
 use Rattle.apply_strings.proofs.inner.place_strings.Lts as lts
 use Rattle.apply_strings.proofs.inner.place_strings.Tie as tie

@@ -1,10 +1,8 @@
 -- `place_strings` meets its contract. Invariant: storing the strings from place j on completes the three tables. Assumes nothing.
-use Prim.Native.Nat.{◌+◌, ◌-◌, ◌≤◌}
-use native.Mathlib.Omega.{arith}
+use Prim.Native.Nat.{◌-◌}
 use lib.ListN.{length}
 use Rattle.apply_strings.specs.Reordered.{reordered}
-use Rattle.apply_strings.proofs.Placements.{Placing, placing-begins, placing-next, placing-ends, named, part-asked, letters-inside, weights-inside, letters-asked, letters_room, weights_room, ends_room, at-few, kmer-few, few_strings, few_weights}
-use borrow.Author.Rules.{rules}
+use Rattle.apply_strings.proofs.Placements.{Placing}
 use Rattle.collection.specs.Collection.{collection}
 use Rattle.apply_strings.proofs.inner.place_strings.Given as goal
 

@@ -2,7 +2,6 @@
 use Prim.Native.Nat.{◌-◌}
 use native.Mathlib.Omega.{arith}
 use Rattle.apply_strings.proofs.Parts.{start_first, start-later}
-use borrow.Author.Rules.{rules}
 use Rattle.apply_strings.proofs.inner.start_of.Goals as goal
 
 pub returns-then-i-eq0 : goal.returns-then-i-eq0

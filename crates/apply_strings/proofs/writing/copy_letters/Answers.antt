@@ -1,8 +1,5 @@
 -- `copy_letters` meets its contract. Invariant: the first i entries are copied. Assumes nothing.
-use Prim.Native.Nat.{◌-◌}
-use lib.ListN.{length}
-use Rattle.lists.proofs.Copying.{Copying, copy_start, copy-inside, copy-next, copied}
-use borrow.Author.Rules.{rules}
+use Rattle.lists.proofs.Copying.{copy_start, copy-inside, copy-next, copied}
 use Rattle.apply_strings.proofs.writing.copy_letters.Goals as goal
 
 pub loop-i-init : goal.loop-i-init

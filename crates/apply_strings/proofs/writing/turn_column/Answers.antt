@@ -1,14 +1,11 @@
 -- `turn_column` meets its contract. Invariant: storing the weights that are left, the last first, from `at` on completes the table. Assumes nothing.
 use mathlib.Core.Path.{sym, ap}
 use mathlib.Core.List.{reverse}
-use Prim.Native.Nat.{◌≤◌}
 use native.Mathlib.Omega.{arith}
-use lib.ListN.{length, take, length-reverse}
+use lib.ListN.{length-reverse}
 use lib.Seq.{take-length}
-use Rattle.lists.specs.Fill.{fill}
-use Rattle.lists.proofs.Storing.{Storing, begin, inside, store, restated, stored}
+use Rattle.lists.proofs.Storing.{begin, inside, store, restated, stored}
 use Rattle.apply_strings.proofs.Turning.{reversed_last, reversed_none}
-use borrow.Author.Rules.{rules}
 use Rattle.apply_strings.proofs.writing.turn_column.Goals as goal
 
 pub loop-left-init : goal.loop-left-init

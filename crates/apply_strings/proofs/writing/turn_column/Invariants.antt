@@ -1,14 +1,9 @@
 -- `turn_column` meets its contract. Invariant: storing the weights that are left, the last first, from `at` on completes the table. Assumes nothing.
-use mathlib.Core.Path.{sym, ap}
 use mathlib.Core.List.{reverse}
 use Prim.Native.Nat.{◌≤◌}
-use native.Mathlib.Omega.{arith}
-use lib.ListN.{length, take, length-reverse}
-use lib.Seq.{take-length}
+use lib.ListN.{length, take}
 use Rattle.lists.specs.Fill.{fill}
-use Rattle.lists.proofs.Storing.{Storing, begin, inside, store, restated, stored}
-use Rattle.apply_strings.proofs.Turning.{reversed_last, reversed_none}
-use borrow.Author.Rules.{rules}
+use Rattle.lists.proofs.Storing.{Storing}
 use Rattle.apply_strings.proofs.writing.turn_column.Given as goal
 
 abbrev pub invariant-loop-left : goal.invariant-loop-left

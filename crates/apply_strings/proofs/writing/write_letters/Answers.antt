@@ -1,7 +1,6 @@
 -- `write_letters` meets its contract: the part from `at` on was lent and filled. Assumes nothing.
 use mathlib.Core.Bool.{true, false}
 use Rattle.apply_strings.specs.Turned.{letters_by}
-use borrow.Author.Rules.{rules}
 use Rattle.apply_strings.proofs.Turning.{written_by}
 use Rattle.apply_strings.proofs.writing.write_letters.Goals as goal
 

@@ -3,10 +3,8 @@ use mathlib.Core.Path.{◌≡◌, ap}
 use mathlib.Core.List.{List, [], ◌∷◌}
 use Prim.Native.Nat.{ℕ, suc, ◌+◌, ◌-◌, ◌≤◌, ◌<◌}
 use native.Mathlib.Omega.{arith}
-use lib.ListN.{length, replicate, length-replicate}
-use Rattle.lists.specs.Fill.{fill}
-use Rattle.lists.proofs.Storing.{Storing, begin, inside, store, restated, stored}
-use borrow.Author.Rules.{rules}
+use lib.ListN.{replicate, length-replicate}
+use Rattle.lists.proofs.Storing.{begin, inside, store, restated, stored}
 use Rattle.collection.proofs.inner.zero_first.Goals as goal
 
 zeros-next : (n i : ℕ) → i < n → ◌≡◌ {A = List ℕ} (replicate (n - i) 0) (0 ∷ replicate (n - (i + 1)) 0)

@@ -1,12 +1,8 @@
 -- `zero_first` meets its contract. Invariant: storing the zeros that are left from i on completes the table. Assumes nothing.
-use mathlib.Core.Path.{◌≡◌, ap}
-use mathlib.Core.List.{List, [], ◌∷◌}
-use Prim.Native.Nat.{ℕ, suc, ◌+◌, ◌-◌, ◌≤◌, ◌<◌}
-use native.Mathlib.Omega.{arith}
-use lib.ListN.{length, replicate, length-replicate}
+use Prim.Native.Nat.{◌-◌, ◌≤◌}
+use lib.ListN.{length, replicate}
 use Rattle.lists.specs.Fill.{fill}
-use Rattle.lists.proofs.Storing.{Storing, begin, inside, store, restated, stored}
-use borrow.Author.Rules.{rules}
+use Rattle.lists.proofs.Storing.{Storing}
 use Rattle.collection.proofs.inner.zero_first.Given as goal
 
 abbrev pub invariant-loop-i : goal.invariant-loop-i

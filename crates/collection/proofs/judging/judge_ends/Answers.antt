@@ -4,7 +4,6 @@ use borrow.Author.Tests.{eq-eqb, ne_eqb}
 use Rattle.collection.specs.Judge.{ends_verdict}
 use Rattle.collection.specs.Verdict.{at_place}
 use Rattle.collection.proofs.Verdicts.{stops, goes_on, place_some, place_none}
-use borrow.Author.Rules.{rules}
 use Rattle.collection.proofs.judging.judge_ends.Goals as goal
 
 pub returns-then-short-ne0 : goal.returns-then-short-ne0

@@ -2,7 +2,6 @@
 use mathlib.Core.Path.{ap, ◌∙◌}
 use Rattle.collection.specs.Judge.{letters_verdict}
 use Rattle.collection.specs.Verdict.{at_place}
-use borrow.Author.Rules.{rules}
 use Rattle.collection.proofs.judging.judge_letters.Goals as goal
 
 pub returns : goal.returns

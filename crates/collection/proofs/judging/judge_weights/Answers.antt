@@ -3,7 +3,6 @@ use mathlib.Core.Path.{ap, ◌∙◌}
 use borrow.Author.Tests.{eq-eqb, ne_eqb}
 use Rattle.collection.specs.Judge.{weights_verdict}
 use Rattle.collection.specs.Verdict.{at_place}
-use borrow.Author.Rules.{rules}
 use Rattle.collection.proofs.judging.judge_weights.Goals as goal
 
 pub returns-then-weights-n : goal.returns-then-weights-n

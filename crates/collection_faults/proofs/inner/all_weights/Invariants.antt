@@ -1,9 +1,8 @@
 -- `all_weights` meets its contract. Invariant: the first i were tested. Assumes nothing.
 use Prim.Native.Nat.{◌-◌}
 use lib.ListN.{length}
-use Rattle.lists.proofs.Every.{Tested, tested-none, tested-next, tested-all}
+use Rattle.lists.proofs.Every.{Tested}
 use Rattle.collection_faults.specs.Faults.{is_weight}
-use borrow.Author.Rules.{rules}
 use Rattle.collection_faults.proofs.inner.all_weights.Given as goal
 
 abbrev pub invariant-loop-i : goal.invariant-loop-i

@@ -1,15 +1,11 @@
 -- `first_other` meets its contract. Invariant: the first from byte i on is the first of all. Assumes nothing.
 use mathlib.Core.Path.{◌≡◌, refl, sym, ap, ◌∙◌}
 use mathlib.Core.Bool.{not}
-use Prim.Native.Nat.{◌-◌, ◌≤◌}
 use native.Mathlib.Omega.{arith}
-use lib.ListN.{length, drop}
-use Rattle.lists.specs.First.{first_from, first_that}
 use Rattle.lists.proofs.Every.{every-all}
 use Rattle.lists.proofs.First.{first-here, first_next, first-end}
 use Rattle.alphabet.specs.Letter.{is_letter}
 use Rattle.collection_faults.proofs.Finding.{every_first}
-use borrow.Author.Rules.{rules}
 use Rattle.collection_faults.proofs.inner.first_other.Goals as goal
 use mathlib.Core.Path as path
 use mathlib.Core.Bool as bool

@@ -1,12 +1,8 @@
--- `first_short_lem` meets its contract. Invariant: the first short string from string i on is the first of all. Assumes nothing.
-use mathlib.Core.Path.{◌≡◌, refl, sym, ◌∙◌}
-use Prim.Native.Nat.{◌-◌, ◌≤◌, ◌<◌}
+-- `first_short` meets its contract. Invariant: the first short string from string i on is the first of all. Assumes nothing.
+use mathlib.Core.Path.{refl, sym, ◌∙◌}
 use native.Mathlib.Omega.{arith}
 use borrow.Author.Tests.{eqb-true}
-use lib.ListN.{length, drop}
-use Rattle.collection_faults.specs.Faults.{first_short}
 use Rattle.collection_faults.proofs.Finding.{short-here, short-next, short_end}
-use borrow.Author.Rules.{rules}
 use Rattle.collection_faults.proofs.inner.first_short.Goals as goal
 
 pub returns-then-none_short : goal.returns-then-none_short

@@ -1,12 +1,8 @@
--- `first_short_lem` meets its contract. Invariant: the first short string from string i on is the first of all. Assumes nothing.
-use mathlib.Core.Path.{◌≡◌, refl, sym, ◌∙◌}
+-- `first_short` meets its contract. Invariant: the first short string from string i on is the first of all. Assumes nothing.
+use mathlib.Core.Path.{◌≡◌}
 use Prim.Native.Nat.{◌-◌, ◌≤◌, ◌<◌}
-use native.Mathlib.Omega.{arith}
-use borrow.Author.Tests.{eqb-true}
 use lib.ListN.{length, drop}
 use Rattle.collection_faults.specs.Faults.{first_short}
-use Rattle.collection_faults.proofs.Finding.{short-here, short-next, short_end}
-use borrow.Author.Rules.{rules}
 use Rattle.collection_faults.proofs.inner.first_short.Given as goal
 
 abbrev pub invariant-loop-i : goal.invariant-loop-i

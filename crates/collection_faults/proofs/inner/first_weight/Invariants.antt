@@ -1,15 +1,10 @@
 -- `first_weight` meets its contract. Invariant: the first from weight i on is the first of all. Assumes nothing.
-use mathlib.Core.Path.{◌≡◌, refl, sym, ap, ◌∙◌}
+use mathlib.Core.Path.{◌≡◌}
 use mathlib.Core.Bool.{not}
 use Prim.Native.Nat.{◌-◌, ◌≤◌}
-use native.Mathlib.Omega.{arith}
 use lib.ListN.{length, drop}
 use Rattle.lists.specs.First.{first_from, first_that}
-use Rattle.lists.proofs.Every.{every-all}
-use Rattle.lists.proofs.First.{first-here, first_next, first-end}
 use Rattle.collection_faults.specs.Faults.{is_weight}
-use Rattle.collection_faults.proofs.Finding.{every_first}
-use borrow.Author.Rules.{rules}
 use Rattle.collection_faults.proofs.inner.first_weight.Given as goal
 
 abbrev pub invariant-loop-i : goal.invariant-loop-i

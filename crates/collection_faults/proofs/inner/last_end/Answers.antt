@@ -3,7 +3,6 @@ use Prim.Native.Nat.{◌-◌}
 use native.Mathlib.Omega.{arith}
 use lib.ListN.{length}
 use Rattle.collection_faults.proofs.Finding.{last_is, last_none}
-use borrow.Author.Rules.{rules}
 use Rattle.collection_faults.proofs.inner.last_end.Goals as goal
 
 pub returns-then-m-eq0 : goal.returns-then-m-eq0

@@ -1,13 +1,7 @@
 -- `none_short` meets its contract. Invariant: what was seen and the test of the ends that are left together are the test of all. Assumes nothing.
-use mathlib.Core.Path.{◌≡◌, refl}
-use mathlib.Core.Bool.{◌&&◌}
-use Prim.Native.Nat.{◌-◌, ◌≤◌, ◌<◌}
+use mathlib.Core.Path.{refl}
 use native.Mathlib.Omega.{arith}
-use lib.Dec.{eqb}
-use lib.ListN.{length}
-use Rattle.collection_faults.specs.Faults.{first_short}
-use Rattle.collection_faults.proofs.Finding.{none_short, none-short-next, none-short-end}
-use borrow.Author.Rules.{rules}
+use Rattle.collection_faults.proofs.Finding.{none-short-next, none-short-end}
 use Rattle.collection_faults.proofs.inner.none_short.Goals as goal
 
 pub loop-i-init : goal.loop-i-init

@@ -1,13 +1,11 @@
 -- `none_short` meets its contract. Invariant: what was seen and the test of the ends that are left together are the test of all. Assumes nothing.
-use mathlib.Core.Path.{◌≡◌, refl}
+use mathlib.Core.Path.{◌≡◌}
 use mathlib.Core.Bool.{◌&&◌}
 use Prim.Native.Nat.{◌-◌, ◌≤◌, ◌<◌}
-use native.Mathlib.Omega.{arith}
 use lib.Dec.{eqb}
 use lib.ListN.{length}
 use Rattle.collection_faults.specs.Faults.{first_short}
-use Rattle.collection_faults.proofs.Finding.{none_short, none-short-next, none-short-end}
-use borrow.Author.Rules.{rules}
+use Rattle.collection_faults.proofs.Finding.{none_short}
 use Rattle.collection_faults.proofs.inner.none_short.Given as goal
 
 abbrev pub invariant-loop-i : goal.invariant-loop-i

@@ -1,7 +1,6 @@
 -- `cover_strings` meets its contract: the table laid out, the walks, the places, and zeros (proofs/Covered).
 use native.Mathlib.Omega.{arith}
 use Rattle.cover.proofs.Covered.{start-low, paths-low, covering}
-use borrow.Author.Rules.{rules}
 use Rattle.cover.proofs.covering.cover_strings.Goals as goal
 
 pub overflow_sub-result : goal.overflow_sub-result

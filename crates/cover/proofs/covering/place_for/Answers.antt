@@ -2,7 +2,6 @@
 use mathlib.Core.Path.{sym, ap, ◌∙◌}
 use Rattle.cover_trails.specs.Places.{signed}
 use Rattle.cover.proofs.Signs.{as-positive, negative_fits, as-negative}
-use borrow.Author.Rules.{rules}
 use Rattle.cover.proofs.covering.place_for.Goals as goal
 
 pub overflow_sub-result : goal.overflow_sub-result

@@ -5,7 +5,6 @@ use lib.ListN.{set}
 use Prim.Native.Nat.{◌/◌}
 use Rattle.cover_trails.proofs.Signed.{kept}
 use Rattle.cover.proofs.PlacedHalves.{string-placed, spoke-placed, string-counted, spoke_counted}
-use borrow.Author.Rules.{rules}
 use Rattle.cover.proofs.covering.place_one.Goals as goal
 
 pub returns-then-c-m : goal.returns-then-c-m

@@ -1,11 +1,8 @@
 -- `write_places` meets its contract: each turn is one half (proofs/PlacedHalves).
 use mathlib.Core.Path.{refl, ◌∙◌}
-use Prim.Native.Nat.{◌-◌, ◌*◌}
 use native.Mathlib.Omega.{arith}
-use Rattle.cover_tours.specs.Layout.{tables}
 use Rattle.cover_tours.proofs.Regions.{stack_at, stack_size}
-use Rattle.cover.proofs.PlacedHalves.{Giving, giving-on, giving-end}
-use borrow.Author.Rules.{rules}
+use Rattle.cover.proofs.PlacedHalves.{giving-on, giving-end}
 use Rattle.cover.proofs.covering.write_places.Goals as goal
 
 pub loop-p-init : goal.loop-p-init

@@ -7,7 +7,6 @@ use Rattle.cover_tours.specs.Layout.{tables}
 use Rattle.cover_tours.specs.Rows.{Cursors, Sought}
 use Rattle.cover_tours.proofs.Regions.{cursor_at, cursors_size, tables-cursor}
 use Rattle.cover_tours.proofs.Rows.{cursors-moved}
-use borrow.Author.Rules.{rules}
 use Rattle.cover_tours.proofs.inner.find.Goals as goal
 use Rattle.cover_tours.proofs.inner.find.Lts as lts
 use Rattle.cover_tours.proofs.inner.find.Tie as tie

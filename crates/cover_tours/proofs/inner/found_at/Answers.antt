@@ -1,6 +1,5 @@
 -- `found_at` meets its contract: the half where the search stopped, v's own spoke, or nothing that is unused.
 use mathlib.Core.Path.{◌≡◌, sym, ap, subst, ◌∙◌}
-use mathlib.Core.Logic.{⊎_elim}
 use mathlib.Core.List.{List}
 use Prim.Native.Nat.{ℕ, ◌+◌, ◌*◌, ◌<◌}
 use native.Mathlib.Omega.{arith}
@@ -10,7 +9,6 @@ use Rattle.cover_tours.specs.Halves.{near}
 use Rattle.cover_tours.specs.Rows.{Answer}
 use Rattle.cover_tours.proofs.Regions.{used_at, row_at, used_size}
 use Rattle.cover_tours.proofs.Rows.{present, absent, own_spoke}
-use borrow.Author.Rules.{rules}
 use Rattle.cover_tours.proofs.inner.found_at.Goals as goal
 use Rattle.cover_tours.proofs.inner.found_at.Goals.{then-e-m+else-x-v, else-e-m, then-v-m+else-work-m-eq0, else-v-m}
 use Rattle.cover_tours.proofs.inner.found_at.Lts as lts

@@ -2,7 +2,6 @@
 use mathlib.Core.Path.{ap, ◌∙◌}
 use Rattle.cover_tours.specs.Halves.{near}
 use Rattle.cover_tours.proofs.Regions.{stack_at, tables-returned}
-use borrow.Author.Rules.{rules}
 use Rattle.cover_tours.proofs.inner.give_back.Goals as goal
 
 pub returns : goal.returns

@@ -2,7 +2,6 @@
 use mathlib.Core.Path.{sym, ◌∙◌}
 use Rattle.cover_tours.proofs.Regions.{vert_at}
 use Rattle.cover_tours.proofs.Halves.{near-string, near-hub, near-spoke}
-use borrow.Author.Rules.{rules}
 use Rattle.cover_tours.proofs.inner.near.Goals as goal
 
 pub returns-then-c-m : goal.returns-then-c-m

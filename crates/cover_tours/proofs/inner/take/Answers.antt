@@ -4,7 +4,6 @@ use lib.ListN.{length-set}
 use Rattle.cover_tours.proofs.Regions.{tables-taken}
 use mathlib.Core.Path.{ap, ◌∙◌}
 use Rattle.cover_tours.specs.Halves.{near}
-use borrow.Author.Rules.{rules}
 use Rattle.cover_tours.proofs.inner.take.Goals as goal
 
 pub bounds-work-m-2 : goal.bounds-work-m-2

@@ -3,7 +3,6 @@ use mathlib.Core.Path.{sym, ◌∙◌}
 use native.Mathlib.Omega.{arith}
 use Rattle.cover_tours.proofs.Regions.{used_at}
 use Rattle.cover_tours.proofs.Tours.{visited-used, at-vertex, visited-from}
-use borrow.Author.Rules.{rules}
 use Rattle.cover_tours.proofs.inner.visit.Goals as goal
 
 pub returns-then-work-m-ne0 : goal.returns-then-work-m-ne0

@@ -1,17 +1,10 @@
 -- `walk` meets its contract: each turn is a step of the walk (proofs/Going, Taking, GivingBack). The measure: what is unused counts twice, for it is taken and
 -- given back.
-use mathlib.Core.Path.{ap}
 use Prim.Native.Nat.{◌+◌, ◌*◌}
-use native.Mathlib.Omega.{arith}
 use lib.ListN.{length}
 use Rattle.cover_tours.specs.Layout.{Fits, tables}
-use Rattle.cover_tours.specs.Rows.{Answer}
 use Rattle.cover_tours.specs.States.{left}
-use Rattle.cover_tours.proofs.Regions.{fits-same}
-use Rattle.cover_tours.proofs.Going.{Going, going_start, going-found, found_left}
-use Rattle.cover_tours.proofs.Taking.{take-inside, going-took, took-fewer}
-use Rattle.cover_tours.proofs.GivingBack.{going-closed, going-gave, gave_left}
-use borrow.Author.Rules.{rules}
+use Rattle.cover_tours.proofs.Going.{Going}
 use Rattle.cover_tours.proofs.inner.walk.Given as goal
 
 abbrev pub invariant-loop-here : goal.invariant-loop-here

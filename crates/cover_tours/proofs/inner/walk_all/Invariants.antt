@@ -1,13 +1,9 @@
 -- `walk_all` meets its contract: the walk from the hub, then a visit to each string. The loop's invariant: the first i strings are used.
-use mathlib.Core.Path.{◌≡◌, refl}
+use mathlib.Core.Path.{◌≡◌}
 use Prim.Native.Nat.{ℕ, ◌-◌, ◌≤◌, ◌<◌}
-use native.Mathlib.Omega.{arith}
 use lib.ListN.{get_or}
 use Rattle.cover_tours.specs.Layout.{Fits, tables}
 use Rattle.cover_tours.specs.States.{Same, Touring}
-use Rattle.cover_tours.proofs.Regions.{fits-same}
-use Rattle.cover_tours.proofs.Tours.{touring_first, visits_more, same_trans, tour_done}
-use borrow.Author.Rules.{rules}
 use Rattle.cover_tours.proofs.inner.walk_all.Given as goal
 
 abbrev pub invariant-loop-i : goal.invariant-loop-i

@@ -1,7 +1,6 @@
 -- `blank` meets its contract: four ladders (proofs/Blanks).
 use native.Mathlib.Omega.{arith}
 use Rattle.cover_vertices.proofs.Blanks.{blanked}
-use borrow.Author.Rules.{rules}
 use Rattle.cover_vertices.proofs.inner.blank.Goals as goal
 
 pub returns : goal.returns

@@ -4,7 +4,6 @@ use native.Mathlib.Omega.{arith}
 use Rattle.cover_tours.proofs.Regions.{fits-same}
 use Rattle.cover_vertices.proofs.EndWeights.{length_keys}
 use Rattle.cover_vertices.proofs.LaidOut.{order_rises, blank_low, stages-laid}
-use borrow.Author.Rules.{rules}
 use Rattle.cover_vertices.proofs.inner.lay_out.Goals as goal
 
 pub name_vertices-requires : goal.name_vertices-requires

@@ -1,9 +1,8 @@
 -- `mark_odd` meets its contract: each turn turns the flag of one end's vertex (proofs/Marking).
-use Prim.Native.Nat.{◌+◌, ◌-◌, ◌*◌, ◌<◌}
+use Prim.Native.Nat.{◌+◌, ◌*◌, ◌<◌}
 use native.Mathlib.Omega.{arith}
 use lib.ListN.{length}
-use Rattle.cover_vertices.proofs.Marking.{Marking, marking_start, vertex-low, flag-low, marking-on, marking_end}
-use borrow.Author.Rules.{rules}
+use Rattle.cover_vertices.proofs.Marking.{marking_start, vertex-low, flag-low, marking-on, marking_end}
 use Rattle.cover_vertices.proofs.inner.mark_odd.Goals as goal
 use Rattle.cover_vertices.proofs.inner.mark_odd.Lts as lts
 use Rattle.cover_vertices.proofs.inner.mark_odd.Tie as tie

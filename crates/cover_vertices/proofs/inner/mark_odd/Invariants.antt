@@ -1,9 +1,6 @@
 -- `mark_odd` meets its contract: each turn turns the flag of one end's vertex (proofs/Marking).
-use Prim.Native.Nat.{◌+◌, ◌-◌, ◌*◌, ◌<◌}
-use native.Mathlib.Omega.{arith}
-use lib.ListN.{length}
-use Rattle.cover_vertices.proofs.Marking.{Marking, marking_start, vertex-low, flag-low, marking-on, marking_end}
-use borrow.Author.Rules.{rules}
+use Prim.Native.Nat.{◌-◌, ◌*◌}
+use Rattle.cover_vertices.proofs.Marking.{Marking}
 use Rattle.cover_vertices.proofs.inner.mark_odd.Given as goal
 
 abbrev pub invariant-loop-c : goal.invariant-loop-c

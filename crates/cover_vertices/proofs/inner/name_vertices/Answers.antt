@@ -1,8 +1,7 @@
 -- `name_vertices` meets its contract: each turn names one end (proofs/Naming).
-use Prim.Native.Nat.{◌-◌, ◌*◌, ◌<◌}
+use Prim.Native.Nat.{◌*◌, ◌<◌}
 use native.Mathlib.Omega.{arith}
-use Rattle.cover_vertices.proofs.Naming.{Naming, naming_start, order-low, named-low, naming-on, naming_end}
-use borrow.Author.Rules.{rules}
+use Rattle.cover_vertices.proofs.Naming.{naming_start, order-low, named-low, naming-on, naming_end}
 use Rattle.cover_vertices.proofs.inner.name_vertices.Goals as goal
 use Rattle.cover_vertices.proofs.inner.name_vertices.Lts as lts
 use Rattle.cover_vertices.proofs.inner.name_vertices.Tie as tie

@@ -1,8 +1,6 @@
 -- `name_vertices` meets its contract: each turn names one end (proofs/Naming).
-use Prim.Native.Nat.{◌-◌, ◌*◌, ◌<◌}
-use native.Mathlib.Omega.{arith}
-use Rattle.cover_vertices.proofs.Naming.{Naming, naming_start, order-low, named-low, naming-on, naming_end}
-use borrow.Author.Rules.{rules}
+use Prim.Native.Nat.{◌-◌, ◌*◌}
+use Rattle.cover_vertices.proofs.Naming.{Naming}
 use Rattle.cover_vertices.proofs.inner.name_vertices.Given as goal
 
 abbrev pub invariant-loop-q : goal.invariant-loop-q

@@ -8,7 +8,6 @@ use Rattle.cover_trails.specs.Strings.{weights as all_end_weights}
 use Rattle.cover_vertices.specs.Promises.{ends_from}
 use Rattle.cover_vertices.proofs.EndWeights.{length_keys}
 use Rattle.cover_vertices.proofs.Ordering.{keys_low, keys-then, ids-low, ordered, laid}
-use borrow.Author.Rules.{rules}
 use Rattle.cover_vertices.proofs.inner.order_ends.Goals as goal
 
 pub sort_by_weight-requires : goal.sort_by_weight-requires

@@ -1,8 +1,6 @@
 -- `write_ladder` meets its contract. The loop's invariant: storing the rest of the ladder from entry at + i on gives the promised table.
-use Prim.Native.Nat.{◌-◌}
 use native.Mathlib.Omega.{arith}
-use Rattle.cover_vertices.proofs.Ladder.{Climbing, climb_start, climb-inside, climb-fits, climb-on, climb-end}
-use borrow.Author.Rules.{rules}
+use Rattle.cover_vertices.proofs.Ladder.{climb_start, climb-inside, climb-fits, climb-on, climb-end}
 use Rattle.cover_vertices.proofs.inner.write_ladder.Goals as goal
 
 pub loop-i-init : goal.loop-i-init

@@ -3,7 +3,6 @@ use mathlib.Core.Path.{sym, ap, ◌∙◌}
 use Prim.Native.Nat.{ℕ}
 use Rattle.exports_replies.specs.declared.Reply.TheVariants.{Three}
 use Rattle.exports_replies.specs.Replies.{quick_reply}
-use borrow.Author.Rules.{rules}
 use Rattle.exports_replies.proofs.inner.quick_reply.Goals as goal
 
 pub returns-in-Found : goal.returns-in-Found

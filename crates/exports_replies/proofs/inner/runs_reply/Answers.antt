@@ -1,7 +1,6 @@
 -- `runs_reply` meets its contract: each case of the answer has its reply. Assumes nothing.
 use mathlib.Core.Path.{sym, ap}
 use Rattle.exports_replies.specs.Replies.{runs_reply}
-use borrow.Author.Rules.{rules}
 use Rattle.exports_replies.proofs.inner.runs_reply.Goals as goal
 
 pub returns-in-Filled : goal.returns-in-Filled

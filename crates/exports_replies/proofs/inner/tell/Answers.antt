@@ -2,7 +2,6 @@
 use native.Mathlib.Omega.{arith}
 use lib.ListN.{length-set}
 use Rattle.exports_replies.proofs.Telling.{tells, stored_one, stored_two, stored_three, stored_four}
-use borrow.Author.Rules.{rules}
 use Rattle.exports_replies.proofs.inner.tell.Goals as goal
 
 pub bounds-answer-1 : goal.bounds-answer-1

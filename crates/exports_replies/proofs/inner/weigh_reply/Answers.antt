@@ -1,7 +1,6 @@
 -- `weigh_reply` meets its contract: each case of the answer has its reply. Assumes nothing.
 use mathlib.Core.Path.{sym, ap}
 use Rattle.exports_replies.specs.Replies.{weigh_reply}
-use borrow.Author.Rules.{rules}
 use Rattle.exports_replies.proofs.inner.weigh_reply.Goals as goal
 
 pub returns-in-Weighs : goal.returns-in-Weighs

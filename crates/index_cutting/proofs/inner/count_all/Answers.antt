@@ -1,11 +1,10 @@
 -- `count_all` meets its contract. Invariant: the stretches of the strings that have passed are counted. Assumes nothing.
-use Prim.Native.Nat.{◌+◌, ◌-◌}
+use Prim.Native.Nat.{◌+◌}
 use native.Mathlib.Omega.{arith}
 use lib.ListN.{length, get_or}
 use Rattle.collection.proofs.Kmers.{next-string}
 use Rattle.index_minimizers.specs.Minimizer.{minimizer_at}
 use Rattle.index_cutting.proofs.Counting.{Tallied, tallied-begin, tallied-on, tallied-end}
-use borrow.Author.Rules.{rules}
 use Rattle.index_cutting.proofs.inner.count_all.Goals as goal
 use Rattle.index_cutting.proofs.inner.count_all.Lts as lts
 use Rattle.index_cutting.proofs.inner.count_all.Tie as tie

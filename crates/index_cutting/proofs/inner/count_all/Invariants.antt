@@ -1,11 +1,8 @@
 -- `count_all` meets its contract. Invariant: the stretches of the strings that have passed are counted. Assumes nothing.
-use Prim.Native.Nat.{◌+◌, ◌-◌}
-use native.Mathlib.Omega.{arith}
-use lib.ListN.{length, get_or}
-use Rattle.collection.proofs.Kmers.{next-string}
+use Prim.Native.Nat.{◌-◌}
+use lib.ListN.{length}
 use Rattle.index_minimizers.specs.Minimizer.{minimizer_at}
-use Rattle.index_cutting.proofs.Counting.{Tallied, tallied-begin, tallied-on, tallied-end}
-use borrow.Author.Rules.{rules}
+use Rattle.index_cutting.proofs.Counting.{Tallied}
 use Rattle.index_cutting.proofs.inner.count_all.Given as goal
 
 abbrev pub invariant-loop-i : goal.invariant-loop-i

@@ -1,14 +1,13 @@
 -- `count_string` meets its contract. Invariant: c and v are the code and the minimizer of the k-mer before, and `count` stretches have begun. Assumes nothing.
 use mathlib.Core.Path.{◌≡◌, refl, sym, ◌∙◌}
-use Prim.Native.Nat.{ℕ, ◌+◌, ◌-◌, ◌≤◌}
+use Prim.Native.Nat.{ℕ, ◌+◌, ◌-◌}
 use native.Mathlib.Omega.{arith}
 use lib.ListN.{drop, length-take}
 use Rattle.lists.proofs.Every.{every-all}
 use Rattle.alphabet.specs.Letter.{is_letter}
 use Rattle.index_minimizers.specs.Minimizer.{minimizer_at}
 use Rattle.index_cutting.proofs.Carried.{Carried, roll-fits, slide-fits, carried-begin, carried_on}
-use Rattle.index_cutting.proofs.Counting.{Counting, counting-begin, counting-on, counting-cut, counting-end}
-use borrow.Author.Rules.{rules}
+use Rattle.index_cutting.proofs.Counting.{counting-begin, counting-on, counting-cut, counting-end}
 use Rattle.index_cutting.proofs.inner.count_string.Goals as goal
 use Rattle.index_cutting.proofs.inner.count_string.Lts as lts
 use Rattle.index_cutting.proofs.inner.count_string.Tie as tie

@@ -1,11 +1,7 @@
 -- `cut_all` meets its contract. Invariant: the stretches of the strings that have passed are stored, and h is the handle of the next k-mer. Assumes nothing.
-use Prim.Native.Nat.{◌-◌}
 use native.Mathlib.Omega.{arith}
-use lib.ListN.{length}
 use Rattle.collection.proofs.Kmers.{next-string}
-use Rattle.index_minimizers.specs.Minimizer.{minimizer_at}
-use Rattle.index_cutting.proofs.Cutting.{Passed, passed-begin, passed-room, passed_on, passed-end}
-use borrow.Author.Rules.{rules}
+use Rattle.index_cutting.proofs.Cutting.{passed-begin, passed-room, passed_on, passed-end}
 use Rattle.index_cutting.proofs.inner.cut_all.Goals as goal
 
 pub loop-i-init : goal.loop-i-init

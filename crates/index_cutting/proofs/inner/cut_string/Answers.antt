@@ -1,16 +1,15 @@
 -- `cut_string` meets its contract. Invariant: c and v are the code and the minimizer of the k-mer before, and the stretches before the open one are stored.
 -- Assumes nothing.
 use mathlib.Core.Path.{◌≡◌, refl, sym, ◌∙◌}
-use Prim.Native.Nat.{ℕ, ◌+◌, ◌-◌, ◌≤◌}
+use Prim.Native.Nat.{ℕ, ◌+◌, ◌-◌}
 use native.Mathlib.Omega.{arith}
 use lib.ListN.{drop, length-take}
 use Rattle.lists.proofs.Every.{every-all}
 use Rattle.alphabet.specs.Letter.{is_letter}
 use Rattle.index_minimizers.specs.Minimizer.{minimizer_at}
 use Rattle.index_cutting.proofs.Carried.{Carried, roll-fits, slide-fits, carried-begin, carried_on, carried_small}
-use Rattle.index_cutting.proofs.Cutting.{Cutting, cutting-begin, cutting-on, cutting-ended, cutting-cut, cutting-last}
+use Rattle.index_cutting.proofs.Cutting.{cutting-begin, cutting-on, cutting-ended, cutting-cut, cutting-last}
 use Rattle.index_cutting.proofs.Filling.{filling-inside, filling-store, filling-end}
-use borrow.Author.Rules.{rules}
 use Rattle.index_cutting.proofs.inner.cut_string.Goals as goal
 use Rattle.index_cutting.proofs.inner.cut_string.Lts as lts
 use Rattle.index_cutting.proofs.inner.cut_string.Tie as tie

@@ -1,10 +1,9 @@
 -- `find` meets its contract. Invariant: the least piece is the smaller of `best` and the least of the pieces that are left. Assumes nothing.
 use mathlib.Core.Path.{◌≡◌, ap, ◌∙◌}
-use Prim.Native.Nat.{ℕ, ◌%◌, ◌^◌, ◌≤◌, min}
+use Prim.Native.Nat.{ℕ}
 use native.Mathlib.Omega.{arith}
 use Rattle.index_minimizers.specs.Least.{least}
 use Rattle.index_minimizers.proofs.Sliding.{least_low, least_end, least_step, last_piece}
-use borrow.Author.Rules.{rules}
 use Rattle.index_minimizers.proofs.inner.find.Goals as goal
 
 pub loop-j-init : goal.loop-j-init

@@ -1,10 +1,7 @@
 -- `find` meets its contract. Invariant: the least piece is the smaller of `best` and the least of the pieces that are left. Assumes nothing.
-use mathlib.Core.Path.{◌≡◌, ap, ◌∙◌}
-use Prim.Native.Nat.{ℕ, ◌%◌, ◌^◌, ◌≤◌, min}
-use native.Mathlib.Omega.{arith}
+use mathlib.Core.Path.{◌≡◌}
+use Prim.Native.Nat.{◌%◌, ◌^◌, ◌≤◌, min}
 use Rattle.index_minimizers.specs.Least.{least}
-use Rattle.index_minimizers.proofs.Sliding.{least_low, least_end, least_step, last_piece}
-use borrow.Author.Rules.{rules}
 use Rattle.index_minimizers.proofs.inner.find.Given as goal
 
 abbrev pub invariant-loop-j : goal.invariant-loop-j

@@ -4,7 +4,6 @@ use Prim.Native.Nat.{ℕ, ◌*◌, ◌/◌, ◌%◌, ◌^◌}
 use native.Mathlib.Omega.{arith}
 use lib.Pow.{pow_pos}
 use Rattle.words.proofs.Rolling.{one_shifted, four_two, masked}
-use borrow.Author.Rules.{rules}
 use Rattle.index_minimizers.proofs.inner.piece.Goals as goal
 
 pub overflow_sub-result : goal.overflow_sub-result

@@ -2,7 +2,6 @@
 use mathlib.Core.Path.{◌∙◌}
 use native.Mathlib.Omega.{arith}
 use Rattle.index_minimizers.proofs.Sliding.{last_piece, new-least, old-least}
-use borrow.Author.Rules.{rules}
 use Rattle.index_minimizers.proofs.inner.slide.Goals as goal
 
 pub returns-then-new-v : goal.returns-then-new-v

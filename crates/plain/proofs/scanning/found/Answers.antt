@@ -9,7 +9,6 @@ use Rattle.collection.specs.Collection.{spelling}
 use Rattle.plain.specs.Plain.{plain_found}
 use Rattle.plain.proofs.Asked.{pass-answers}
 use Rattle.plain.proofs.Scans.{answered, answered_at, answered_none, answered_turned}
-use borrow.Author.Rules.{rules}
 use Rattle.plain.proofs.scanning.found.Goals as goal
 use Rattle.plain.proofs.scanning.found.Lts as lts
 use Rattle.plain.proofs.scanning.found.Tie as tie

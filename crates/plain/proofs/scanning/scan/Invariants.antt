@@ -1,17 +1,12 @@
 -- `scan` meets its contract. Invariant: the pass over the strings that are left gives the answer. Assumes nothing.
-use mathlib.Core.List.{List}
-use mathlib.Core.Path.{◌≡◌, refl, sym, ap, ◌∙◌}
-use Prim.Native.Nat.{ℕ, ◌-◌}
-use native.Mathlib.Omega.{arith}
+use mathlib.Core.Path.{◌≡◌}
+use Prim.Native.Nat.{◌-◌}
 use lib.Dec.{eqb}
 use lib.ListN.{length, drop}
 use Rattle.words.specs.Word.{code, word_at}
 use Rattle.collection.specs.Kmers.{kmers, kmers_from}
-use Rattle.plain.specs.declared.Seen.{Seen}
 use Rattle.plain.specs.Scan.{scan_from}
-use Rattle.collection.proofs.Kmers.{StringsLeft, strings_begin, strings-on, next-string, kmers_next, kmers_end}
-use Rattle.plain.proofs.Scans.{scan-found, scan-row-on, scan-none}
-use borrow.Author.Rules.{rules}
+use Rattle.collection.proofs.Kmers.{StringsLeft}
 use Rattle.plain.proofs.scanning.scan.Given as goal
 
 abbrev pub invariant-loop-i : goal.invariant-loop-i

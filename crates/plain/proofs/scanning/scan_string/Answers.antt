@@ -1,20 +1,16 @@
 -- `scan_string` meets its contract. Invariant: c ends in the k - 1 letters before the next k-mer, and the pass over the k-mers that are left
 -- gives the answer. Assumes nothing.
-use mathlib.Core.Path.{◌≡◌, sym, ap, ◌∙◌}
-use Prim.Native.Nat.{ℕ, ◌+◌, ◌-◌, ◌≤◌}
+use mathlib.Core.Path.{sym, ap, ◌∙◌}
+use Prim.Native.Nat.{ℕ, ◌+◌, ◌-◌}
 use native.Mathlib.Omega.{arith}
 use borrow.Author.Tests.{eq-eqb, ne_eqb}
 use lib.Dec.{eqb}
 use lib.ListN.{get_or, drop, length-take}
-use Rattle.lists.specs.Count.{count_from}
 use Rattle.lists.proofs.Every.{every-all}
 use Rattle.alphabet.specs.Letter.{is_letter}
-use Rattle.words.specs.Word.{code, word_at}
 use Rattle.alphabet.proofs.Letters.{bits_lt}
-use Rattle.plain.specs.Scan.{scan_from}
-use Rattle.words.proofs.Along.{Rolls, rolls-begin, word-here, word_on}
+use Rattle.words.proofs.Along.{rolls-begin, word-here, word_on}
 use Rattle.plain.proofs.Scans.{string-start, string-asked, string-other, string-end}
-use borrow.Author.Rules.{rules}
 use Rattle.plain.proofs.scanning.scan_string.Goals as goal
 
 pub word_code-c-requires : goal.word_code-c-requires

@@ -4,7 +4,6 @@ use native.Mathlib.Omega.{arith}
 use Rattle.quick.proofs.Answers.{asked-hit, asked-miss}
 use Rattle.quick_walks.proofs.RowWalks.{row_short}
 use Rattle.quick_walks.proofs.Walks.{miss_counts}
-use borrow.Author.Rules.{rules}
 use Rattle.quick.proofs.inner.ask.Goals as goal
 
 pub walk_row-met-requires : goal.walk_row-met-requires

@@ -1,6 +1,5 @@
 -- `ask_turned` meets its contract: where its walk ends is its answer. Assumes nothing.
 use Rattle.quick.proofs.Answers.{turned-hit, turned-miss}
-use borrow.Author.Rules.{rules}
 use Rattle.quick.proofs.inner.ask_turned.Goals as goal
 
 pub walk_row-met-requires : goal.walk_row-met-requires

@@ -7,7 +7,6 @@ use borrow.Author.Tests.{not-true, not-false}
 use Rattle.index_minimizers.proofs.Sizes.{words_few}
 use Rattle.index_stretches.specs.Index.{Index, tables, tables_fit}
 use Rattle.quick.proofs.Asked.{tables_good, tables-wrong, row-wrong, other-decides}
-use borrow.Author.Rules.{rules}
 use Rattle.quick.proofs.inner.judge_index.Goals as goal
 use mathlib.Core.Path as path
 use mathlib.Core.Bool as bool

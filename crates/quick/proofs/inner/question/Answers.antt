@@ -1,7 +1,6 @@
 -- `question` meets its contract. Assumes nothing.
 use native.Mathlib.Omega.{arith}
 use Rattle.quick.proofs.Asked.{question-is}
-use borrow.Author.Rules.{rules}
 use Rattle.quick.proofs.inner.question.Goals as goal
 
 pub word_code-asked-requires : goal.word_code-asked-requires

@@ -1,10 +1,6 @@
 -- `any_meets` meets its contract. Invariant: `any` is true if the key's letters stand from one of the i positions passed. Assumes nothing.
 use Prim.Native.Nat.{◌-◌, ◌≤◌}
-use native.Mathlib.Omega.{arith}
 use Rattle.quick_walks.specs.Keys.{Finds}
-use Rattle.quick_walks.proofs.Keys.{finds-more}
-use borrow.Author.Count.{below_none}
-use borrow.Author.Rules.{rules}
 use Rattle.quick_walks.proofs.inner.any_meets.Given as goal
 
 abbrev pub invariant-loop-i : goal.invariant-loop-i

@@ -8,7 +8,6 @@ use lib.ListN.{take, drop}
 use Rattle.lists.specs.Every.{every}
 use Rattle.alphabet.specs.Letter.{is_letter}
 use Rattle.quick_walks.proofs.Words.{word_test}
-use borrow.Author.Rules.{rules}
 use Rattle.quick_walks.proofs.inner.is_word.Goals as goal
 
 pub returns-then-c-w : goal.returns-then-c-w

@@ -1,16 +1,15 @@
 -- `key_of` meets its contract. Invariant: the first t entries of the key are the word's letters at their places. Assumes nothing.
 use mathlib.Core.Path.{◌≡◌, refl, sym, ◌∙◌, subst}
 use mathlib.Core.List.{map}
-use Prim.Native.Nat.{ℕ, ◌-◌, ◌≤◌, ◌<◌}
+use Prim.Native.Nat.{ℕ}
 use native.Mathlib.Omega.{arith}
 use borrow.Author.Count.{below_none}
-use lib.ListN.{length, get_or, length-set, length-map}
+use lib.ListN.{get_or, length-set, length-map}
 use Rattle.alphabet.specs.Letter.{capital}
 use Rattle.words.specs.Turned.{spelled}
 use Rattle.words.proofs.Codes.{length-spelled}
 use Rattle.quick_walks.specs.Keys.{Within}
 use Rattle.quick_walks.proofs.Keys.{holds_more}
-use borrow.Author.Rules.{rules}
 use Rattle.quick_walks.proofs.inner.key_of.Goals as goal
 
 pub loop-t-init : goal.loop-t-init

@@ -5,7 +5,6 @@ use lib.Bits.{and_mask}
 use Rattle.alphabet.specs.Letter.{capital}
 use Rattle.words.proofs.Rolling.{four_two}
 use Rattle.quick_walks.proofs.Keys.{capital_at}
-use borrow.Author.Rules.{rules}
 use Rattle.quick_walks.proofs.inner.letter_at.Goals as goal
 
 pub returns : goal.returns

@@ -1,10 +1,8 @@
 -- `may_stand` meets its contract. Invariant: the key's letters stand from none of the i positions passed. Assumes nothing.
 use mathlib.Core.Path.{refl}
-use Prim.Native.Nat.{◌+◌, ◌-◌, ◌≤◌}
 use native.Mathlib.Omega.{arith}
 use borrow.Author.Count.{below_none}
-use Rattle.quick_walks.proofs.Keys.{Nowhere, nowhere-more}
-use borrow.Author.Rules.{rules}
+use Rattle.quick_walks.proofs.Keys.{nowhere-more}
 use Rattle.quick_walks.proofs.inner.may_stand.Goals as goal
 
 pub loop-i-init : goal.loop-i-init

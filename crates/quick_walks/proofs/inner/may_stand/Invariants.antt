@@ -1,10 +1,6 @@
 -- `may_stand` meets its contract. Invariant: the key's letters stand from none of the i positions passed. Assumes nothing.
-use mathlib.Core.Path.{refl}
 use Prim.Native.Nat.{◌+◌, ◌-◌, ◌≤◌}
-use native.Mathlib.Omega.{arith}
-use borrow.Author.Count.{below_none}
-use Rattle.quick_walks.proofs.Keys.{Nowhere, nowhere-more}
-use borrow.Author.Rules.{rules}
+use Rattle.quick_walks.proofs.Keys.{Nowhere}
 use Rattle.quick_walks.proofs.inner.may_stand.Given as goal
 
 abbrev pub invariant-loop-i : goal.invariant-loop-i

@@ -1,12 +1,8 @@
 -- `meets` meets its contract. Invariant: `good` is true if the key's letters stand there. Assumes nothing.
-use mathlib.Core.Path.{◌≡◌, refl}
-use mathlib.Core.Bool.{true}
-use Prim.Native.Nat.{◌-◌, ◌≤◌}
+use mathlib.Core.Path.{refl}
 use native.Mathlib.Omega.{arith}
 use borrow.Author.Tests.{eq-eqb}
 use Rattle.lists.proofs.Every.{and_both}
-use Rattle.quick_walks.specs.Keys.{Meets}
-use borrow.Author.Rules.{rules}
 use Rattle.quick_walks.proofs.inner.meets.Goals as goal
 
 pub loop-t-init : goal.loop-t-init

@@ -1,14 +1,10 @@
 -- `row_by_key` meets its contract. Invariant: the walk of the stretches that are left gives the answer. Assumes nothing.
 use mathlib.Core.Path.{sym, ◌∙◌}
-use Prim.Native.Nat.{◌+◌, ◌-◌}
+use Prim.Native.Nat.{◌+◌}
 use native.Mathlib.Omega.{arith}
-use lib.ListN.{length, get_or}
-use Rattle.words.specs.Turned.{spelled}
-use Rattle.index_stretches.specs.Stretches.{walk}
-use Rattle.index_stretches.specs.Index.{tables, row_of}
-use Rattle.quick_walks.specs.Walk.{is_word, seek}
-use Rattle.quick_walks.proofs.RowWalks.{Walking, walking_begins, walking-room, walking-met, walking_on, walking-ends}
-use borrow.Author.Rules.{rules}
+use lib.ListN.{length}
+use Rattle.index_stretches.specs.Index.{tables}
+use Rattle.quick_walks.proofs.RowWalks.{walking_begins, walking-room, walking-met, walking_on, walking-ends}
 use Rattle.quick_walks.proofs.inner.row_by_key.Goals as goal
 
 pub overflow_cast-end : goal.overflow_cast-end

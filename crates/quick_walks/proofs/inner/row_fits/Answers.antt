@@ -1,13 +1,8 @@
 -- `row_fits` meets its contract. Invariant: the row fits exactly if `good` holds and each stretch from stretch i on fits. Assumes nothing.
-use mathlib.Core.Path.{◌≡◌}
-use mathlib.Core.Bool.{◌&&◌}
-use Prim.Native.Nat.{◌+◌, ◌-◌, ◌≤◌}
+use Prim.Native.Nat.{◌+◌}
 use native.Mathlib.Omega.{arith}
-use lib.ListN.{length, get_or}
-use Rattle.lists.specs.Every.{every}
-use Rattle.index_stretches.specs.Index.{tables, entries, stretch_fits, row_fits}
+use Rattle.index_stretches.specs.Index.{tables}
 use Rattle.quick_walks.proofs.Rows.{row-wrong, row-each, fit_next, fit-end}
-use borrow.Author.Rules.{rules}
 use Rattle.quick_walks.proofs.inner.row_fits.Goals as goal
 
 pub overflow_cast-start : goal.overflow_cast-start

@@ -2,12 +2,9 @@
 use mathlib.Core.Path.{◌≡◌}
 use mathlib.Core.Bool.{◌&&◌}
 use Prim.Native.Nat.{◌+◌, ◌-◌, ◌≤◌}
-use native.Mathlib.Omega.{arith}
 use lib.ListN.{length, get_or}
 use Rattle.lists.specs.Every.{every}
 use Rattle.index_stretches.specs.Index.{tables, entries, stretch_fits, row_fits}
-use Rattle.quick_walks.proofs.Rows.{row-wrong, row-each, fit_next, fit-end}
-use borrow.Author.Rules.{rules}
 use Rattle.quick_walks.proofs.inner.row_fits.Given as goal
 
 abbrev pub invariant-loop-i : goal.invariant-loop-i

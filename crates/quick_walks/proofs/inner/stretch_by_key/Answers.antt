@@ -10,7 +10,6 @@ use Rattle.words.proofs.Codes.{length-spelled}
 use Rattle.quick_walks.specs.Keys.{Within}
 use Rattle.quick_walks.proofs.Keys.{not_found}
 use Rattle.quick_walks.proofs.Walks.{left-none}
-use borrow.Author.Rules.{rules}
 use Rattle.quick_walks.proofs.inner.stretch_by_key.Goals as goal
 
 pub may_stand-requires : goal.may_stand-requires

@@ -1,16 +1,12 @@
 -- `walk_stretch` meets its contract. Invariant: c ends in the k - 1 bytes before the next k-mer, and the walk of the k-mers that are left gives the answer.
 -- Assumes nothing.
-use mathlib.Core.Path.{◌≡◌, sym, ◌∙◌}
+use mathlib.Core.Path.{◌≡◌}
 use Prim.Native.Nat.{◌+◌, ◌-◌, ◌≤◌}
-use native.Mathlib.Omega.{arith}
-use lib.ListN.{get_or, drop, length-take}
 use Rattle.words.specs.Turned.{spelled}
-use Rattle.alphabet.proofs.Letters.{bits_lt}
 use Rattle.index_stretches.specs.Stretches.{stretch, kmers_of}
 use Rattle.quick_walks.specs.Walk.{is_word, seek}
-use Rattle.words.proofs.Along.{Rolls, rolls-begin, rolls-here, rolls-on}
-use Rattle.quick_walks.proofs.Walks.{left, left-start, left-hit, left-on, left_end}
-use borrow.Author.Rules.{rules}
+use Rattle.words.proofs.Along.{Rolls}
+use Rattle.quick_walks.proofs.Walks.{left}
 use Rattle.quick_walks.proofs.inner.walk_stretch.Given as goal
 
 abbrev pub invariant-loop-i : goal.invariant-loop-i

@@ -10,7 +10,6 @@ use Rattle.lists.specs.Regions.{part, Only}
 use Rattle.lists.proofs.Regions.{part-lent, part_length}
 use Rattle.sorting.proofs.Laws.{numbered-only, numbered-part}
 use Rattle.repeats.proofs.Arranged.{few_kmers, laid, arranged}
-use borrow.Author.Rules.{rules}
 use Rattle.repeats.proofs.inner.arrange.Goals as goal
 use Rattle.repeats.proofs.inner.arrange.Lts as lts
 use Rattle.repeats.proofs.inner.arrange.Tie as tie

@@ -2,7 +2,6 @@
 use mathlib.Core.Path.{sym}
 use native.Mathlib.Omega.{arith}
 use Rattle.repeats.proofs.Repeats.{repeat-none, repeat-inside, repeat-found}
-use borrow.Author.Rules.{rules}
 use Rattle.repeats.proofs.inner.first_repeat.Goals as goal
 
 pub least_second-least-requires : goal.least_second-least-requires

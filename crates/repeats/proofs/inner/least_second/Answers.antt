@@ -1,14 +1,12 @@
 -- `least_second` meets its contract. Invariant: `least` is the least second of the places that have passed. Assumes nothing.
 use mathlib.Core.Path.{sym, ap, subst, ◌∙◌}
 use mathlib.Core.Bool.{Bool, ◌&&◌}
-use mathlib.Core.Logic.{⊎_elim}
-use Prim.Native.Nat.{◌+◌, ◌-◌, ◌≤◌}
+use Prim.Native.Nat.{◌+◌, ◌-◌}
 use native.Mathlib.Omega.{arith}
 use lib.Dec.{ltb}
 use Rattle.repeats_canonical.specs.Codes.{held_at}
 use Rattle.repeats.specs.Order.{id_at, Least}
 use Rattle.repeats.proofs.Neighbours.{least-begin, least-take, least-keep, least_end}
-use borrow.Author.Rules.{rules}
 use Rattle.repeats.proofs.inner.least_second.Goals as goal
 use Rattle.repeats.proofs.inner.least_second.Goals.{then-y-least, else-y-least}
 

@@ -1,7 +1,6 @@
 -- `same_code` meets its contract: codes are equal if both halves are. Assumes nothing.
 use Prim.Native.Nat.{◌+◌}
 use Rattle.repeats_canonical.proofs.Coded.{lower-differs, upper-decides}
-use borrow.Author.Rules.{rules}
 use Rattle.repeats.proofs.inner.same_code.Goals as goal
 
 pub returns-then-work-n : goal.returns-then-work-n

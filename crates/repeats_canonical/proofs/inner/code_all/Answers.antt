@@ -1,12 +1,8 @@
 -- `code_all` meets its contract. Invariant: the codes of the k-mers of the strings that have passed are stored. Assumes nothing.
-use Prim.Native.Nat.{◌-◌}
 use mathlib.Core.Path.{refl}
 use native.Mathlib.Omega.{arith}
-use lib.ListN.{length}
-use Rattle.collection.specs.Collection.{spelling}
-use Rattle.collection.proofs.Kmers.{StringsLeft, strings_begin, strings-on, next-string}
-use Rattle.repeats_canonical.proofs.Stringwise.{Coding, coding-begin, coding-room, coding-on, coding-end}
-use borrow.Author.Rules.{rules}
+use Rattle.collection.proofs.Kmers.{strings_begin, strings-on, next-string}
+use Rattle.repeats_canonical.proofs.Stringwise.{coding-begin, coding-room, coding-on, coding-end}
 use Rattle.repeats_canonical.proofs.inner.code_all.Goals as goal
 
 pub loop-i-init : goal.loop-i-init

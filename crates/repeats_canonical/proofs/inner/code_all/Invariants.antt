@@ -1,12 +1,9 @@
 -- `code_all` meets its contract. Invariant: the codes of the k-mers of the strings that have passed are stored. Assumes nothing.
 use Prim.Native.Nat.{◌-◌}
-use mathlib.Core.Path.{refl}
-use native.Mathlib.Omega.{arith}
 use lib.ListN.{length}
 use Rattle.collection.specs.Collection.{spelling}
-use Rattle.collection.proofs.Kmers.{StringsLeft, strings_begin, strings-on, next-string}
-use Rattle.repeats_canonical.proofs.Stringwise.{Coding, coding-begin, coding-room, coding-on, coding-end}
-use borrow.Author.Rules.{rules}
+use Rattle.collection.proofs.Kmers.{StringsLeft}
+use Rattle.repeats_canonical.proofs.Stringwise.{Coding}
 use Rattle.repeats_canonical.proofs.inner.code_all.Given as goal
 
 abbrev pub invariant-loop-i : goal.invariant-loop-i

@@ -11,8 +11,7 @@ use Rattle.words.specs.Word.{code, turn, word_at}
 use Rattle.alphabet.proofs.Letters.{bits_lt}
 use Rattle.repeats_canonical.specs.Codes.{Coded}
 use Rattle.repeats_canonical.proofs.Coded.{coded-begin, coded-next}
-use Rattle.repeats_canonical.proofs.Turns.{Turns, first_fits, turns-begin, code_here, turned-here, turns-on}
-use borrow.Author.Rules.{rules}
+use Rattle.repeats_canonical.proofs.Turns.{first_fits, turns-begin, code_here, turned-here, turns-on}
 use Rattle.repeats_canonical.proofs.inner.code_string.Goals as goal
 use Rattle.repeats_canonical.proofs.inner.code_string.Lts as lts
 use Rattle.repeats_canonical.proofs.inner.code_string.Tie as tie

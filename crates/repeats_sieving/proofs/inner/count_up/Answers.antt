@@ -1,6 +1,5 @@
 -- `count_up` meets its contract: a counter below 2 grows without a carry. Assumes nothing.
 use native.Mathlib.Omega.{arith}
-use borrow.Author.Rules.{rules}
 use Rattle.sorting.proofs.Counters.{one_shl}
 use Rattle.repeats_sieving.specs.Slots.{bit_of}
 use Rattle.repeats_sieving.proofs.TwoBits.{grow-fits}

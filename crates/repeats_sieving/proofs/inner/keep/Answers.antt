@@ -1,5 +1,5 @@
 -- `keep` meets its contract. The loop's invariant: the ids kept of the first i stand in front, and only ids differ from the first table.
-use Prim.Native.Nat.{ℕ, ◌+◌, ◌-◌, ◌*◌, ◌/◌, ◌<◌}
+use Prim.Native.Nat.{ℕ, ◌+◌, ◌*◌, ◌/◌, ◌<◌}
 use mathlib.Core.Path.{◌≡◌, sym, ap, ◌∙◌}
 use mathlib.Core.Logic.{inr}
 use native.Mathlib.Omega.{arith}
@@ -8,8 +8,7 @@ use Rattle.lists.specs.Regions.{part}
 use Rattle.lists.proofs.Regions.{part_length, part_at, only_at}
 use Rattle.repeats_sieving.specs.Slots.{two_bits, bit_of, slot_in}
 use Rattle.repeats_sieving.specs.Kept.{told_of}
-use Rattle.repeats_sieving.proofs.Telling.{Keeping, keeping_none, keeping-next, keeping_all}
-use borrow.Author.Rules.{rules}
+use Rattle.repeats_sieving.proofs.Telling.{keeping_none, keeping-next, keeping_all}
 use Rattle.repeats_sieving.proofs.Sifting.{id-low, slot_same, slot-inside}
 use Rattle.repeats_sieving.proofs.inner.keep.Goals as goal
 use Rattle.repeats_sieving.proofs.inner.keep.Lts as lts

@@ -1,16 +1,8 @@
 -- `keep` meets its contract. The loop's invariant: the ids kept of the first i stand in front, and only ids differ from the first table.
-use Prim.Native.Nat.{ℕ, ◌+◌, ◌-◌, ◌*◌, ◌/◌, ◌<◌}
-use mathlib.Core.Path.{◌≡◌, sym, ap, ◌∙◌}
-use mathlib.Core.Logic.{inr}
-use native.Mathlib.Omega.{arith}
-use lib.ListN.{get_or}
+use Prim.Native.Nat.{◌+◌, ◌-◌, ◌*◌}
 use Rattle.lists.specs.Regions.{part}
-use Rattle.lists.proofs.Regions.{part_length, part_at, only_at}
-use Rattle.repeats_sieving.specs.Slots.{two_bits, bit_of, slot_in}
-use Rattle.repeats_sieving.specs.Kept.{told_of}
-use Rattle.repeats_sieving.proofs.Telling.{Keeping, keeping_none, keeping-next, keeping_all}
-use borrow.Author.Rules.{rules}
-use Rattle.repeats_sieving.proofs.Sifting.{id-low, slot_same, slot-inside}
+use Rattle.repeats_sieving.specs.Slots.{slot_in}
+use Rattle.repeats_sieving.proofs.Telling.{Keeping}
 use Rattle.repeats_sieving.proofs.inner.keep.Given as goal
 
 abbrev pub invariant-loop-i : goal.invariant-loop-i

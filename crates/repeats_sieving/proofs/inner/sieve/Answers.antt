@@ -2,7 +2,6 @@
 use Prim.Native.Nat.{ℕ, ◌+◌, ◌/◌, ◌<◌, ◌≤◌, ◌^◌}
 use native.Mathlib.Omega.{arith}
 use lib.ListN.{get_or}
-use borrow.Author.Rules.{rules}
 use Rattle.repeats_sieving.specs.Slots.{Sifting, Left}
 use Rattle.repeats_sieving.proofs.Sifting.{left-all, left_next}
 use Rattle.repeats_sieving.proofs.inner.sieve.Goals as goal

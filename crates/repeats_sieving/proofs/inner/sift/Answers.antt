@@ -4,7 +4,6 @@ use mathlib.Core.List.{List}
 use Prim.Native.Nat.{ℕ, ◌+◌, ◌-◌, ◌<◌, ◌≤◌}
 use native.Mathlib.Omega.{arith}
 use lib.ListN.{length, get_or, take, drop}
-use borrow.Author.Rules.{rules}
 use borrow.Rule.Slice.PartMut.{put_mid}
 use Rattle.lists.specs.Regions.{part, Only}
 use Rattle.lists.proofs.Regions.{part-lent, part_length, lent-part, lent-only, among-trans}

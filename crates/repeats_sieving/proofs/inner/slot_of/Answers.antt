@@ -6,7 +6,6 @@ use native.Mathlib.Omega.{arith}
 use lib.ListN.{get_or}
 use Rattle.lists.proofs.Regions.{part_at}
 use Rattle.repeats_sieving.specs.Slots.{slot_of}
-use borrow.Author.Rules.{rules}
 use Rattle.repeats_sieving.proofs.inner.slot_of.Goals as goal
 
 pub returns : goal.returns

@@ -1,16 +1,8 @@
 -- `tell` meets its contract. The loop's invariant: only the counters differ from the first table, and they tell of the first i ids.
-use Prim.Native.Nat.{◌+◌, ◌-◌, ◌*◌, ◌/◌, ◌<◌, ◌≤◌}
-use mathlib.Core.Path.{◌≡◌, sym, ap, ◌∙◌}
-use mathlib.Core.Logic.{inl}
-use native.Mathlib.Omega.{arith}
-use lib.ListN.{length, get_or, take}
-use lib.Seq.{take-length}
+use Prim.Native.Nat.{◌+◌, ◌-◌, ◌*◌, ◌≤◌}
+use lib.ListN.{take}
 use Rattle.lists.specs.Regions.{part, Only}
-use Rattle.lists.proofs.Regions.{part_length, part_at, part-set, among-refl, only_set, only_at}
 use Rattle.repeats_sieving.specs.Slots.{slot_in, Told}
-use Rattle.repeats_sieving.proofs.Telling.{told_none, told_more}
-use borrow.Author.Rules.{rules}
-use Rattle.repeats_sieving.proofs.Sifting.{id-low, slot_same, slot-inside}
 use Rattle.repeats_sieving.proofs.inner.tell.Given as goal
 
 abbrev pub invariant-loop-i : goal.invariant-loop-i

@@ -1,11 +1,8 @@
 -- `count_runs` meets its contract. Invariant: the runs counted and those that start later are all. Assumes nothing.
-use mathlib.Core.Path.{◌≡◌, sym, ap}
-use Prim.Native.Nat.{◌+◌, ◌-◌, ◌≤◌}
+use mathlib.Core.Path.{sym, ap}
 use native.Mathlib.Omega.{arith}
-use lib.ListN.{length, drop}
-use Rattle.runs.specs.Runs.{later_runs, run_count}
+use lib.ListN.{length}
 use Rattle.runs.proofs.Loops.{later_same, later-new, later_end, runs_first, runs_none}
-use borrow.Author.Rules.{rules}
 use Rattle.runs.proofs.inner.count_runs.Goals as goal
 
 pub returns-then-weights-eq0 : goal.returns-then-weights-eq0

@@ -1,14 +1,10 @@
 -- `fill_runs` meets its contract. Invariant: storing the runs that start later from `at` on completes both tables. Assumes nothing.
 use mathlib.Core.Path.{ap, ◌∙◌}
 use mathlib.Core.List.{map}
-use Prim.Native.Nat.{◌-◌, ◌≤◌}
 use native.Mathlib.Omega.{arith}
-use lib.ListN.{length, drop, length-set}
-use Rattle.lists.specs.Fill.{put}
-use Rattle.lists.proofs.Storing.{Storing, begin-at, inside, store, restated, stored}
-use Rattle.runs.specs.Runs.{later_runs}
+use lib.ListN.{length-set}
+use Rattle.lists.proofs.Storing.{begin-at, inside, store, restated, stored}
 use Rattle.runs.proofs.Loops.{later_same, later-new, later_end, column_stored, column_none, room_some, room_rest}
-use borrow.Author.Rules.{rules}
 use Rattle.runs.proofs.inner.fill_runs.Goals as goal
 
 pub returns-then-weights-eq0 : goal.returns-then-weights-eq0

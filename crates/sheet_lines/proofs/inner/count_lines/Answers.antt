@@ -1,10 +1,7 @@
 -- `count_lines` meets its contract. Invariant: the count of the lines left, after what is counted, is the count of all. Assumes nothing.
-use Prim.Native.Nat.{◌-◌}
 use mathlib.Core.Path.{sym, ◌∙◌}
 use native.Mathlib.Omega.{arith}
-use borrow.Author.Rules.{rules}
-use lib.ListN.{length}
-use Rattle.sheet_lines.proofs.Counts.{Counting, counting, count_next, count-wrong, count_end}
+use Rattle.sheet_lines.proofs.Counts.{counting, count_next, count-wrong, count_end}
 use Rattle.sheet_lines.proofs.inner.count_lines.Goals as goal
 
 pub loop-i-init : goal.loop-i-init

@@ -1,11 +1,7 @@
 -- `letters_end` meets its contract. Invariant: the letters passed and those in front together are the letters at the start. Assumes nothing.
-use Prim.Native.Nat.{◌+◌, ◌-◌, ◌≤◌}
 use mathlib.Core.Path.{◌≡◌, refl}
 use native.Mathlib.Omega.{arith}
-use borrow.Author.Rules.{rules}
-use lib.ListN.{length, drop}
 use Rattle.text.proofs.Tests.{told_no, told_yes}
-use Rattle.sheet_lines.specs.Cursor.{span}
 use Rattle.sheet_lines.proofs.Letters.{span-stop, span-next, span_none}
 use Rattle.sheet_lines.proofs.inner.letters_end.Goals as goal
 use mathlib.Core.Path as path

@@ -1,6 +1,5 @@
 -- `head_at` meets its contract: each test rules out a text of line 1, or finds it. Assumes nothing.
 use mathlib.Core.Path.{sym, ◌∙◌}
-use borrow.Author.Rules.{rules}
 use Rattle.text.proofs.Tests.{told_no, told_yes}
 use Rattle.sheet_lines.proofs.Heads.{not-k, not-tab, zero-head, no_number, too_long, number-head}
 use Rattle.sheet_lines.proofs.lines.head_at.Goals as goal

@@ -1,7 +1,6 @@
 -- `head_end` meets its contract: by the byte behind k. Assumes nothing.
 use mathlib.Core.Path.{sym, ◌∙◌}
 use native.Mathlib.Omega.{arith}
-use borrow.Author.Rules.{rules}
 use Rattle.text.proofs.Bytes.{byte_here}
 use Rattle.sheet_lines.proofs.lines.head_end.Goals as goal
 

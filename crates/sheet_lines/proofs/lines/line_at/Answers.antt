@@ -1,6 +1,5 @@
 -- `line_at` meets its contract: each step is a part of the line. Assumes nothing.
 use mathlib.Core.Path.{refl, sym, ◌∙◌}
-use borrow.Author.Rules.{rules}
 use Rattle.text.proofs.Tests.{told_no, told_yes}
 use Rattle.sheet_lines.proofs.OneLine.{marked-room, line-few, line-bad, line-good, line-unmarked}
 use Rattle.sheet_lines.proofs.lines.line_at.Goals as goal

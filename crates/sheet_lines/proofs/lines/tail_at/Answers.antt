@@ -1,7 +1,6 @@
 -- `tail_at` meets its contract. Invariant: the rest of the line with the weights still wanted answers for the whole. Assumes nothing.
 use mathlib.Core.Path.{◌≡◌, refl, sym, ap, ◌∙◌}
 use native.Mathlib.Omega.{arith}
-use borrow.Author.Rules.{rules}
 use Rattle.text.proofs.Tests.{told_no, told_yes}
 use Rattle.sheet_lines.specs.Cursor.{tail_at}
 use Rattle.text.proofs.Bytes.{byte_here}

@@ -1,11 +1,6 @@
 -- `tail_at` meets its contract. Invariant: the rest of the line with the weights still wanted answers for the whole. Assumes nothing.
-use mathlib.Core.Path.{◌≡◌, refl, sym, ap, ◌∙◌}
-use native.Mathlib.Omega.{arith}
-use borrow.Author.Rules.{rules}
-use Rattle.text.proofs.Tests.{told_no, told_yes}
+use mathlib.Core.Path.{◌≡◌}
 use Rattle.sheet_lines.specs.Cursor.{tail_at}
-use Rattle.text.proofs.Bytes.{byte_here}
-use Rattle.sheet_lines.proofs.Tails.{tail-no-tab, tail-bad, tail-next}
 use Rattle.sheet_lines.proofs.lines.tail_at.Given as goal
 
 abbrev pub invariant-loop-j : goal.invariant-loop-j

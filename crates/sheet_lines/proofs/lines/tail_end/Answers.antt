@@ -1,7 +1,6 @@
 -- `tail_end` meets its contract: by the byte at the place. Assumes nothing.
 use mathlib.Core.Path.{sym, ◌∙◌}
 use native.Mathlib.Omega.{arith}
-use borrow.Author.Rules.{rules}
 use Rattle.text.proofs.Bytes.{byte_here}
 use Rattle.sheet_lines.proofs.Tails.{tail-ended, tail-unended}
 use Rattle.sheet_lines.proofs.lines.tail_end.Goals as goal

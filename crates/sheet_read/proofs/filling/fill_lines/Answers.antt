@@ -1,15 +1,10 @@
 -- `fill_lines` meets its contract. Invariant: the strings left, stored from here on, bring the three tables to their targets. In the answers `le` is
 -- where the letters' end was found. Assumes nothing.
-use Prim.Native.Nat.{◌-◌}
 use mathlib.Core.Path.{ap}
 use native.Mathlib.Omega.{arith}
-use borrow.Author.Rules.{rules}
-use lib.ListN.{length}
-use Rattle.lists.specs.Fill.{fill}
 use Rattle.lists.proofs.Storing.{inside}
-use Rattle.collection.specs.Strings.{letters_in, weights_in, ends_in}
-use Rattle.sheet_lines.specs.Cursor.{fine, strings_at}
-use Rattle.sheet_read.proofs.Filled.{State, begin_state, mark-room, split, end-state, feed-place, next-state}
+use Rattle.sheet_lines.specs.Cursor.{fine}
+use Rattle.sheet_read.proofs.Filled.{begin_state, mark-room, split, end-state, feed-place, next-state}
 use Rattle.sheet_read.proofs.filling.fill_lines.Goals as goal
 
 pub loop-i-init : goal.loop-i-init

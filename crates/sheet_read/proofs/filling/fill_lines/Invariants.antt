@@ -1,15 +1,11 @@
 -- `fill_lines` meets its contract. Invariant: the strings left, stored from here on, bring the three tables to their targets. In the answers `le` is
 -- where the letters' end was found. Assumes nothing.
 use Prim.Native.Nat.{◌-◌}
-use mathlib.Core.Path.{ap}
-use native.Mathlib.Omega.{arith}
-use borrow.Author.Rules.{rules}
 use lib.ListN.{length}
 use Rattle.lists.specs.Fill.{fill}
-use Rattle.lists.proofs.Storing.{inside}
 use Rattle.collection.specs.Strings.{letters_in, weights_in, ends_in}
-use Rattle.sheet_lines.specs.Cursor.{fine, strings_at}
-use Rattle.sheet_read.proofs.Filled.{State, begin_state, mark-room, split, end-state, feed-place, next-state}
+use Rattle.sheet_lines.specs.Cursor.{strings_at}
+use Rattle.sheet_read.proofs.Filled.{State}
 use Rattle.sheet_read.proofs.filling.fill_lines.Given as goal
 
 abbrev pub invariant-loop-i : goal.invariant-loop-i

@@ -3,12 +3,9 @@ use Prim.Native.Nat.{ℕ}
 use mathlib.Core.Path.{◌≡◌, refl, sym, ap, ◌∙◌}
 use mathlib.Core.Bool.{true}
 use native.Mathlib.Omega.{arith}
-use borrow.Author.Rules.{rules}
-use lib.ListN.{length}
-use Rattle.lists.specs.Fill.{put}
-use Rattle.lists.proofs.Storing.{Storing, begin-at, inside, store, restated, stored}
+use Rattle.lists.proofs.Storing.{begin-at, inside, store, restated, stored}
 use Rattle.text.proofs.Tests.{told_no, told_yes}
-use Rattle.sheet_lines.specs.Cursor.{tail_at, fine, weights_at}
+use Rattle.sheet_lines.specs.Cursor.{tail_at, fine}
 use Rattle.text.proofs.Bytes.{byte_here}
 use Rattle.sheet_lines.proofs.Tails.{tail-no-tab, tail-bad, tail-next}
 use Rattle.sheet_read.proofs.Weights.{weights_next, weights-none, not_fine, tail_fine}

@@ -1,17 +1,10 @@
 -- `fill_weights` meets its contract. Invariant: the weights left, stored from here on, bring the table to its target. Assumes nothing.
-use Prim.Native.Nat.{ℕ}
-use mathlib.Core.Path.{◌≡◌, refl, sym, ap, ◌∙◌}
+use mathlib.Core.Path.{◌≡◌}
 use mathlib.Core.Bool.{true}
-use native.Mathlib.Omega.{arith}
-use borrow.Author.Rules.{rules}
 use lib.ListN.{length}
 use Rattle.lists.specs.Fill.{put}
-use Rattle.lists.proofs.Storing.{Storing, begin-at, inside, store, restated, stored}
-use Rattle.text.proofs.Tests.{told_no, told_yes}
+use Rattle.lists.proofs.Storing.{Storing}
 use Rattle.sheet_lines.specs.Cursor.{tail_at, fine, weights_at}
-use Rattle.text.proofs.Bytes.{byte_here}
-use Rattle.sheet_lines.proofs.Tails.{tail-no-tab, tail-bad, tail-next}
-use Rattle.sheet_read.proofs.Weights.{weights_next, weights-none, not_fine, tail_fine}
 use Rattle.sheet_read.proofs.filling.fill_weights.Given as goal
 
 abbrev pub invariant-loop-j : goal.invariant-loop-j

@@ -1,6 +1,5 @@
 -- `judge_read` meets its contract: the lines, then the tables. Assumes nothing.
 use Rattle.sheet_read.proofs.Outcomes.{lines-refused, tables-refused, tables_good}
-use borrow.Author.Rules.{rules}
 use Rattle.sheet_read.proofs.judging.judge_read.Goals as goal
 
 pub returns-in_default : goal.returns-in_default

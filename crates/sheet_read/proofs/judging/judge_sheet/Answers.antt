@@ -1,6 +1,5 @@
 -- `judge_sheet` meets its contract: line 1, k, then the lines. Assumes nothing.
 use mathlib.Core.Path.{sym, ◌∙◌}
-use borrow.Author.Rules.{rules}
 use Rattle.sheet_read.proofs.Refusals.{head_wrong, headed, k-bad, line-bad, all_lines}
 use Rattle.sheet_read.proofs.judging.judge_sheet.Goals as goal
 

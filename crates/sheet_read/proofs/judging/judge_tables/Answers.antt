@@ -1,6 +1,5 @@
 -- `judge_tables` meets its contract: the size, then the rooms. Assumes nothing.
 use Rattle.collection.proofs.Verdicts.{stops, goes_on}
-use borrow.Author.Rules.{rules}
 use Rattle.sheet_read.proofs.judging.judge_tables.Goals as goal
 
 pub returns-in_default : goal.returns-in_default

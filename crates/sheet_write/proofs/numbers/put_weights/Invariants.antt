@@ -1,11 +1,9 @@
 -- `put_weights` meets its contract. Invariant: the weights left, stored from here on, bring the table to its target. Assumes nothing.
 use Prim.Native.Nat.{◌+◌, ◌-◌}
-use native.Mathlib.Omega.{arith}
 use lib.ListN.{length, take, drop}
 use Rattle.lists.specs.Fill.{put}
 use Rattle.sheet.specs.Text.{weights_text}
-use Rattle.sheet_write.proofs.Line.{Weighing, weighing, tab-room, digits-room, weighed, weighed-all}
-use borrow.Author.Rules.{rules}
+use Rattle.sheet_write.proofs.Line.{Weighing}
 use Rattle.sheet_write.proofs.numbers.put_weights.Given as goal
 
 abbrev pub invariant-loop-i : goal.invariant-loop-i

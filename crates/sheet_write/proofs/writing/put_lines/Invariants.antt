@@ -1,15 +1,11 @@
 -- `put_lines` meets its contract. Invariant: the lines of the strings left, stored from here on, bring the table to its target. Assumes nothing.
 use Prim.Native.Nat.{◌+◌, ◌-◌}
-use native.Mathlib.Omega.{arith}
 use lib.ListN.{length}
 use Rattle.lists.specs.Fill.{put}
 use Rattle.collection.specs.Collection.{collection}
 use Rattle.collection.specs.Strings.{strings}
-use Rattle.collection.proofs.Judged.{collection_good}
 use Rattle.sheet.specs.Text.{lines_text}
-use Rattle.sheet_write.proofs.Lines.{Lining, lining, next-line, weights-there, line-room, lined, lined_all}
-use Rattle.sheet_write.proofs.Texts.{few_weights}
-use borrow.Author.Rules.{rules}
+use Rattle.sheet_write.proofs.Lines.{Lining}
 use Rattle.sheet_write.proofs.writing.put_lines.Given as goal
 
 abbrev pub invariant-loop-i : goal.invariant-loop-i

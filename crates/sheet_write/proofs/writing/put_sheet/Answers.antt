@@ -1,7 +1,6 @@
 -- `put_sheet` meets its contract: line 1, then the strings. Assumes nothing.
 use Rattle.collection.specs.Collection.{collection}
 use Rattle.sheet_write.proofs.Lines.{head-room, lines-room, sheet-done}
-use borrow.Author.Rules.{rules}
 use Rattle.sheet_write.proofs.writing.put_sheet.Goals as goal
 
 pub put_head-p-requires : goal.put_head-p-requires

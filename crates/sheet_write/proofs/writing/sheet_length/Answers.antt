@@ -2,7 +2,6 @@
 use native.Mathlib.Omega.{arith}
 use Rattle.collection.proofs.Judged.{collection_good}
 use Rattle.sheet_write.proofs.Texts.{sheet-length, few_weights}
-use borrow.Author.Rules.{rules}
 use Rattle.sheet_write.proofs.writing.sheet_length.Goals as goal
 
 pub overflow_add-head : goal.overflow_add-head

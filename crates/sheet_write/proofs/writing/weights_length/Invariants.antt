@@ -1,12 +1,8 @@
 -- `weights_length` meets its contract. Invariant: what is counted and the length of the weights left are the length of all. Assumes nothing.
-use mathlib.Core.Path.{◌≡◌, ap}
-use Prim.Native.Nat.{ℕ, ◌+◌, ◌-◌, ◌*◌, ◌≤◌}
-use native.Mathlib.Omega.{arith}
+use mathlib.Core.Path.{◌≡◌}
+use Prim.Native.Nat.{◌+◌, ◌-◌, ◌*◌, ◌≤◌}
 use lib.ListN.{length, drop}
-use Rattle.text.specs.Numbers.{digits}
 use Rattle.sheet.specs.Text.{weights_text}
-use Rattle.sheet_write.proofs.Texts.{weights_count, weights-counted}
-use borrow.Author.Rules.{rules}
 use Rattle.sheet_write.proofs.writing.weights_length.Given as goal
 
 abbrev pub invariant-loop-i : goal.invariant-loop-i

@@ -1,6 +1,5 @@
 -- `count_all` meets its contract: each number is what its function counts. Assumes nothing.
 use Rattle.summary.proofs.Checked.{counted_from}
-use borrow.Author.Rules.{rules}
 use Rattle.summary.proofs.inner.count_all.Goals as goal
 
 pub returns : goal.returns

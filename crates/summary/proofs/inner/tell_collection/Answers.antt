@@ -1,7 +1,6 @@
 -- `tell_collection` meets its contract, by what CHECK and COVER answer. Assumes nothing.
 use native.Mathlib.Omega.{arith}
 use Rattle.summary.proofs.Checked.{weighed, check-refused, check-passed, strung, cover-refused, paths-low, numbers-told}
-use borrow.Author.Rules.{rules}
 use Rattle.summary.proofs.inner.tell_collection.Goals as goal
 
 pub returns-in-Refused : goal.returns-in-Refused

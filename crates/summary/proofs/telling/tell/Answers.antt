@@ -2,7 +2,6 @@
 use mathlib.Core.Path.{sym}
 use lib.Seq.{length-take-le}
 use Rattle.summary.proofs.Told.{too_long, read-refused, parts-inside, read-judged, tables-room, read_told}
-use borrow.Author.Rules.{rules}
 use Rattle.summary.proofs.telling.tell.Goals as goal
 
 pub returns-then-sheet-gt8192 : goal.returns-then-sheet-gt8192

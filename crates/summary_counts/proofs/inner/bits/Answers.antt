@@ -5,7 +5,6 @@ use Prim.Native.Nat.{ℕ, ◌*◌}
 use native.Mathlib.Nat.{mul-le-mul}
 use Rattle.summary_counts.specs.Counts.{bits_for, bits_of}
 use Rattle.summary_counts.proofs.Logarithm.{bits_least}
-use borrow.Author.Rules.{rules}
 use Rattle.summary_counts.proofs.inner.bits.Goals as goal
 
 pub overflow_mul-result : goal.overflow_mul-result

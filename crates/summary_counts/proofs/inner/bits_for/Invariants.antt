@@ -1,10 +1,6 @@
 -- `bits_for` meets its contract. Invariant: p is 2^b, and the search from b on gives the logarithm. Assumes nothing.
-use native.Mathlib.Omega.{arith}
-use mathlib.Core.Path.{ap, ◌∙◌}
 use Prim.Native.Nat.{◌-◌}
-use Rattle.summary_counts.specs.Counts.{bits_for}
-use Rattle.summary_counts.proofs.Logarithm.{Doubling, doubling, doubled, doubled-enough}
-use borrow.Author.Rules.{rules}
+use Rattle.summary_counts.proofs.Logarithm.{Doubling}
 use Rattle.summary_counts.proofs.inner.bits_for.Given as goal
 
 abbrev pub invariant-loop-p : goal.invariant-loop-p

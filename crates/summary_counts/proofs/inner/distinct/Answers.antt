@@ -1,7 +1,6 @@
 -- `distinct` meets its contract: weights and ids are written, sorted, and their runs counted. Assumes nothing.
 use native.Mathlib.Omega.{arith}
 use Rattle.summary_counts.proofs.Ids.{ids-fit, ids-few, ready, sorted-size, order-low, different}
-use borrow.Author.Rules.{rules}
 use Rattle.summary_counts.proofs.inner.distinct.Goals as goal
 
 pub copy_weights-requires : goal.copy_weights-requires

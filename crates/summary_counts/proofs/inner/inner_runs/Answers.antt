@@ -1,10 +1,7 @@
 -- `inner_runs` meets its contract. Invariant: the runs inside the strings so far and inside the rest are all. Assumes nothing.
 use native.Mathlib.Omega.{arith}
-use Prim.Native.Nat.{◌-◌}
-use lib.ListN.{length}
 use Rattle.collection.proofs.Strung.{string-here, weights-inside}
-use Rattle.summary_counts.proofs.Inside.{Adding, adding, runs-inside, added, added-all}
-use borrow.Author.Rules.{rules}
+use Rattle.summary_counts.proofs.Inside.{adding, runs-inside, added, added-all}
 use Rattle.summary_counts.proofs.inner.inner_runs.Goals as goal
 
 pub loop-i-init : goal.loop-i-init

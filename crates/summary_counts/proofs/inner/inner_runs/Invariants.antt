@@ -1,10 +1,7 @@
 -- `inner_runs` meets its contract. Invariant: the runs inside the strings so far and inside the rest are all. Assumes nothing.
-use native.Mathlib.Omega.{arith}
 use Prim.Native.Nat.{◌-◌}
 use lib.ListN.{length}
-use Rattle.collection.proofs.Strung.{string-here, weights-inside}
-use Rattle.summary_counts.proofs.Inside.{Adding, adding, runs-inside, added, added-all}
-use borrow.Author.Rules.{rules}
+use Rattle.summary_counts.proofs.Inside.{Adding}
 use Rattle.summary_counts.proofs.inner.inner_runs.Given as goal
 
 abbrev pub invariant-loop-i : goal.invariant-loop-i

@@ -1,11 +1,8 @@
 -- `largest` meets its contract. Invariant: the largest so far and the largest of the rest give the largest. Assumes nothing.
-use native.Mathlib.Omega.{arith}
 use mathlib.Core.Path.{◌≡◌}
 use Prim.Native.Nat.{◌-◌, max}
 use lib.ListN.{length, drop}
 use Rattle.summary_counts.specs.Counts.{largest}
-use Rattle.summary_counts.proofs.Sums.{largest-next, largest_end}
-use borrow.Author.Rules.{rules}
 use Rattle.summary_counts.proofs.inner.largest.Given as goal
 
 abbrev pub invariant-loop-i : goal.invariant-loop-i

@@ -1,7 +1,6 @@
 -- `runs_by` meets its contract: the ids are replaced, and their runs counted. Assumes nothing.
 use mathlib.Core.Path.{ap, ◌∙◌}
 use Rattle.runs.specs.Runs.{run_count}
-use borrow.Author.Rules.{rules}
 use Rattle.summary_counts.proofs.inner.runs_by.Goals as goal
 
 pub weigh_ids-requires : goal.weigh_ids-requires

@@ -1,11 +1,8 @@
 -- `total` meets its contract. Invariant: the sum so far and the sum of the rest are the sum. Assumes nothing.
-use native.Mathlib.Omega.{arith}
 use mathlib.Core.Path.{◌≡◌}
 use Prim.Native.Nat.{◌+◌, ◌-◌, ◌*◌, ◌≤◌}
 use lib.ListN.{length, drop}
 use Rattle.lists.specs.Count.{sum}
-use Rattle.summary_counts.proofs.Sums.{sum-next, sum_end, weight_low}
-use borrow.Author.Rules.{rules}
 use Rattle.summary_counts.proofs.inner.total.Given as goal
 
 abbrev pub invariant-loop-i : goal.invariant-loop-i

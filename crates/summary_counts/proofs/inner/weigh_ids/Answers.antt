@@ -1,9 +1,7 @@
 -- `weigh_ids` meets its contract. Invariant: the ids before i are replaced, the others are as they were. Assumes nothing.
 use native.Mathlib.Omega.{arith}
-use Prim.Native.Nat.{◌-◌}
-use lib.ListN.{length, length-set}
-use Rattle.summary_counts.proofs.Ids.{Weighing, weighing, id-low, weighed, weighed-all}
-use borrow.Author.Rules.{rules}
+use lib.ListN.{length-set}
+use Rattle.summary_counts.proofs.Ids.{weighing, id-low, weighed, weighed-all}
 use Rattle.summary_counts.proofs.inner.weigh_ids.Goals as goal
 
 pub loop-i-init : goal.loop-i-init

@@ -1,9 +1,7 @@
 -- `weigh_ids` meets its contract. Invariant: the ids before i are replaced, the others are as they were. Assumes nothing.
-use native.Mathlib.Omega.{arith}
 use Prim.Native.Nat.{◌-◌}
-use lib.ListN.{length, length-set}
-use Rattle.summary_counts.proofs.Ids.{Weighing, weighing, id-low, weighed, weighed-all}
-use borrow.Author.Rules.{rules}
+use lib.ListN.{length}
+use Rattle.summary_counts.proofs.Ids.{Weighing}
 use Rattle.summary_counts.proofs.inner.weigh_ids.Given as goal
 
 abbrev pub invariant-loop-i : goal.invariant-loop-i

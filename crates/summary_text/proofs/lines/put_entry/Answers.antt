@@ -1,7 +1,6 @@
 -- `put_entry` meets its contract: label, tab and number are stored one after the other. Assumes nothing.
 use native.Mathlib.Omega.{arith}
 use Rattle.summary_text.proofs.Stored.{label-room, tab-inside, digits-room, entry-size, entry-end}
-use borrow.Author.Rules.{rules}
 use Rattle.summary_text.proofs.lines.put_entry.Goals as goal
 
 pub copy_bytes-requires : goal.copy_bytes-requires

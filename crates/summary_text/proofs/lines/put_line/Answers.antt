@@ -1,7 +1,6 @@
 -- `put_line` meets its contract: an entry, then a feed. Assumes nothing.
 use native.Mathlib.Omega.{arith}
 use Rattle.summary_text.proofs.Stored.{entry-room, feed-inside, line-end}
-use borrow.Author.Rules.{rules}
 use Rattle.summary_text.proofs.lines.put_line.Goals as goal
 
 pub put_entry-e-requires : goal.put_entry-e-requires

@@ -1,6 +1,5 @@
 -- `put_lines` meets its contract: one line after the other. Assumes nothing.
 use Rattle.summary_text.proofs.Stored.{lining, line-room, lined, lined_all}
-use borrow.Author.Rules.{rules}
 use Rattle.summary_text.proofs.lines.put_lines.Goals as goal
 
 pub put_line-a-requires : goal.put_line-a-requires

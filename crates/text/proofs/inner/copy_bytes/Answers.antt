@@ -1,10 +1,6 @@
 -- `copy_bytes` meets its contract. Invariant: the bytes left, stored from here on, bring the table to its target. Assumes nothing.
-use Prim.Native.Nat.{◌-◌, ◌≤◌}
 use native.Mathlib.Omega.{arith}
-use borrow.Author.Rules.{rules}
-use lib.ListN.{length, take, drop}
-use Rattle.lists.specs.Fill.{put}
-use Rattle.lists.proofs.Storing.{Storing, begin-at, inside, store, restated, stored}
+use Rattle.lists.proofs.Storing.{begin-at, inside, store, restated, stored}
 use Rattle.text.proofs.Copied.{take_next, take_none, take-size}
 use Rattle.text.proofs.inner.copy_bytes.Goals as goal
 

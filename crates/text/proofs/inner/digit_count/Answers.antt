@@ -1,11 +1,7 @@
 -- `digit_count` meets its contract: each test leaves the numbers of one length. Invariant: the digits counted and those of what is left of the number are all,
 -- and one is counted twice. Assumes nothing.
-use mathlib.Core.Path.{◌≡◌, sym}
-use Prim.Native.Nat.{◌+◌, ◌≤◌}
+use mathlib.Core.Path.{sym}
 use native.Mathlib.Omega.{arith}
-use borrow.Author.Rules.{rules}
-use lib.ListN.{length}
-use Rattle.text.specs.Numbers.{digits}
 use Rattle.text.proofs.Digits.{count_one, count_more, count_four, digits_count, digits_short}
 use Rattle.text.proofs.inner.digit_count.Goals as goal
 

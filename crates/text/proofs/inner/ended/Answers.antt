@@ -1,6 +1,5 @@
 -- `ended` meets its contract: by the test of the range. Assumes nothing.
 use mathlib.Core.Path.{sym, ◌∙◌}
-use borrow.Author.Rules.{rules}
 use Rattle.text.proofs.inner.ended.Goals as goal
 
 pub returns-then-in_range : goal.returns-then-in_range

@@ -1,12 +1,8 @@
 -- `number_at` meets its contract. Invariant: the walk from here on, with the value so far, finds the number. Assumes nothing.
-use Prim.Native.Nat.{◌-◌, ◌≤◌}
 use mathlib.Core.Path.{◌≡◌, sym, ◌∙◌}
 use native.Mathlib.Omega.{arith}
-use borrow.Author.Rules.{rules}
-use lib.ListN.{length, drop}
-use Rattle.text.specs.Fields.{field, number_at}
 use Rattle.text.proofs.Tests.{told_no, told_yes, digit_range}
-use Rattle.text.proofs.OneNumber.{number_from, walk_field, walk_end, walk-bad, walk-next, walk_none, range_bounds}
+use Rattle.text.proofs.OneNumber.{walk_field, walk_end, walk-bad, walk-next, walk_none, range_bounds}
 use Rattle.text.proofs.inner.number_at.Goals as goal
 use mathlib.Core.Path as path
 use mathlib.Core.Bool as bool

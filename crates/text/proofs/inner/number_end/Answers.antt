@@ -1,6 +1,5 @@
 -- `number_end` meets its contract: by the test of the byte behind the digits. Assumes nothing.
 use mathlib.Core.Path.{sym, ◌∙◌}
-use borrow.Author.Rules.{rules}
 use Rattle.text.proofs.inner.number_end.Goals as goal
 
 pub returns-then-is_end : goal.returns-then-is_end

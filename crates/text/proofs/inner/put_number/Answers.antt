@@ -3,12 +3,9 @@
 use Prim.Native.Nat.{ℕ, ◌+◌}
 use mathlib.Core.Path.{refl, ap}
 use native.Mathlib.Omega.{arith}
-use borrow.Author.Rules.{rules}
-use lib.ListN.{length, length-set}
-use Rattle.lists.specs.Fill.{put}
-use Rattle.text.specs.Numbers.{digits}
+use lib.ListN.{length-set}
 use Rattle.text.proofs.Digits.{count_one, count_more}
-use Rattle.text.proofs.Decimals.{Backing, back_step, back_end}
+use Rattle.text.proofs.Decimals.{back_step, back_end}
 use Rattle.text.proofs.inner.put_number.Goals as goal
 
 pub overflow_add-e : goal.overflow_add-e

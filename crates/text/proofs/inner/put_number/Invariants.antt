@@ -1,14 +1,9 @@
 -- `put_number` meets its contract. Invariant: the digits of what is left of the number, stored before the ones stored, bring the table to its
 -- target. Assumes nothing.
-use Prim.Native.Nat.{ℕ, ◌+◌}
-use mathlib.Core.Path.{refl, ap}
-use native.Mathlib.Omega.{arith}
-use borrow.Author.Rules.{rules}
-use lib.ListN.{length, length-set}
+use lib.ListN.{length}
 use Rattle.lists.specs.Fill.{put}
 use Rattle.text.specs.Numbers.{digits}
-use Rattle.text.proofs.Digits.{count_one, count_more}
-use Rattle.text.proofs.Decimals.{Backing, back_step, back_end}
+use Rattle.text.proofs.Decimals.{Backing}
 use Rattle.text.proofs.inner.put_number.Given as goal
 
 abbrev pub invariant-loop-v : goal.invariant-loop-v

@@ -1,8 +1,7 @@
 -- `weight_at` meets its contract. Invariant: run `low` starts at or before the handle, run `high` after it. Assumes nothing.
 use Prim.Native.Nat.{◌+◌, ◌-◌, ◌/◌}
 use native.Mathlib.Omega.{arith}
-use Rattle.weight.proofs.RunLists.{Halving, list_good, halving_begins, halving_ends}
-use borrow.Author.Rules.{rules}
+use Rattle.weight.proofs.RunLists.{list_good, halving_begins, halving_ends}
 use Rattle.weight.proofs.inner.weight_at.Goals as goal
 
 pub loop-high-init : goal.loop-high-init

@@ -1,8 +1,6 @@
 -- `weight_at` meets its contract. Invariant: run `low` starts at or before the handle, run `high` after it. Assumes nothing.
-use Prim.Native.Nat.{◌+◌, ◌-◌, ◌/◌}
-use native.Mathlib.Omega.{arith}
-use Rattle.weight.proofs.RunLists.{Halving, list_good, halving_begins, halving_ends}
-use borrow.Author.Rules.{rules}
+use Prim.Native.Nat.{◌-◌}
+use Rattle.weight.proofs.RunLists.{Halving}
 use Rattle.weight.proofs.inner.weight_at.Given as goal
 
 abbrev pub invariant-loop-high : goal.invariant-loop-high

@@ -1,12 +1,7 @@
 -- `is_run_list` meets its contract. Invariant: what was seen and the test of the runs that are left together are the test of all. Assumes nothing.
-use mathlib.Core.Path.{◌≡◌, sym}
-use mathlib.Core.Bool.{◌&&◌}
-use Prim.Native.Nat.{◌-◌, ◌≤◌}
+use mathlib.Core.Path.{sym}
 use native.Mathlib.Omega.{arith}
-use lib.ListN.{length, drop}
-use Rattle.weight.specs.RunList.{is_run_list, all_follow}
 use Rattle.weight.proofs.Followed.{list-uneven, list-none, list-first, follow-next, follow-end}
-use borrow.Author.Rules.{rules}
 use Rattle.weight.proofs.judging.is_run_list.Goals as goal
 
 pub returns-then-run_weights-run_firsts : goal.returns-then-run_weights-run_firsts

@@ -3,7 +3,6 @@ use Prim.Native.Nat.{◌*◌}
 use native.Mathlib.Omega.{arith}
 use lib.Pow.{pow_pos}
 use Rattle.words.proofs.Rolling.{one_shifted, masked}
-use borrow.Author.Rules.{rules}
 use Rattle.words.proofs.inner.roll.Goals as goal
 
 pub overflow_sub-result : goal.overflow_sub-result

@@ -3,7 +3,6 @@ use mathlib.Core.Path.{ap}
 use Prim.Native.Nat.{ℕ, ◌+◌, ◌-◌, ◌/◌}
 use native.Mathlib.Omega.{arith}
 use Rattle.words.proofs.Rolling.{shifted, turned_room}
-use borrow.Author.Rules.{rules}
 use Rattle.words.proofs.inner.roll_turned.Goals as goal
 
 pub overflow_add-result : goal.overflow_add-result

@@ -1,12 +1,10 @@
 -- `turned_code` meets its contract. Both loops keep one state: what is turned so far, and what the rest makes of it. Assumes nothing.
-use mathlib.Core.Path.{◌≡◌, refl}
-use mathlib.Core.Bool.{true}
+use mathlib.Core.Path.{refl}
 use native.Mathlib.Omega.{arith}
 use Rattle.lists.specs.Every.{every_from}
 use Rattle.words.specs.Word.{code_from, turn}
 use Rattle.words.specs.Turned.{spelled, turned_code, turns_four}
-use Rattle.words.proofs.Turning.{Turning, turning_begins, four-fit, four-turned, one-fits, one-turned, turning-ends}
-use borrow.Author.Rules.{rules}
+use Rattle.words.proofs.Turning.{turning_begins, four-fit, four-turned, one-fits, one-turned, turning-ends}
 use Rattle.words.proofs.inner.turned_code.Goals as goal
 
 pub loop-left-init : goal.loop-left-init

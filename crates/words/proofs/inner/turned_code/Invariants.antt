@@ -1,12 +1,8 @@
 -- `turned_code` meets its contract. Both loops keep one state: what is turned so far, and what the rest makes of it. Assumes nothing.
-use mathlib.Core.Path.{◌≡◌, refl}
+use mathlib.Core.Path.{◌≡◌}
 use mathlib.Core.Bool.{true}
-use native.Mathlib.Omega.{arith}
-use Rattle.lists.specs.Every.{every_from}
-use Rattle.words.specs.Word.{code_from, turn}
-use Rattle.words.specs.Turned.{spelled, turned_code, turns_four}
-use Rattle.words.proofs.Turning.{Turning, turning_begins, four-fit, four-turned, one-fits, one-turned, turning-ends}
-use borrow.Author.Rules.{rules}
+use Rattle.words.specs.Turned.{turns_four}
+use Rattle.words.proofs.Turning.{Turning}
 use Rattle.words.proofs.inner.turned_code.Given as goal
 
 abbrev pub invariant-loop-left : goal.invariant-loop-left

@@ -3,7 +3,6 @@ use mathlib.Core.Path.{sym, ◌∙◌}
 use Prim.Native.Nat.{◌*◌}
 use native.Mathlib.Omega.{arith}
 use Rattle.words.proofs.Rolling.{one_shifted, four_two}
-use borrow.Author.Rules.{rules}
 use Rattle.words.proofs.inner.word_count.Goals as goal
 
 pub returns : goal.returns
