@@ -41,6 +41,7 @@ def camel(word):
 
 HEAD = re.compile(r"^(?:(?:pub|abbrev|unfoldable|opaque|private|record|data|instance)\s+)*(" + NAME + r")\s*(?=[:({]|$)", re.M)
 FIELD = re.compile(r"^ +(?:pub )?(" + NAME + r") :(?= |$)", re.M)
+NESTED = re.compile(r"^ +(?:(?:pub|abbrev|unfoldable) )*(" + NAME + r") :(?= |$)", re.M)
 RECORD = re.compile(r"^(?:pub |abbrev )*(?:record|data) [^\n]*where\n((?:(?:  [^\n]*)?\n)+)", re.M)
 
 
@@ -67,7 +68,7 @@ def table():
         for n in tops(text):
             kinds[n] = "value"
             values.add(n)
-        for n in fields(text):
+        for n in fields(text) + NESTED.findall(text):
             kinds.setdefault(n, "field")
     for path in LAWS:
         text = read(path)
@@ -75,6 +76,8 @@ def table():
             kinds.setdefault(n, "law")
         for n in fields(text):
             kinds.setdefault(n, "field")
+        for n in NESTED.findall(text):
+            kinds.setdefault(n, "law")
     vocabulary = {camel(n) for n in values} | WORDS
     turned = {}
     for n, kind in kinds.items():
@@ -94,7 +97,9 @@ def table():
 
 
 # a definition whose name would be a parameter's; laws whose name is another's
-VALUES = {"runWeights": "weights_of_runs", "runFirsts": "firsts_of_runs", "read-done": "read_done_lem", "row-fits": "row_fits_lem"}
+VALUES = {"runWeights": "weights_of_runs", "runFirsts": "firsts_of_runs", "read_done": "read_done_lem",
+          "row_fits": "row_fits_lem", "collection-read": "collection_read_lem", "index-made": "index_made_lem", "in_order": "in_order_at", "part-get_d": "part-get_or",
+          "part-getD": "part-get_or"}
 FIELDS = {"access-at": "access_at_once", "access-start": "access_start_is", "in-range": "within_range", "is-number": "is_a_number", "N-high": "letters_high"}
 
 
