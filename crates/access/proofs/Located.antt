@@ -12,7 +12,7 @@ use Rattle.lists.proofs.Count.{length_count, count_at}
 use Rattle.collection_faults.specs.Faults.{last_end}
 use Rattle.collection.specs.Kmers.{within, kmers_from, kmers, position_of}
 use Rattle.collection.specs.Ready.{Long}
-use Rattle.collection.proofs.Kmers.{kmers_split, up-to-count, start-count}
+use Rattle.collection.proofs.Kmers.{kmers_split, up_to_count, start_count}
 use Rattle.access.specs.Located.{Holds}
 
 -- where the k-mer of a handle stands
@@ -23,7 +23,7 @@ position_in {k} {ends} g handle i w =
     let a : ℕ = last_end 0 (take i ends) in
     let b : ℕ = length (kmers k (take i ends)) in
     let j : ℕ = handle - 1 - b in
-    let s = start-count g i (omega (arith, w.inside)) in
+    let s = start_count g i (omega (arith, w.inside)) in
     let cut : ends ≡ take i ends ++ (e ∷ drop (suc i) ends) =
     sym (take-append-drop i ends) ∙ ap (λ (l : List ℕ). take i ends ++ l) (drop-cons ends i 0 w.inside) in
     let all : kmers k ends ≡ kmers k (take i ends) ++ (count_from a (within k a e) ++ kmers_from k e (drop (suc i) ends)) =
@@ -44,7 +44,7 @@ position_in {k} {ends} g handle i w =
 -- the k-mer of a handle ends within its string
 pub position_small : {k : ℕ} {ends : List ℕ} → Long k ends → (handle i : ℕ) → Holds k ends handle i → handle + i * (k - 1) + (k - 1) ≤ get_or ends i 0
 position_small {k} {ends} g handle i w =
-    let u = up-to-count g i w.inside in
+    let u = up_to_count g i w.inside in
     let m : (i + 1) * (k - 1) ≡ i * (k - 1) + (k - 1) = ap (λ (n : ℕ). n * (k - 1)) (add-one i) ∙ suc-mul i (k - 1) in
     omega (arith, w.up_to)
 

@@ -6,7 +6,7 @@ use native.Mathlib.Omega.{arith}
 use lib.IntN.{ℤ}
 use lib.ListN.{length, replicate, length-replicate}
 use Rattle.lists.specs.Fill.{fill}
-use Rattle.lists.proofs.Storing.{take-fill, fill-again}
+use Rattle.lists.proofs.Storing.{take_fill, fill_again}
 use Rattle.collection.specs.Collection.{Collection, collection}
 use Rattle.collection.specs.declared.Verdict.{Verdict}
 use Rattle.collection.specs.declared.Verdict.TheVariants.{Good, Bad}
@@ -24,7 +24,7 @@ use Rattle.apply_places.specs.Judged.{PlacesJudged}
 use Rattle.apply_strings.specs.Placeable.{Placeable}
 use Rattle.apply_places.specs.Places.{places_verdict}
 use Rattle.apply_places.proofs.Permutation.{places_good}
-use Rattle.apply_strings.proofs.Reordered.{reordered-sizes}
+use Rattle.apply_strings.proofs.Reordered.{reordered_sizes}
 
 module _ (c : Collection) (places : List ℤ) (t : Lent) where
   -- ─── the tables, then the places ───────────────────────────────────────────
@@ -47,28 +47,28 @@ module _ (c : Collection) (places : List ℤ) (t : Lent) where
         }
 
     -- refused by 2 to 6 or 1
-    pub apply-refused : {number place : ℕ} → verdict ≡ Bad number place → outcome (Refused number place) t ≡ apply_of c places t
+    pub apply_refused : {number place : ℕ} → verdict ≡ Bad number place → outcome (Refused number place) t ≡ apply_of c places t
     unfolding apply_of
-    apply-refused e = refused _ _ (sym judged ∙ e)
+    apply_refused e = refused _ _ (sym judged ∙ e)
 
     -- not refused by these
-    pub apply-goes-on : {done : Outcome} → verdict ≡ Good → done ≡ placed_of c places t → done ≡ apply_of c places t
+    pub apply_goes_on : {done : Outcome} → verdict ≡ Good → done ≡ placed_of c places t → done ≡ apply_of c places t
     unfolding apply_of
-    apply-goes-on good e = settled _ e (sym judged ∙ good)
+    apply_goes_on good e = settled _ e (sym judged ∙ good)
 
   -- ─── the places, then the strings ──────────────────────────────────────────
 
   module _ {marks : List ℕ} {verdict : Verdict} (judged : PlacesJudged (length c.ends) places t.work marks verdict) where
     -- t.work, marked by judging the places and zeroed
-    zeroed-again : {zeros : List ℕ} → zeros ≡ fill (replicate (length c.ends) 0) marks → zeros ≡ fill (replicate (length c.ends) 0) t.work
-    zeroed-again z = z ∙ fill-again (replicate (length c.ends) 0) t.work marks (length c.ends) (length-replicate {A = ℕ} (length c.ends) 0) judged.rest
+    zeroed_again : {zeros : List ℕ} → zeros ≡ fill (replicate (length c.ends) 0) marks → zeros ≡ fill (replicate (length c.ends) 0) t.work
+    zeroed_again z = z ∙ fill_again (replicate (length c.ends) 0) t.work marks (length c.ends) (length-replicate {A = ℕ} (length c.ends) 0) judged.rest
 
     -- refused by 8
-    pub places-refused : {number place : ℕ} {zeros : List ℕ} → verdict ≡ Bad number place → zeros ≡ fill (replicate (length c.ends) 0) marks
+    pub places_refused : {number place : ℕ} {zeros : List ℕ} → verdict ≡ Bad number place → zeros ≡ fill (replicate (length c.ends) 0) marks
         → outcome (Refused number place) (lent t.new zeros) ≡ placed_of c places t
     unfolding placed_of
-    places-refused {number} {place} e z =
-        ap (λ (z : List ℕ). outcome (Refused number place) (lent t.new z)) (zeroed-again z) ∙ refused _ _ (sym judged.judged ∙ e)
+    places_refused {number} {place} e z =
+        ap (λ (z : List ℕ). outcome (Refused number place) (lent t.new z)) (zeroed_again z) ∙ refused _ _ (sym judged.judged ∙ e)
 
     module _ (e : verdict ≡ Good) where
       pub placeable : Ready c (rooms_of t.new) (length t.work) → Placeable c places marks
@@ -80,11 +80,11 @@ module _ (c : Collection) (places : List ℤ) (t : Lent) where
             work_room = omega (arith, r.work_room, judged.size);
           }
 
-      pub places-filled : {new : Tables} {zeros : List ℕ} → new ≡ filled_by (reordered c places) t.new → zeros ≡ fill (replicate (length c.ends) 0) marks
+      pub places_filled : {new : Tables} {zeros : List ℕ} → new ≡ filled_by (reordered c places) t.new → zeros ≡ fill (replicate (length c.ends) 0) marks
           → outcome (Filled (length c.letters) (length c.ends) (length c.weights)) (lent new zeros) ≡ placed_of c places t
       unfolding placed_of
-      places-filled f z =
-          let work = zeroed-again z in
+      places_filled f z =
+          let work = zeroed_again z in
           settled _ (λ i. outcome (Filled (length c.letters) (length c.ends) (length c.weights)) (lent (f i) (work i))) (sym judged.judged ∙ e)
 
 -- where nothing is refused, the first entries of the new tables are a collection: that of the reordered strings
@@ -94,12 +94,12 @@ module _ (c : Collection) (places : List ℤ) (t : Lent) where
       × (collection_in c.k (length c.letters) (length c.ends) (length c.weights) (apply_of c places t).after.new ≡ joined c.k (reordered c places))
   unfolding apply_of placed_of
   applied good fine =
-      let n = reordered-sizes c places (tables_good c places t refl good).passes (places_good (length c.ends) places fine) in
+      let n = reordered_sizes c places (tables_good c places t refl good).passes (places_good (length c.ends) places fine) in
       let o = settled (λ number place. outcome (Refused number place) t)
       (settled (λ number place. outcome (Refused number place) (lent t.new (zeroed (length c.ends) t.work))) refl fine) good in
-      let x = take-fill (letters_in (reordered c places)) t.new.letters (length c.letters) n.letters_number in
-      let y = take-fill (ends_in 0 (reordered c places)) t.new.ends (length c.ends) n.ends_number in
-      let z = take-fill (weights_in (reordered c places)) t.new.weights (length c.weights) n.weights_number in (
+      let x = take_fill (letters_in (reordered c places)) t.new.letters (length c.letters) n.letters_number in
+      let y = take_fill (ends_in 0 (reordered c places)) t.new.ends (length c.ends) n.ends_number in
+      let z = take_fill (weights_in (reordered c places)) t.new.weights (length c.weights) n.weights_number in (
         ap (λ (r : Outcome). r.answer) (sym o),
         ap (λ (r : Outcome). collection_in c.k (length c.letters) (length c.ends) (length c.weights) r.after.new) (sym o)
             ∙ (λ i. collection c.k (x i) (y i) (z i)),

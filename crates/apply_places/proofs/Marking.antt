@@ -12,9 +12,9 @@ use lib.IntN.{ℤ, pos, nat_abs}
 use lib.ListN.{length, take, drop, get_or, set, replicate, get_or-replicate, length-replicate, length-map, length-set, drop_of_length-le}
 use lib.Seq.{get_or-take, get_or-set_same, get_or-set_other, take-suc, length-take-le, take_all, drop-set-lt}
 use Rattle.lists.specs.Choose.{choose}
-use Rattle.lists.proofs.First.{first-snoc-none, first-snoc-other}
+use Rattle.lists.proofs.First.{first_snoc-none, first_snoc-other}
 use Rattle.lists.specs.Fill.{fill}
-use Rattle.lists.proofs.Storing.{drop_next, take-fill, drop-fill, length-fill}
+use Rattle.lists.proofs.Storing.{drop_next, take_fill, drop_fill, length_fill}
 use Rattle.collection.specs.declared.Verdict.{Verdict}
 use Rattle.collection.specs.declared.Verdict.TheVariants.{Good, Bad}
 use Rattle.collection.specs.Verdict.{at_place}
@@ -26,15 +26,15 @@ use Rattle.apply_places.specs.Marks.{Marks, Scanned}
 -- ─── one place further ───────────────────────────────────────────────────────
 
 module _ (m : ℕ) (places : List ℤ) (i : ℕ) (earlier : List ℕ) (l : i < length places) where
-  pub bad-here : bad_place m earlier (nat_abs (get_or places i (pos 0))) ≡ true → first_bad m i earlier (drop i places) ≡ i + 1
+  pub bad_here : bad_place m earlier (nat_abs (get_or places i (pos 0))) ≡ true → first_bad m i earlier (drop i places) ≡ i + 1
   unfolding first_bad
-  bad-here e = rw (drop_next places i (pos 0) l, e, add-one)
+  bad_here e = rw (drop_next places i (pos 0) l, e, add-one)
 
   -- a good place: the first bad one comes later
-  pub bad-later : bad_place m earlier (nat_abs (get_or places i (pos 0))) ≡ false
+  pub bad_later : bad_place m earlier (nat_abs (get_or places i (pos 0))) ≡ false
       → first_bad m i earlier (drop i places) ≡ first_bad m (i + 1) (earlier ++ (nat_abs (get_or places i (pos 0)) ∷ [])) (drop (i + 1) places)
   unfolding first_bad
-  bad-later e = rw (drop_next places i (pos 0) l, e, add-one)
+  bad_later e = rw (drop_next places i (pos 0) l, e, add-one)
 
 -- no place is left
 pub bad_none : (m i : ℕ) (earlier : List ℕ) (places : List ℤ) → length places ≤ i → first_bad m i earlier (drop i places) ≡ 0
@@ -44,24 +44,24 @@ bad_none m i earlier places l = rw (drop_of_length-le places l)
 -- ─── which places are bad ────────────────────────────────────────────────────
 
 module _ (m : ℕ) (earlier : List ℕ) (a : ℕ) where
-  pub bad-zero : a ≡ 0 → bad_place m earlier a ≡ true
+  pub bad_zero : a ≡ 0 → bad_place m earlier a ≡ true
   unfolding bad_place
-  bad-zero e = rw (eq-eqb a 0 e)
+  bad_zero e = rw (eq-eqb a 0 e)
 
   -- a place beyond m
-  pub bad-high : (a ≡ 0 → ⊥) → m < a → bad_place m earlier a ≡ true
+  pub bad_high : (a ≡ 0 → ⊥) → m < a → bad_place m earlier a ≡ true
   unfolding bad_place
-  bad-high n h = rw (ne_eqb a 0 n, lt-ltb m a h)
+  bad_high n h = rw (ne_eqb a 0 n, lt-ltb m a h)
 
   -- a place that an earlier string has
-  pub bad-used : (a ≡ 0 → ⊥) → a ≤ m → (holder a earlier ≡ 0 → ⊥) → bad_place m earlier a ≡ true
+  pub bad_used : (a ≡ 0 → ⊥) → a ≤ m → (holder a earlier ≡ 0 → ⊥) → bad_place m earlier a ≡ true
   unfolding bad_place
-  bad-used n h u = rw (ne_eqb a 0 n, le-ltb m a h, ne_eqb (holder a earlier) 0 u)
+  bad_used n h u = rw (ne_eqb a 0 n, le-ltb m a h, ne_eqb (holder a earlier) 0 u)
 
   -- a place of 1 to m that is free
-  pub good-place : (a ≡ 0 → ⊥) → a ≤ m → holder a earlier ≡ 0 → bad_place m earlier a ≡ false
+  pub good_place : (a ≡ 0 → ⊥) → a ≤ m → holder a earlier ≡ 0 → bad_place m earlier a ≡ false
   unfolding bad_place
-  good-place n h u = rw (ne_eqb a 0 n, le-ltb m a h, eq-eqb (holder a earlier) 0 u)
+  good_place n h u = rw (ne_eqb a 0 n, le-ltb m a h, eq-eqb (holder a earlier) 0 u)
 
 -- ─── marks ───────────────────────────────────────────────────────────────────
 
@@ -87,11 +87,11 @@ marks_more m work places a p q r u marks b h = go (ℕ_discrete (suc b) a)
         ap (λ (n : ℕ). get_or (set work (a - 1) (length places + 1)) n 0) f
         ∙ (get_or-set_same work (a - 1) (length places + 1) 0 (omega arith)
         ∙ sym
-        (first-snoc-none (eqb (suc b)) places a (ap (λ (n : ℕ). holder n places) e ∙ u)
+        (first_snoc-none (eqb (suc b)) places a (ap (λ (n : ℕ). holder n places) e ∙ u)
         ∙ ap (λ (t : Bool). choose t (length places + 1) 0) (eq-eqb (suc b) a e)))
     go (no n) =
         get_or-set_other work (a - 1) b (length places + 1) 0 (λ e. n (omega arith))
-        ∙ (marks b h ∙ sym (first-snoc-other (eqb (suc b)) places a (ne_eqb (suc b) a n)))
+        ∙ (marks b h ∙ sym (first_snoc-other (eqb (suc b)) places a (ne_eqb (suc b) a n)))
 
 -- the places, sign aside, of the first strings, with one more
 pub sizes_more : (places : List ℤ) (i : ℕ) → i < length places
@@ -127,17 +127,17 @@ module _ {m : ℕ} {places : List ℤ} {before work : List ℕ} {i : ℕ} (w : M
   earlier = map nat_abs (take i places)
 
   -- a bad place ends the loop
-  pub marking-stops : bad_place m earlier a ≡ true → i + 1 ≡ first_bad m 0 [] places
-  marking-stops b = sym (w.first ∙ bad-here m places i (map nat_abs (take i places)) l (ap (bad_place m (map nat_abs (take i places))) (sym e) ∙ b))
+  pub marking_stops : bad_place m earlier a ≡ true → i + 1 ≡ first_bad m 0 [] places
+  marking_stops b = sym (w.first ∙ bad_here m places i (map nat_abs (take i places)) l (ap (bad_place m (map nat_abs (take i places))) (sym e) ∙ b))
 
   module _ (nz : a ≡ 0 → ⊥) (high : a ≤ m) where
     -- a place whose mark is set was used
-    pub marking-used : (get_or work (a - 1) 0 ≡ 0 → ⊥) → bad_place m earlier a ≡ true
-    marking-used u = bad-used m (map nat_abs (take i places)) a nz high (λ q. u (marked m work (map nat_abs (take i places)) a nz high w.marks ∙ q))
+    pub marking_used : (get_or work (a - 1) 0 ≡ 0 → ⊥) → bad_place m earlier a ≡ true
+    marking_used u = bad_used m (map nat_abs (take i places)) a nz high (λ q. u (marked m work (map nat_abs (take i places)) a nz high w.marks ∙ q))
 
     -- a place whose mark is not set is marked
-    pub marking-next : m ≤ length work → get_or work (a - 1) 0 ≡ 0 → i < m → Marking m places before (set work (a - 1) (i + 1)) (i + 1)
-    marking-next r u b =
+    pub marking_next : m ≤ length work → get_or work (a - 1) 0 ≡ 0 → i < m → Marking m places before (set work (a - 1) (i + 1)) (i + 1)
+    marking_next r u b =
         let es : List ℕ = map nat_abs (take i places) in
         let n : length es ≡ i = length_sizes places i (omega arith) in
         let h : holder a es ≡ 0 = sym (marked m work es a nz high w.marks) ∙ u in
@@ -150,7 +150,7 @@ module _ {m : ℕ} {places : List ℤ} {before work : List ℕ} {i : ℕ} (w : M
               (subst (λ (x : ℕ). Marks m (set work (a - 1) (x + 1)) (es ++ (a ∷ []))) n (marks_more m work es a nz high r h w.marks));
           first =
               w.first
-              ∙ (bad-later m places i es l (ap (bad_place m es) (sym e) ∙ good-place m es a nz high h)
+              ∙ (bad_later m places i es l (ap (bad_place m es) (sym e) ∙ good_place m es a nz high h)
               ∙ ap (λ (ys : List ℕ). first_bad m (i + 1) ys (drop (i + 1) places)) (sym (sizes_more places i l)));
         }
 
@@ -181,8 +181,8 @@ judged_each m places before zeros after r verdict e l z s v g =
     record {
       judged = v ∙ (ap (at_place 8) (s.first ∙ ap (λ (n : ℕ). first_bad n 0 [] places) e)
           ∙ sym (ap (λ (b : Bool). choose b (at_place 8 (first_bad m 0 [] places)) (Bad 8 0)) (eq-eqb (length places) m e)));
-      size = s.size ∙ (ap length z ∙ length-fill (replicate m 0) before (omega (arith, length-replicate {A = ℕ} m 0)));
-      rest = subst (λ (n : ℕ). drop n after ≡ drop n zeros) e s.rest ∙ (ap (drop m) z ∙ drop-fill (replicate m 0) before m (length-replicate {A = ℕ} m 0));
+      size = s.size ∙ (ap length z ∙ length_fill (replicate m 0) before (omega (arith, length-replicate {A = ℕ} m 0)));
+      rest = subst (λ (n : ℕ). drop n after ≡ drop n zeros) e s.rest ∙ (ap (drop m) z ∙ drop_fill (replicate m 0) before m (length-replicate {A = ℕ} m 0));
       marked = λ q. subst (λ (n : ℕ). Marks n after (map nat_abs places)) e (s.marked (g q));
     }
 
@@ -191,6 +191,6 @@ pub zeros_ready : (m n : ℕ) (work before : List ℕ) → n ≡ m → m ≤ len
     → (n ≤ length work) × (take n work ≡ replicate n 0)
 zeros_ready m n work before e l z =
     let k = length-replicate {A = ℕ} m 0 in (
-      omega (arith, ap length z, length-fill (replicate m 0) before (omega arith)),
-      subst (λ (j : ℕ). take j work ≡ replicate j 0) (sym e) (ap (take m) z ∙ take-fill (replicate m 0) before m k),
+      omega (arith, ap length z, length_fill (replicate m 0) before (omega arith)),
+      subst (λ (j : ℕ). take j work ≡ replicate j 0) (sym e) (ap (take m) z ∙ take_fill (replicate m 0) before m k),
     )

@@ -13,21 +13,21 @@ use lib.IntN.{ℤ, pos, nat_abs}
 use lib.ListN.{length, get_or, length-map}
 use Rattle.lists.specs.Choose.{choose}
 use Rattle.lists.specs.Every.{All}
-use Rattle.lists.proofs.Every.{all-at}
+use Rattle.lists.proofs.Every.{all_at}
 use Rattle.lists.proofs.Mapped.{map_at}
-use Rattle.lists.proofs.First.{first-none, none_first}
+use Rattle.lists.proofs.First.{first_none, none_first}
 use Rattle.collection.specs.declared.Verdict.TheVariants.{Good, Bad}
 use Rattle.collection.specs.Verdict.{at_place}
 use Rattle.collection.proofs.Verdicts.{test_good, place_good, place_none}
 use Rattle.lists.specs.Count.{agree}
 use Rattle.cover_trails.specs.Counting.{occurs}
 use Rattle.cover_trails.specs.Places.{SignedPermutation}
-use Rattle.cover_trails.proofs.Arranged.{permutation-if-apart}
+use Rattle.cover_trails.proofs.Arranged.{permutation_if_apart}
 use Rattle.lists.proofs.Agree.{Agreeing, agree_same, agree-other, agree_cases}
 use Rattle.lists.proofs.Refuted.{refuted}
 use Rattle.cover_trails.proofs.Counting.{occurs_at, occurs_between}
 use Rattle.apply_places.specs.Places.{holder, bad_place, first_bad, places_verdict}
-use Rattle.apply_places.proofs.Marking.{good-place}
+use Rattle.apply_places.proofs.Marking.{good_place}
 
 -- ─── no holder, no use ───────────────────────────────────────────────────────
 
@@ -61,7 +61,7 @@ fine m earlier a h = go (eqb a 0) (ltb m a) (eqb (holder a earlier) 0) refl refl
         record {
           low = omega arith;
           high = ltb-false m a y;
-          new = unused a earlier (first-none (eqb a) earlier (eqb-true (holder a earlier) 0 z));
+          new = unused a earlier (first_none (eqb a) earlier (eqb-true (holder a earlier) 0 z));
         }
 
 -- ─── all places ──────────────────────────────────────────────────────────────
@@ -99,7 +99,7 @@ unfolding places_verdict occurs
 places_good m places h =
     let t = test_good (eqb (length places) m) 8 0 (at_place 8 (first_bad m 0 [] places)) h in
     let r = apart m 0 [] places (λ a. omega arith) (place_good 8 (first_bad m 0 [] places) t.1) in
-    permutation-if-apart m places (eqb-true (length places) m t.0) r.range (λ a. omega (arith, r.once a))
+    permutation_if_apart m places (eqb-true (length places) m t.0) r.range (λ a. omega (arith, r.once a))
 
 -- ─── and the other way round ─────────────────────────────────────────────────
 
@@ -112,7 +112,7 @@ none_bad m i earlier (p ∷ places) r o =
     let high = r.0.1 in
     let new : occurs (nat_abs p) earlier ≡ 0 = omega (arith, o (nat_abs p) low high, agree_same (nat_abs p) (nat_abs p) refl) in
     let free : holder (nat_abs p) earlier ≡ 0 = none_first (eqb (nat_abs p)) earlier (none_used (nat_abs p) earlier new) in
-    rw (good-place m earlier (nat_abs p) (λ e. omega arith) high free)
+    rw (good_place m earlier (nat_abs p) (λ e. omega arith) high free)
     (none_bad m (suc i) (earlier ++ (nat_abs p ∷ [])) places r.1 (λ a l u. omega (arith, o a l u, used-more a (nat_abs p) earlier)))
 
 -- a signed permutation is not refused
@@ -136,10 +136,10 @@ pub one_string : {m : ℕ} {places : List ℤ} → SignedPermutation m places �
     → nat_abs (get_or places i (pos 0)) ≡ nat_abs (get_or places j (pos 0)) → i ≡ j
 one_string {m} {places} s i j l b e = go (dec_lt i j) (dec_lt j i)
   where
-    not-twice : (i j : ℕ) → i < j → j < m → nat_abs (get_or places i (pos 0)) ≡ nat_abs (get_or places j (pos 0)) → ⊥
-    not-twice i j l b e =
+    not_twice : (i j : ℕ) → i < j → j < m → nat_abs (get_or places i (pos 0)) ≡ nat_abs (get_or places j (pos 0)) → ⊥
+    not_twice i j l b e =
         let w : ℕ = nat_abs (get_or places j (pos 0)) in
-        let r = all-at (λ p. (1 ≤ nat_abs p) × (nat_abs p ≤ m)) places s.range j (pos 0) (omega (arith, s.number)) in
+        let r = all_at (λ p. (1 ≤ nat_abs p) × (nat_abs p ≤ m)) places s.range j (pos 0) (omega (arith, s.number)) in
         omega (
           arith,
           s.once w r.0 r.1,
@@ -148,6 +148,6 @@ one_string {m} {places} s i j l b e = go (dec_lt i j) (dec_lt j i)
         )
 
     go : Dec (i < j) → Dec (j < i) → i ≡ j
-    go (yes q) r = absurd (not-twice i j q b e)
-    go (no q) (yes r) = absurd (not-twice j i r l (sym e))
+    go (yes q) r = absurd (not_twice i j q b e)
+    go (no q) (yes r) = absurd (not_twice j i r l (sym e))
     go (no q) (no r) = omega arith

@@ -21,11 +21,11 @@ module _ (z : ℤ) (f : SFits w32 z) where
   same : to_z w32 (of_z w32 z) ≡ z
   same = to_z-of_z w32 z f
 
-  same-wide : to_z w64 (of_z w64 (to_z w32 (of_z w32 z))) ≡ z
-  same-wide = ap (λ (x : ℤ). to_z w64 (of_z w64 x)) same ∙ to_z-of_z w64 z (wide f)
+  same_wide : to_z w64 (of_z w64 (to_z w32 (of_z w32 z))) ≡ z
+  same_wide = ap (λ (x : ℤ). to_z w64 (of_z w64 x)) same ∙ to_z-of_z w64 z (wide f)
 
-  pub cast-wide : SFits w64 (to_z w32 (of_z w32 z))
-  cast-wide = rw same (wide f)
+  pub cast_wide : SFits w64 (to_z w32 (of_z w32 z))
+  cast_wide = rw same (wide f)
 
 -- the machine's test of the sign is the definition's
 pub below_zero : (z : ℤ) (f : SFits w32 z) → lt_z (to_z w32 (of_z w32 z)) (pos 0) ≡ is_turned z
@@ -50,28 +50,28 @@ size_high (negsuc n) f = omega (arith, f.sfits)
 
 module _ (z : ℤ) (f : SFits w32 z) (h : lt_z (to_z w32 (of_z w32 z)) (pos 0) ≡ true) where
   away : pos 0 -ℤ to_z w64 (of_z w64 (to_z w32 (of_z w32 z))) ≡ pos (nat_abs z)
-  away = ap (λ (x : ℤ). pos 0 -ℤ x) (same-wide z f) ∙ sized_neg z (sym (below_zero z f) ∙ h)
+  away = ap (λ (x : ℤ). pos 0 -ℤ x) (same_wide z f) ∙ sized_neg z (sym (below_zero z f) ∙ h)
 
   -- the negative of a 32-bit number fits in 64 bits
-  pub away-fits : SFits w64 (pos 0 -ℤ to_z w64 (of_z w64 (to_z w32 (of_z w32 z))))
-  away-fits = rw away (record { sfits = omega (arith, size_high z f) })
+  pub away_fits : SFits w64 (pos 0 -ℤ to_z w64 (of_z w64 (to_z w32 (of_z w32 z))))
+  away_fits = rw away (record { sfits = omega (arith, size_high z f) })
 
   back : to_z w64 (of_z w64 (pos 0 -ℤ to_z w64 (of_z w64 (to_z w32 (of_z w32 z))))) ≡ pos (nat_abs z)
-  back = to_z-of_z w64 _ away-fits ∙ away
+  back = to_z-of_z w64 _ away_fits ∙ away
 
-  pub neg-cast : T (non_neg (to_z w64 (of_z w64 (pos 0 -ℤ to_z w64 (of_z w64 (to_z w32 (of_z w32 z)))))))
+  pub neg_cast : T (non_neg (to_z w64 (of_z w64 (pos 0 -ℤ to_z w64 (of_z w64 (to_z w32 (of_z w32 z)))))))
       × Fits w32 (nat_abs (to_z w64 (of_z w64 (pos 0 -ℤ to_z w64 (of_z w64 (to_z w32 (of_z w32 z)))))))
-  neg-cast = rw back (tt, record { fits = omega (arith, size_high z f) })
+  neg_cast = rw back (tt, record { fits = omega (arith, size_high z f) })
 
-  pub neg-size : nat_abs (to_z w64 (of_z w64 (pos 0 -ℤ to_z w64 (of_z w64 (to_z w32 (of_z w32 z)))))) ≡ nat_abs z
-  neg-size = ap nat_abs back
+  pub neg_size : nat_abs (to_z w64 (of_z w64 (pos 0 -ℤ to_z w64 (of_z w64 (to_z w32 (of_z w32 z)))))) ≡ nat_abs z
+  neg_size = ap nat_abs back
 
 module _ (z : ℤ) (f : SFits w32 z) (h : lt_z (to_z w32 (of_z w32 z)) (pos 0) ≡ false) where
   stays : to_z w32 (of_z w32 z) ≡ pos (nat_abs z)
   stays = same z f ∙ sized_pos z (sym (below_zero z f) ∙ h)
 
-  pub pos-cast : T (non_neg (to_z w32 (of_z w32 z))) × Fits w32 (nat_abs (to_z w32 (of_z w32 z)))
-  pos-cast = rw stays (tt, record { fits = omega (arith, size_high z f) })
+  pub pos_cast : T (non_neg (to_z w32 (of_z w32 z))) × Fits w32 (nat_abs (to_z w32 (of_z w32 z)))
+  pos_cast = rw stays (tt, record { fits = omega (arith, size_high z f) })
 
-  pub pos-size : nat_abs (to_z w32 (of_z w32 z)) ≡ nat_abs z
-  pos-size = ap nat_abs stays
+  pub pos_size : nat_abs (to_z w32 (of_z w32 z)) ≡ nat_abs z
+  pos_size = ap nat_abs stays

@@ -20,13 +20,13 @@ use Rattle.collection.specs.Ready.{Long}
 use Rattle.collection.specs.Strings.{Str, strings, joined}
 use Rattle.collection.proofs.Judged.{Judged, collection_good, shape_long}
 use Rattle.collection.proofs.Strings.{strings_count}
-use Rattle.collection.proofs.Kmers.{kmers_split, kmers_next, start-count}
+use Rattle.collection.proofs.Kmers.{kmers_split, kmers_next, start_count}
 use Rattle.cover_trails.specs.Places.{SignedPermutation}
 use Rattle.apply_strings.specs.Reordered.{reordered}
 use Rattle.apply_strings.specs.Parts.{start_of, first_of}
 use Rattle.apply_strings.specs.Weighs.{none, Weighs, WeighsAt}
-use Rattle.apply_strings.proofs.Parts.{string_at, string-long, last-inside}
-use Rattle.apply_strings.proofs.Reordered.{reordered-passes, reordered-strings, weighs-after, weighs-before}
+use Rattle.apply_strings.proofs.Parts.{string_at, string_long, last_inside}
+use Rattle.apply_strings.proofs.Reordered.{reordered_passes, reordered-strings, weighs_after, weighs-before}
 
 -- ─── from a string to a handle ───────────────────────────────────────────────
 
@@ -38,27 +38,27 @@ module _ {k : ℕ} {ends : List ℕ} (g : Long k ends) (i a : ℕ) (l : i < leng
       ap (kmers k) (sym (take-append-drop i ends))
       ∙ (kmers_split k 0 (take i ends) (drop i ends) ∙ ap (λ (r : List ℕ). kmers k (take i ends) ++ r) (kmers_next k (start_of ends i) ends i l))
 
-  before-is : length (kmers k (take i ends)) ≡ first_of k ends i
-  before-is = omega (arith, start-count g i (omega arith))
+  before_is : length (kmers k (take i ends)) ≡ first_of k ends i
+  before_is = omega (arith, start_count g i (omega arith))
 
   numbers : length (count_from (start_of ends i) (within k (start_of ends i) (get_or ends i 0))) ≡ within k (start_of ends i) (get_or ends i 0)
   numbers = length_count (start_of ends i) (within k (start_of ends i) (get_or ends i 0))
 
-  kmer-inside : first_of k ends i + a < length (kmers k ends)
-  kmer-inside =
+  kmer_inside : first_of k ends i + a < length (kmers k ends)
+  kmer_inside =
       omega (
         arith,
         ap length split,
         length-append (kmers k (take i ends))
             (count_from (start_of ends i) (within k (start_of ends i) (get_or ends i 0)) ++ kmers_from k (get_or ends i 0) (drop (i + 1) ends)),
         length-append (count_from (start_of ends i) (within k (start_of ends i) (get_or ends i 0))) (kmers_from k (get_or ends i 0) (drop (i + 1) ends)),
-        before-is,
+        before_is,
         numbers,
       )
 
-  kmer-position : get_or (kmers k ends) (first_of k ends i + a) 0 ≡ start_of ends i + a
-  kmer-position =
-      ap (λ (n : ℕ). get_or (kmers k ends) (n + a) 0) (sym before-is)
+  kmer_position : get_or (kmers k ends) (first_of k ends i + a) 0 ≡ start_of ends i + a
+  kmer_position =
+      ap (λ (n : ℕ). get_or (kmers k ends) (n + a) 0) (sym before_is)
       ∙ (ap (λ (r : List ℕ). get_or r (length (kmers k (take i ends)) + a) 0) split
       ∙ (get_or-append-add (kmers k (take i ends))
       (count_from (start_of ends i) (within k (start_of ends i) (get_or ends i 0)) ++ kmers_from k (get_or ends i 0) (drop (i + 1) ends)) a 0
@@ -68,16 +68,16 @@ module _ {k : ℕ} {ends : List ℕ} (g : Long k ends) (i a : ℕ) (l : i < leng
 
   -- its word and its weight are those of the string
   module _ (letters weights : List ℕ) where
-    kmer-word : word_at k letters (get_or (kmers k ends) (first_of k ends i + a) 0)
+    kmer_word : word_at k letters (get_or (kmers k ends) (first_of k ends i + a) 0)
         ≡ word_at k (get_or (strings (collection k letters ends weights)) i none).letters a
-    kmer-word =
-        ap (word_at k letters) kmer-position
+    kmer_word =
+        ap (word_at k letters) kmer_position
         ∙ (ap (λ (r : List ℕ). spell (take k r)) (sym (drop-drop a (start_of ends i) letters))
-        ∙ (ap spell (sym (cut_inside k a (get_or ends i 0 - start_of ends i) (drop (start_of ends i) letters) (omega (arith, string-long g i l))))
+        ∙ (ap spell (sym (cut_inside k a (get_or ends i 0 - start_of ends i) (drop (start_of ends i) letters) (omega (arith, string_long g i l))))
         ∙ ap (λ (s : Str). word_at k s.letters a) (sym (string_at (collection k letters ends weights) none g i l))))
 
-    kmer-weight : get_or weights (first_of k ends i + a) 0 ≡ get_or (get_or (strings (collection k letters ends weights)) i none).weights a 0
-    kmer-weight =
+    kmer_weight : get_or weights (first_of k ends i + a) 0 ≡ get_or (get_or (strings (collection k letters ends weights)) i none).weights a 0
+    kmer_weight =
         sym (get_or-drop (first_of k ends i) weights a 0)
         ∙ (sym (get_or-take (within k (start_of ends i) (get_or ends i 0)) (drop (first_of k ends i) weights) a 0 b)
         ∙ ap (λ (s : Str). get_or s.weights a 0) (sym (string_at (collection k letters ends weights) none g i l)))
@@ -122,11 +122,11 @@ module _ (c : Collection) (passes : Passes c) (word : List ℕ) (weight : ℕ) w
   weights-within i l =
       ap (λ (s : Str). length s.weights) (string_at c none long i l)
       ∙ length-take-le (within c.k (start_of c.ends i) (get_or c.ends i 0)) (drop (first_of c.k c.ends i) c.weights)
-      (rw length-drop (omega (arith, last-inside long i l, judged.counted, judged.shape.last)))
+      (rw length-drop (omega (arith, last_inside long i l, judged.counted, judged.shape.last)))
 
   -- from strings to handles
-  pub handle-weighs : Weighs c.k (strings c) word weight → WeighsAt c word weight
-  handle-weighs u =
+  pub handle_weighs : Weighs c.k (strings c) word weight → WeighsAt c word weight
+  handle_weighs u =
       let i : ℕ = u.0 in
       let l : i < length c.ends = omega (arith, u.1, number) in
       let a : ℕ = u.2.0 in
@@ -135,47 +135,47 @@ module _ (c : Collection) (passes : Passes c) (word : List ℕ) (weight : ℕ) w
       let q : t ≡ t + 1 - 1 = omega arith in (
         t + 1,
         omega arith,
-        omega (arith, kmer-inside long i a l b),
+        omega (arith, kmer_inside long i a l b),
         subst (λ (v : List ℕ). (v ≡ word) ⊎ (turn v ≡ word))
-            (sym (kmer-word long i a l b c.letters c.weights) ∙ ap (λ (n : ℕ). word_at c.k c.letters (get_or (kmers c.k c.ends) n 0)) q) u.2.2,
-        ap (λ (n : ℕ). get_or c.weights n 0) (sym q) ∙ (kmer-weight long i a l b c.letters c.weights ∙ u.2.3),
+            (sym (kmer_word long i a l b c.letters c.weights) ∙ ap (λ (n : ℕ). word_at c.k c.letters (get_or (kmers c.k c.ends) n 0)) q) u.2.2,
+        ap (λ (n : ℕ). get_or c.weights n 0) (sym q) ∙ (kmer_weight long i a l b c.letters c.weights ∙ u.2.3),
       )
 
   -- and back
-  pub weighs-handle : WeighsAt c word weight → Weighs c.k (strings c) word weight
-  weighs-handle u =
+  pub weighs_handle : WeighsAt c word weight → Weighs c.k (strings c) word weight
+  weighs_handle u =
       let f = located c.k 0 c.ends (u.0 - 1) (omega (arith, u.1, u.2)) in
       let i : ℕ = f.0 in
       let a : ℕ = f.1 in
       let l : i < length c.ends = f.2 in
       let b : a < within c.k (start_of c.ends i) (get_or c.ends i 0) = f.3 in
-      let q : u.0 - 1 ≡ first_of c.k c.ends i + a = omega (arith, f.4, before-is long i a l b) in (
+      let q : u.0 - 1 ≡ first_of c.k c.ends i + a = omega (arith, f.4, before_is long i a l b) in (
         i,
         omega (arith, number),
         (
           a,
           omega (arith, weights-within i l),
           subst (λ (v : List ℕ). (v ≡ word) ⊎ (turn v ≡ word))
-              (ap (λ (n : ℕ). word_at c.k c.letters (get_or (kmers c.k c.ends) n 0)) q ∙ kmer-word long i a l b c.letters c.weights) u.3,
-          sym (kmer-weight long i a l b c.letters c.weights) ∙ (ap (λ (n : ℕ). get_or c.weights n 0) (sym q) ∙ u.4),
+              (ap (λ (n : ℕ). word_at c.k c.letters (get_or (kmers c.k c.ends) n 0)) q ∙ kmer_word long i a l b c.letters c.weights) u.3,
+          sym (kmer_weight long i a l b c.letters c.weights) ∙ (ap (λ (n : ℕ). get_or c.weights n 0) (sym q) ∙ u.4),
         ),
       )
 
 -- ─── the weight of every word is the same before and after ───────────────────
 
 module _ (c : Collection) (places : List ℤ) (passes : Passes c) (permutation : SignedPermutation (length c.ends) places) (word : List ℕ) (weight : ℕ) where
-  pub weight-kept : WeighsAt c word weight
+  pub weight_kept : WeighsAt c word weight
       → WeighsAt (joined c.k (reordered c places)) word weight
-  weight-kept u =
-      handle-weighs _ (reordered-passes c places passes permutation) word weight
+  weight_kept u =
+      handle_weighs _ (reordered_passes c places passes permutation) word weight
       (subst (λ (ss : List Str). Weighs c.k ss word weight) (sym (reordered-strings c places passes permutation))
-      (weighs-after c places passes permutation word weight (weighs-handle c passes word weight u)))
+      (weighs_after c places passes permutation word weight (weighs_handle c passes word weight u)))
 
   -- and no word gains a weight
-  pub weight-from : WeighsAt (joined c.k (reordered c places)) word weight
+  pub weight_from : WeighsAt (joined c.k (reordered c places)) word weight
       → WeighsAt c word weight
-  weight-from u =
-      handle-weighs c passes word weight
+  weight_from u =
+      handle_weighs c passes word weight
       (weighs-before c places passes permutation word weight
       (subst (λ (ss : List Str). Weighs c.k ss word weight) (reordered-strings c places passes permutation)
-      (weighs-handle _ (reordered-passes c places passes permutation) word weight u)))
+      (weighs_handle _ (reordered_passes c places passes permutation) word weight u)))

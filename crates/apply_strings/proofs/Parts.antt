@@ -64,19 +64,19 @@ standing k n before (suc i) (e ∷ ends) h l =
     }
 
 module _ {k : ℕ} {ends : List ℕ} (g : Long k ends) (i : ℕ) (l : i < length ends) where
-  pub string-long : start_of ends i + k ≤ get_or ends i 0
-  string-long = (standing k 0 0 i ends g.long l).long
+  pub string_long : start_of ends i + k ≤ get_or ends i 0
+  string_long = (standing k 0 0 i ends g.long l).long
 
   pub weights-before : i * (k - 1) ≤ start_of ends i
   weights-before = omega (arith, (standing k 0 0 i ends g.long l).room)
 
   -- the string lies within the letters, its weights within the weights
-  pub end-inside : get_or ends i 0 ≤ last_end 0 ends
-  end-inside = (standing k 0 0 i ends g.long l).inside
+  pub end_inside : get_or ends i 0 ≤ last_end 0 ends
+  end_inside = (standing k 0 0 i ends g.long l).inside
 
   -- its weights lie within the weights
-  pub last-inside : first_of k ends i + within k (start_of ends i) (get_or ends i 0) ≤ last_end 0 ends - length ends * (k - 1)
-  last-inside = omega (arith, (standing k 0 0 i ends g.long l).after, string-long, weights-before, suc-mul i (k - 1), g.k_low)
+  pub last_inside : first_of k ends i + within k (start_of ends i) (get_or ends i 0) ≤ last_end 0 ends - length ends * (k - 1)
+  last_inside = omega (arith, (standing k 0 0 i ends g.long l).after, string_long, weights-before, suc-mul i (k - 1), g.k_low)
 
 -- ─── what a string is cut from ───────────────────────────────────────────────
 

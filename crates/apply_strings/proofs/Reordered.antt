@@ -8,7 +8,7 @@ use native.Mathlib.Omega.{arith}
 use lib.IntN.{ℤ, pos, negsuc, nat_abs}
 use lib.ListN.{length, get_or, length-map, length-append, length-reverse}
 use Rattle.lists.specs.Every.{All}
-use Rattle.lists.proofs.Every.{all-at}
+use Rattle.lists.proofs.Every.{all_at}
 use Rattle.lists.proofs.Mapped.{map_at}
 use Rattle.alphabet.specs.Letter.{is_letter}
 use Rattle.collection.specs.Collection.{Collection, spelling_of}
@@ -16,16 +16,16 @@ use Rattle.collection.specs.Judge.{Passes, collection_verdict, shape_verdict, k_
 use Rattle.collection_faults.specs.Faults.{is_weight}
 use Rattle.collection.specs.Strings.{Str, strings, letters_in, ends_in, weights_in, joined}
 use Rattle.collection.proofs.Judged.{Judged, collection_good}
-use Rattle.collection.proofs.Strings.{strings_count, Whole, strings-joined, strings-whole, strings-back, each_letters, each_weights, ends-length, tables_pass}
+use Rattle.collection.proofs.Strings.{strings_count, Whole, strings-joined, strings_whole, strings-back, each_letters, each_weights, ends-length, tables_pass}
 use Rattle.collection.proofs.Verdicts.{both_good}
 use Rattle.cover_trails.specs.Places.{SignedPermutation, turned_by}
-use Rattle.cover_trails.proofs.Arranged.{arranged-at, length-arranged}
+use Rattle.cover_trails.proofs.Arranged.{arranged_at, length-arranged}
 use Rattle.cover_trails.proofs.Counting.{occurs_where}
-use Rattle.cover_trails.proofs.Kept.{all-arranged, total-arranged}
+use Rattle.cover_trails.proofs.Kept.{all-arranged, total_arranged}
 use Rattle.apply_strings.specs.Reordered.{reordered}
 use Rattle.apply_strings.specs.Turned.{turn_str}
 use Rattle.apply_strings.specs.Weighs.{Has, none, Weighs}
-use Rattle.apply_strings.proofs.TurnedStrings.{turned-letters, turned_whole, turned-weights, turn-turn-str, has-turned}
+use Rattle.apply_strings.proofs.TurnedStrings.{turned-letters, turned_whole, turned-weights, turn-turn_str, has_turned}
 use Rattle.apply_strings.proofs.Turning.{length-turned}
 
 -- strings that fill tables of these sizes
@@ -45,46 +45,46 @@ module _ (c : Collection) (places : List ℤ) (passes : Passes c) (permutation :
   many = strings_count c
 
   -- as many letters, ends and weights as before
-  pub reordered-sizes : Sizes c.letters c.ends c.weights (reordered c places)
+  pub reordered_sizes : Sizes c.letters c.ends c.weights (reordered c places)
   unfolding letters_in weights_in
-  reordered-sizes =
+  reordered_sizes =
       let ss = strings c in
       let n = length-arranged turn_str none (length c.ends) places ss permutation many in
       record {
         number = n;
         ends_number = ends-length 0 (reordered c places) ∙ n;
         letters_number =
-            total-arranged turn_str (λ s. length s.letters) (λ ss. length (letters_in ss)) refl (λ s ss. length-append s.letters (letters_in ss))
+            total_arranged turn_str (λ s. length s.letters) (λ ss. length (letters_in ss)) refl (λ s ss. length-append s.letters (letters_in ss))
             (λ s. length-turned s.letters) (length c.ends) places ss permutation many
             ∙ ap (λ (x : Collection). length x.letters) (strings-joined c judged.shape judged.counted);
         weights_number =
-            total-arranged turn_str (λ s. length s.weights) (λ ss. length (weights_in ss)) refl (λ s ss. length-append s.weights (weights_in ss))
+            total_arranged turn_str (λ s. length s.weights) (λ ss. length (weights_in ss)) refl (λ s ss. length-append s.weights (weights_in ss))
             (λ s. length-reverse s.weights) (length c.ends) places ss permutation many
             ∙ ap (λ (x : Collection). length x.weights) (strings-joined c judged.shape judged.counted);
       }
 
   -- ─── they pass ─────────────────────────────────────────────────────────────
 
-  old-whole : All (Whole c.k) (strings c)
-  old-whole = strings-whole c judged.shape judged.counted
+  old_whole : All (Whole c.k) (strings c)
+  old_whole = strings_whole c judged.shape judged.counted
 
-  old-letters : All (λ s. All (λ b. is_letter b ≡ true) s.letters) (strings c)
-  old-letters = each_letters (λ b. is_letter b ≡ true) c.k 0 c.letters c.ends c.weights judged.all_letters
+  old_letters : All (λ s. All (λ b. is_letter b ≡ true) s.letters) (strings c)
+  old_letters = each_letters (λ b. is_letter b ≡ true) c.k 0 c.letters c.ends c.weights judged.all_letters
 
   -- each string has its letters and its weights
-  pub reordered-whole : All (Whole c.k) (reordered c places)
-  reordered-whole = all-arranged turn_str (Whole c.k) (turned_whole c.k) places (strings c) old-whole
+  pub reordered_whole : All (Whole c.k) (reordered c places)
+  reordered_whole = all-arranged turn_str (Whole c.k) (turned_whole c.k) places (strings c) old_whole
 
   -- the new tables pass 2 to 6
-  pub reordered-passes : Passes (joined c.k (reordered c places))
+  pub reordered_passes : Passes (joined c.k (reordered c places))
   unfolding collection_verdict shape_verdict
-  reordered-passes =
-      let n = reordered-sizes in
+  reordered_passes =
+      let n = reordered_sizes in
       let shape = both_good (shape_verdict (spelling_of c)) _ passes in
       let good-k = both_good (k_verdict c.k) _ shape.0 in
       let good_size = both_good (size_verdict (length c.letters) (length c.ends)) _ good-k.1 in
-      tables_pass c.k (reordered c places) good-k.0 (ap₂ size_verdict n.letters_number n.number ∙ good_size.0) reordered-whole
-      (all-arranged turn_str (λ s. All (λ b. is_letter b ≡ true) s.letters) (λ s h. turned-letters s.letters h) places (strings c) old-letters)
+      tables_pass c.k (reordered c places) good-k.0 (ap₂ size_verdict n.letters_number n.number ∙ good_size.0) reordered_whole
+      (all-arranged turn_str (λ s. All (λ b. is_letter b ≡ true) s.letters) (λ s h. turned-letters s.letters h) places (strings c) old_letters)
       (all-arranged turn_str (λ s. All (λ w. is_weight w ≡ true) s.weights) (λ s h. turned-weights (λ w. is_weight w ≡ true) s h) places (strings c)
       (each_weights (λ w. is_weight w ≡ true) c.k 0 c.letters c.ends c.weights judged.all_weights))
 
@@ -93,12 +93,12 @@ module _ (c : Collection) (places : List ℤ) (passes : Passes c) (permutation :
   -- the strings of the new tables
   pub reordered-strings : strings (joined c.k (reordered c places))
       ≡ reordered c places
-  reordered-strings = strings-back c.k (reordered c places) reordered-whole
+  reordered-strings = strings-back c.k (reordered c places) reordered_whole
 
   -- each old string stands at its place, turned where the place says so
-  pub string-stands : (i : ℕ) → i < length c.ends
+  pub string_stands : (i : ℕ) → i < length c.ends
       → get_or (reordered c places) (nat_abs (get_or places i (pos 0)) - 1) none ≡ turned_by turn_str (get_or places i (pos 0)) (get_or (strings c) i none)
-  string-stands i l = arranged-at turn_str none (length c.ends) places (strings c) permutation many i l
+  string_stands i l = arranged_at turn_str none (length c.ends) places (strings c) permutation many i l
 
   -- each new string is one of the old, and of one only, as no two have one place (`one_string`)
   pub string_from : (j : ℕ) → j < length c.ends → (i : ℕ) × (i < length c.ends) × (nat_abs (get_or places i (pos 0)) ≡ suc j)
@@ -110,42 +110,42 @@ module _ (c : Collection) (places : List ℤ) (passes : Passes c) (permutation :
 
   module _ (word : List ℕ) (weight : ℕ) where
     module _ (i : ℕ) (l : i < length c.ends) where
-      whole-at : Whole c.k (get_or (strings c) i none)
-      whole-at = all-at (Whole c.k) (strings c) old-whole i none (omega (arith, many))
+      whole_at : Whole c.k (get_or (strings c) i none)
+      whole_at = all_at (Whole c.k) (strings c) old_whole i none (omega (arith, many))
 
-      letters-at : All (λ b. is_letter b ≡ true) (get_or (strings c) i none).letters
-      letters-at = all-at (λ s. All (λ b. is_letter b ≡ true) s.letters) (strings c) old-letters i none (omega (arith, many))
+      letters_at : All (λ b. is_letter b ≡ true) (get_or (strings c) i none).letters
+      letters_at = all_at (λ s. All (λ b. is_letter b ≡ true) s.letters) (strings c) old_letters i none (omega (arith, many))
 
       has_there : (p : ℤ) → Has c.k word weight (get_or (strings c) i none) → Has c.k word weight (turned_by turn_str p (get_or (strings c) i none))
       has_there (pos n) h = h
-      has_there (negsuc n) h = has-turned c.k (get_or (strings c) i none) letters-at whole-at (omega (arith, judged.shape.k_low)) word weight h
+      has_there (negsuc n) h = has_turned c.k (get_or (strings c) i none) letters_at whole_at (omega (arith, judged.shape.k_low)) word weight h
 
       has_here : (p : ℤ) → Has c.k word weight (turned_by turn_str p (get_or (strings c) i none)) → Has c.k word weight (get_or (strings c) i none)
       has_here (pos n) h = h
       has_here (negsuc n) h =
           let s = get_or (strings c) i none in
-          subst (Has c.k word weight) (turn-turn-str c.k s letters-at)
-          (has-turned c.k (turn_str s) (turned-letters s.letters letters-at) (turned_whole c.k s whole-at)
+          subst (Has c.k word weight) (turn-turn_str c.k s letters_at)
+          (has_turned c.k (turn_str s) (turned-letters s.letters letters_at) (turned_whole c.k s whole_at)
           (omega (arith, judged.shape.k_low)) word weight h)
 
     -- a word keeps its weight
-    pub weighs-after : Weighs c.k (strings c) word weight → Weighs c.k (reordered c places) word weight
-    weighs-after u =
+    pub weighs_after : Weighs c.k (strings c) word weight → Weighs c.k (reordered c places) word weight
+    weighs_after u =
         let i : ℕ = u.0 in
         let l : i < length c.ends = omega (arith, u.1, many) in
-        let r = all-at (λ p. (1 ≤ nat_abs p) × (nat_abs p ≤ length c.ends)) places permutation.range i (pos 0) (omega (arith, permutation.number)) in (
+        let r = all_at (λ p. (1 ≤ nat_abs p) × (nat_abs p ≤ length c.ends)) places permutation.range i (pos 0) (omega (arith, permutation.number)) in (
           nat_abs (get_or places i (pos 0)) - 1,
-          omega (arith, r, reordered-sizes.number),
-          subst (Has c.k word weight) (sym (string-stands i l)) (has_there i l (get_or places i (pos 0)) u.2),
+          omega (arith, r, reordered_sizes.number),
+          subst (Has c.k word weight) (sym (string_stands i l)) (has_there i l (get_or places i (pos 0)) u.2),
         )
 
     -- and gains none
     pub weighs-before : Weighs c.k (reordered c places) word weight → Weighs c.k (strings c) word weight
     weighs-before u =
         let j : ℕ = u.0 in
-        let f = string_from j (omega (arith, u.1, reordered-sizes.number)) in
+        let f = string_from j (omega (arith, u.1, reordered_sizes.number)) in
         let i : ℕ = f.0 in
         let l : i < length c.ends = f.1 in
         let q : j ≡ nat_abs (get_or places i (pos 0)) - 1 = omega (arith, f.2) in
-        let e = ap (λ (n : ℕ). get_or (reordered c places) n none) q ∙ string-stands i l in
+        let e = ap (λ (n : ℕ). get_or (reordered c places) n none) q ∙ string_stands i l in
         (i, omega (arith, many), has_here i l (get_or places i (pos 0)) (subst (Has c.k word weight) e u.2))

@@ -26,12 +26,12 @@ use Rattle.collection.proofs.Judged.{collection_good, long_cons, ends_room}
 use Rattle.collection.proofs.Strings.{strings_count, each_letters}
 use Rattle.cover_trails.specs.Places.{SignedPermutation, arranged}
 use Rattle.cover_trails.proofs.Arranged.{map-arranged}
-use Rattle.cover_trails.proofs.Kept.{total-arranged}
+use Rattle.cover_trails.proofs.Kept.{total_arranged}
 use Rattle.apply_strings.specs.Reordered.{reordered}
 use Rattle.apply_strings.specs.Stands.{once, times_at}
 use Rattle.apply_strings.specs.Turned.{turn_letters, turn_str}
-use Rattle.apply_strings.proofs.Reordered.{reordered-passes, reordered-strings}
-use Rattle.apply_strings.proofs.TurnedStrings.{turned-letters, turned-word}
+use Rattle.apply_strings.proofs.Reordered.{reordered_passes, reordered-strings}
+use Rattle.apply_strings.proofs.TurnedStrings.{turned-letters, turned_word}
 use Rattle.apply_strings.proofs.Turning.{length-turned}
 
 -- ─── sums over numbers in a row ──────────────────────────────────────────────
@@ -87,15 +87,15 @@ module _ (word : List ℕ) where
   times_in : ℕ → List ℕ → ℕ
   times_in k letters = sum (map (λ a. once word (word_at k letters a)) (count_from 0 (length letters + 1 - k)))
 
-  times-turned : (k : ℕ) (letters : List ℕ) → All (λ b. is_letter b ≡ true) letters → times_in k (turn_letters letters) ≡ times_in k letters
+  times_turned : (k : ℕ) (letters : List ℕ) → All (λ b. is_letter b ≡ true) letters → times_in k (turn_letters letters) ≡ times_in k letters
   unfolding times_in
-  times-turned k letters h =
+  times_turned k letters h =
       ap (λ (n : ℕ). sum (map (λ a. once word (word_at k (turn_letters letters) a)) (count_from 0 (n + 1 - k)))) (length-turned letters)
       ∙ sum_back (λ a. once word (word_at k (turn_letters letters) a)) (λ a. once word (word_at k letters a)) 0 0 (length letters + 1 - k) each
     where
       each : (a b : ℕ) → a + b + 1 ≡ length letters + 1 - k → once word (word_at k (turn_letters letters) (0 + b)) ≡ once word (word_at k letters (0 + a))
       each a b e =
-          ap (once word) (ap (word_at k (turn_letters letters)) (sym (behind b)) ∙ turned-word letters h a k b (omega arith))
+          ap (once word) (ap (word_at k (turn_letters letters)) (sym (behind b)) ∙ turned_word letters h a k b (omega arith))
           ∙ (once-turned (word_at k letters a) codes ∙ ap (λ (c : ℕ). once word (word_at k letters c)) (behind a))
         where
           codes : Letters (word_at k letters a)
@@ -107,11 +107,11 @@ module _ (word : List ℕ) where
   times_all k (s ∷ ss) = times_in k s.letters + times_all k ss
 
   -- k-mers by handle and k-mers by string are the same
-  times-strings : (k i before : ℕ) (letters ends weights : List ℕ) → first_short k i before ends ≡ 0 → last_end before ends ≤ length letters
+  times_strings : (k i before : ℕ) (letters ends weights : List ℕ) → first_short k i before ends ≡ 0 → last_end before ends ≤ length letters
       → sum (map (λ a. once word (word_at k letters a)) (kmers_from k before ends)) ≡ times_all k (strings_from k before (drop before letters) ends weights)
   unfolding kmers_from strings_from sum times_all times_in last_end
-  times-strings k i before letters [] weights h l = refl
-  times-strings k i before letters (e ∷ ends) weights h l =
+  times_strings k i before letters [] weights h l = refl
+  times_strings k i before letters (e ∷ ends) weights h l =
       let c = long_cons k i before e ends h in
       let long : before + k ≤ e = c.0 in
       let fits : e ≤ length letters = omega (arith, ends_room k (suc i) e ends c.1, l) in
@@ -126,7 +126,7 @@ module _ (word : List ℕ) where
       in
       let end : before + (e - before) ≡ e = omega arith in
       let later : drop (e - before) (drop before letters) ≡ drop e letters = drop-drop (e - before) before letters ∙ ap (λ (n : ℕ). drop n letters) end in
-      let rest = times-strings k (suc i) e letters ends (drop (within k before e) weights) c.1 l in
+      let rest = times_strings k (suc i) e letters ends (drop (within k before e) weights) c.1 l in
       ap sum (map-append f (count_from before (within k before e)) (kmers_from k e ends))
       ∙ (sum-append (map f (count_from before (within k before e))) (map f (kmers_from k e ends))
       ∙ ap₂ (λ (x y : ℕ). x + y) here (rest ∙ ap (λ (r : List ℕ). times_all k (strings_from k e r ends (drop (within k before e) weights))) (sym later)))
@@ -151,43 +151,43 @@ module _ (word : List ℕ) where
   spelled [] h = []
   spelled (s ∷ ss) h = (s, h.0) ∷ spelled ss h.1
 
-  bare-spelled : (ss : List Str) (h : All (λ s. All (λ b. is_letter b ≡ true) s.letters) ss) → map bare (spelled ss h) ≡ ss
+  bare_spelled : (ss : List Str) (h : All (λ s. All (λ b. is_letter b ≡ true) s.letters) ss) → map bare (spelled ss h) ≡ ss
   unfolding spelled
-  bare-spelled [] h = refl
-  bare-spelled (s ∷ ss) h = ap (λ (r : List Str). s ∷ r) (bare-spelled ss h.1)
+  bare_spelled [] h = refl
+  bare_spelled (s ∷ ss) h = ap (λ (r : List Str). s ∷ r) (bare_spelled ss h.1)
 
   length-spelled : (ss : List Str) (h : All (λ s. All (λ b. is_letter b ≡ true) s.letters) ss) → length (spelled ss h) ≡ length ss
   unfolding spelled
   length-spelled [] h = refl
   length-spelled (s ∷ ss) h = ap suc (length-spelled ss h.1)
 
-  times-arranged : (k m : ℕ) (places : List ℤ) (ss : List Str) → All (λ s. All (λ b. is_letter b ≡ true) s.letters) ss → SignedPermutation m places
+  times_arranged : (k m : ℕ) (places : List ℤ) (ss : List Str) → All (λ s. All (λ b. is_letter b ≡ true) s.letters) ss → SignedPermutation m places
       → length ss ≡ m
       → times_all k (arranged turn_str places ss) ≡ times_all k ss
   unfolding times_all
-  times-arranged k m places ss h perm n =
+  times_arranged k m places ss h perm n =
       let zs : List Spelled = spelled ss h in
       let bared : map bare (arranged turn_spelled places zs) ≡ arranged turn_str places ss =
-      map-arranged turn_spelled turn_str bare (λ z. refl) places zs ∙ ap (arranged turn_str places) (bare-spelled ss h)
+      map-arranged turn_spelled turn_str bare (λ z. refl) places zs ∙ ap (arranged turn_str places) (bare_spelled ss h)
       in
       ap (times_all k) (sym bared)
-      ∙ (total-arranged turn_spelled (λ z. times_in k z.0.letters) (λ qs. times_all k (map bare qs)) refl (λ z qs. refl)
-      (λ z. times-turned k z.0.letters z.1) m places zs perm (length-spelled ss h ∙ n)
-      ∙ ap (times_all k) (bare-spelled ss h))
+      ∙ (total_arranged turn_spelled (λ z. times_in k z.0.letters) (λ qs. times_all k (map bare qs)) refl (λ z qs. refl)
+      (λ z. times_turned k z.0.letters z.1) m places zs perm (length-spelled ss h ∙ n)
+      ∙ ap (times_all k) (bare_spelled ss h))
 
-  by-strings : (c : Collection) → Passes c → times_at (spelling_of c) word ≡ times_all c.k (strings c)
+  by_strings : (c : Collection) → Passes c → times_at (spelling_of c) word ≡ times_all c.k (strings c)
   unfolding times_at
-  by-strings c passes =
+  by_strings c passes =
       let j = collection_good c passes in
-      times-strings c.k 0 0 c.letters c.ends c.weights j.shape.long (omega (arith, j.shape.last))
+      times_strings c.k 0 0 c.letters c.ends c.weights j.shape.long (omega (arith, j.shape.last))
 
   -- every word stands in the reordered collection as often as before
-  pub times-kept : (c : Collection) (places : List ℤ) → Passes c → SignedPermutation (length c.ends) places
+  pub times_kept : (c : Collection) (places : List ℤ) → Passes c → SignedPermutation (length c.ends) places
       → times_at (spelling_of (joined c.k (reordered c places))) word ≡ times_at (spelling_of c) word
-  times-kept c places passes perm =
-      let new = reordered-passes c places passes perm in
-      by-strings _ new
+  times_kept c places passes perm =
+      let new = reordered_passes c places passes perm in
+      by_strings _ new
       ∙ (ap (times_all c.k) (reordered-strings c places passes perm)
-      ∙ (times-arranged c.k (length c.ends) places (strings c)
+      ∙ (times_arranged c.k (length c.ends) places (strings c)
       (each_letters (λ b. is_letter b ≡ true) c.k 0 c.letters c.ends c.weights (collection_good c passes).all_letters) perm (strings_count c)
-      ∙ sym (by-strings c passes)))
+      ∙ sym (by_strings c passes)))

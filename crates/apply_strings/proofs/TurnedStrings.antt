@@ -53,35 +53,35 @@ capital-spell [] h = refl
 capital-spell (b ∷ letters) h = ap₂ (λ (y : ℕ) (v : List ℕ). y ∷ v) (capital-letter b h.0) (capital-spell letters h.1)
 
 module _ (letters : List ℕ) (h : All (λ b. is_letter b ≡ true) letters) where
-  turned-codes : Letters (turn (spell letters))
-  turned-codes = letters-turn (spell letters) (spell-letters letters h)
+  turned_codes : Letters (turn (spell letters))
+  turned_codes = letters-turn (spell letters) (spell-letters letters h)
 
   -- turned letters are letters
   pub turned-letters : All (λ b. is_letter b ≡ true) (turn_letters letters)
   unfolding turn_letters
-  turned-letters = map-all (λ b. is_letter b ≡ true) capital (turn (spell letters)) (capitals (turn (spell letters)) turned-codes)
+  turned-letters = map-all (λ b. is_letter b ≡ true) capital (turn (spell letters)) (capitals (turn (spell letters)) turned_codes)
     where
       capitals : (w : List ℕ) → Letters w → All (λ x. is_letter (capital x) ≡ true) w
       capitals [] g = tt
       capitals (x ∷ w) g = (capital_is_letter x g.0, capitals w g.1)
 
   -- they spell the reverse complement
-  pub turned-spells : spell (turn_letters letters) ≡ turn (spell letters)
+  pub turned_spells : spell (turn_letters letters) ≡ turn (spell letters)
   unfolding turn_letters
-  turned-spells = spell-capital (turn (spell letters)) turned-codes
+  turned_spells = spell-capital (turn (spell letters)) turned_codes
 
   -- the word behind the first a letters, turned, is the word before the last a
-  pub turned-word : (a k b : ℕ) → a + k + b ≡ length letters → word_at k (turn_letters letters) b ≡ turn (word_at k letters a)
-  turned-word a k b e =
+  pub turned_word : (a k b : ℕ) → a + k + b ≡ length letters → word_at k (turn_letters letters) b ≡ turn (word_at k letters a)
+  turned_word a k b e =
       map_cut letter k b (turn_letters letters)
-      ∙ (ap (λ (w : List ℕ). take k (drop b w)) turned-spells
+      ∙ (ap (λ (w : List ℕ). take k (drop b w)) turned_spells
       ∙ (turn_cut (spell letters) a k b (e ∙ sym (length-map letters letter)) ∙ ap turn (sym (map_cut letter k a letters))))
 
   -- turned twice they are the letters again
   pub turned-back : turn_letters (turn_letters letters) ≡ letters
   unfolding turn_letters
   turned-back =
-      ap (λ (w : List ℕ). map capital (turn w)) turned-spells
+      ap (λ (w : List ℕ). map capital (turn w)) turned_spells
       ∙ (ap (map capital) (turn-turn (spell letters) (spell-letters letters h)) ∙ capital-spell letters h)
 
 -- ─── strings ─────────────────────────────────────────────────────────────────
@@ -100,18 +100,18 @@ pub turned-weights : (P : ℕ → Type 0) (s : Str) → All P s.weights → All 
 turned-weights P s h = all-reverse P s.weights h
 
 module _ (k : ℕ) (s : Str) (h : All (λ b. is_letter b ≡ true) s.letters) where
-  pub turn-turn-str : turn_str (turn_str s) ≡ s
-  turn-turn-str = let a = turned-back s.letters h in let b = reverse-reverse s.weights in λ i. record { letters = a i; weights = b i }
+  pub turn-turn_str : turn_str (turn_str s) ≡ s
+  turn-turn_str = let a = turned-back s.letters h in let b = reverse-reverse s.weights in λ i. record { letters = a i; weights = b i }
 
   module _ (whole : Whole k s) (low : 1 ≤ k) (word : List ℕ) (weight : ℕ) where
     -- each word keeps its weight
-    pub has-turned : Has k word weight s → Has k word weight (turn_str s)
-    has-turned u =
+    pub has_turned : Has k word weight s → Has k word weight (turn_str s)
+    has_turned u =
         let a : ℕ = u.0 in
         let n : ℕ = length s.weights in
         let b : ℕ = n - 1 - a in
         let l : a < n = u.1 in
-        let t = turned-word s.letters h a k b (omega (arith, whole.long, whole.counted)) in
+        let t = turned_word s.letters h a k b (omega (arith, whole.long, whole.counted)) in
         (b, omega (arith, length-reverse s.weights), way t u.2, reverse_at s.weights a b (omega arith) ∙ u.3)
       where
         codes : Letters (word_at k s.letters u.0)

@@ -8,8 +8,8 @@ use lib.ListN.{length, take, get_or, length-map, drop}
 use lib.Seq.{take-suc}
 use Rattle.lists.specs.Every.{All}
 use Rattle.lists.specs.Fill.{fill, put}
-use Rattle.lists.proofs.Every.{all-at}
-use Rattle.lists.proofs.Storing.{put-lent}
+use Rattle.lists.proofs.Every.{all_at}
+use Rattle.lists.proofs.Storing.{put_lent}
 use Rattle.alphabet.specs.Letter.{letter, is_letter, capital, two_bits, paired}
 use Rattle.words.specs.Word.{spell, turn}
 use Rattle.alphabet.proofs.Letters.{letter_bits}
@@ -27,7 +27,7 @@ unfolding turn_letters
 turned_last letters good left x h l e =
     let q : left ≡ suc (left - 1) = omega arith in
     let b : ℕ = get_or letters (left - 1) 0 in
-    let g : is_letter b ≡ true = all-at (λ b. is_letter b ≡ true) letters good (left - 1) 0 (omega arith) in
+    let g : is_letter b ≡ true = all_at (λ b. is_letter b ≡ true) letters good (left - 1) 0 (omega arith) in
     ap (λ (n : ℕ). map capital (turn (spell (take n letters)))) q
     ∙ (ap (λ (w : List ℕ). map capital (turn (spell w))) (take-suc letters (left - 1) 0 (omega arith))
     ∙ (ap (λ (w : List ℕ). map capital (turn w)) (map-append letter (take (left - 1) letters) (b ∷ []))
@@ -57,4 +57,4 @@ reversed_none column left h = let q : left ≡ 0 = omega arith in ap (λ (n : �
 pub written_by : (by : Bool → List ℕ → List ℕ) (n : ℕ) (xs old : List ℕ) (way : Bool) {turned : Bool} {lent : List ℕ} → turned ≡ way
     → lent ≡ fill (by way xs) (take (length old - n) (drop n old))
     → take n old ++ (lent ++ drop (length old - n) (drop n old)) ≡ put n (by turned xs) old
-written_by by n xs old way e q = put-lent n (by way xs) old q ∙ ap (λ (t : Bool). put n (by t xs) old) (sym e)
+written_by by n xs old way e q = put_lent n (by way xs) old q ∙ ap (λ (t : Bool). put n (by t xs) old) (sym e)

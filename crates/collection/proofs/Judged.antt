@@ -12,7 +12,7 @@ use Rattle.lists.specs.Choose.{choose}
 use Rattle.lists.specs.Every.{All, every}
 use Rattle.lists.specs.Limits.{most_letters, most_strings, least_k, most_k}
 use Rattle.lists.proofs.Every.{and_left, and_right, and_both, all_map}
-use Rattle.lists.proofs.First.{first-none}
+use Rattle.lists.proofs.First.{first_none}
 use Rattle.alphabet.specs.Letter.{is_letter}
 use Rattle.collection.specs.Collection.{Spelling, Collection, spelling_of}
 use Rattle.collection.specs.declared.Verdict.TheVariants.{Good, Bad}
@@ -122,14 +122,14 @@ shape_long s = record { k_low = omega (arith, s.k_low); k_high = s.k_high; few =
 pub letters_good : (letters : List ℕ) → letters_verdict letters ≡ Good → All (λ b. is_letter b ≡ true) letters
 unfolding letters_verdict
 letters_good letters h =
-    all_map (λ b e. not-false (is_letter b) e) letters (first-none (λ b. not (is_letter b)) letters (place_good 5 _ h))
+    all_map (λ b e. not-false (is_letter b) e) letters (first_none (λ b. not (is_letter b)) letters (place_good 5 _ h))
 
 -- what passes 6
 pub weights_good : (n : ℕ) (weights : List ℕ) → weights_verdict n weights ≡ Good → (length weights ≡ n) × All (λ w. is_weight w ≡ true) weights
 unfolding weights_verdict
 weights_good n weights h =
     let a = test_good (eqb (length weights) n) 6 0 _ h in
-    (eqb-true _ _ a.0, all_map (λ w e. not-false (is_weight w) e) weights (first-none (λ w. not (is_weight w)) weights (place_good 6 _ a.1)))
+    (eqb-true _ _ a.0, all_map (λ w e. not-false (is_weight w) e) weights (first_none (λ w. not (is_weight w)) weights (place_good 6 _ a.1)))
 
 -- what a collection that passes 2 to 6 keeps to
 pub record Judged (c : Collection) : Type 0 where

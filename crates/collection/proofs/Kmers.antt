@@ -11,7 +11,7 @@ use lib.Seq.{length-take-le}
 use Rattle.lists.specs.Count.{count_from}
 use Rattle.lists.specs.Every.{All}
 use Rattle.lists.proofs.Count.{length_count, all_count}
-use Rattle.lists.proofs.Every.{all_append, all-at}
+use Rattle.lists.proofs.Every.{all_append, all_at}
 use Rattle.lists.proofs.Storing.{drop_next}
 use Rattle.collection_faults.specs.Faults.{first_short, last_end}
 use Rattle.collection.specs.Collection.{Spelling}
@@ -65,8 +65,8 @@ last_take before (suc j) (e ∷ ends) h = last_take e j ends (omega arith)
 
 module _ {k : ℕ} {ends : List ℕ} (g : Long k ends) where
   -- the k-mers of the strings up to string i: its end less k - 1 for each string
-  pub up-to-count : (i : ℕ) → i < length ends → length (kmers k (take (i + 1) ends)) + (i + 1) * (k - 1) ≡ get_or ends i 0
-  up-to-count i h =
+  pub up_to_count : (i : ℕ) → i < length ends → length (kmers k (take (i + 1) ends)) + (i + 1) * (k - 1) ≡ get_or ends i 0
+  up_to_count i h =
       let a = kmers-length k 0 0 (take (suc i) ends) g.k_low (long_take k 0 0 (suc i) ends g.long) in
       let b = length-take-le (suc i) ends h in
       let c = last_take 0 i ends h in
@@ -74,8 +74,8 @@ module _ {k : ℕ} {ends : List ℕ} (g : Long k ends) where
       rw add-one d
 
   -- the k-mers before string i
-  pub start-count : (i : ℕ) → i ≤ length ends → length (kmers k (take i ends)) + i * (k - 1) ≡ last_end 0 (take i ends)
-  start-count i h =
+  pub start_count : (i : ℕ) → i ≤ length ends → length (kmers k (take i ends)) + i * (k - 1) ≡ last_end 0 (take i ends)
+  start_count i h =
       let a = kmers-length k 0 0 (take i ends) g.k_low (long_take k 0 0 i ends g.long) in
       omega (arith, ap (λ (n : ℕ). n * (k - 1)) (length-take-le i ends h))
 
@@ -94,7 +94,7 @@ kmers_fit k i before (e ∷ ends) h =
 pub position_fits : {t : Spelling} → Shape t → (handle : ℕ) → 1 ≤ handle → handle ≤ length (kmers t.k t.ends)
     → position_of t.k t.ends handle + t.k ≤ length t.letters
 position_fits {t} s handle h l =
-    omega (arith, all-at (λ a. a + t.k ≤ last_end 0 t.ends) (kmers t.k t.ends) (kmers_fit t.k 0 0 t.ends s.long) (handle - 1) 0 (omega arith), s.last)
+    omega (arith, all_at (λ a. a + t.k ≤ last_end 0 t.ends) (kmers t.k t.ends) (kmers_fit t.k 0 0 t.ends s.long) (handle - 1) 0 (omega arith), s.last)
 
 -- ─── one string after the other ──────────────────────────────────────────────
 
@@ -126,21 +126,21 @@ pub record Next (k N before e : ℕ) : Type 0 where
   pub inside : e ≤ N
 
 module _ {k N : ℕ} {ends : List ℕ} {i before passed : ℕ} (s : StringsLeft k N ends i before passed) (l : i < length ends) where
-  split-long : (before + k ≤ get_or ends i 0) × (first_short k (suc i) (get_or ends i 0) (drop (i + 1) ends) ≡ 0)
-  split-long = long_cons k i before (get_or ends i 0) (drop (i + 1) ends) (sym (ap (first_short k i before) (drop_next ends i 0 l)) ∙ s.long)
+  split_long : (before + k ≤ get_or ends i 0) × (first_short k (suc i) (get_or ends i 0) (drop (i + 1) ends) ≡ 0)
+  split_long = long_cons k i before (get_or ends i 0) (drop (i + 1) ends) (sym (ap (first_short k i before) (drop_next ends i 0 l)) ∙ s.long)
 
-  split-last : last_end (get_or ends i 0) (drop (i + 1) ends) ≡ N
+  split_last : last_end (get_or ends i 0) (drop (i + 1) ends) ≡ N
   unfolding last_end
-  split-last = sym (ap (last_end before) (drop_next ends i 0 l)) ∙ s.last
+  split_last = sym (ap (last_end before) (drop_next ends i 0 l)) ∙ s.last
 
-  pub next-string : Next k N before (get_or ends i 0)
-  next-string = record { long = split-long.0; inside = omega (arith, ends_room k (suc i) (get_or ends i 0) (drop (i + 1) ends) split-long.1, split-last) }
+  pub next_string : Next k N before (get_or ends i 0)
+  next_string = record { long = split_long.0; inside = omega (arith, ends_room k (suc i) (get_or ends i 0) (drop (i + 1) ends) split_long.1, split_last) }
 
-  pub strings-on : 1 ≤ k → (passed' : ℕ) → passed' ≡ passed + within k before (get_or ends i 0) → StringsLeft k N ends (i + 1) (get_or ends i 0) passed'
-  strings-on k1 passed' e =
+  pub strings_on : 1 ≤ k → (passed' : ℕ) → passed' ≡ passed + within k before (get_or ends i 0) → StringsLeft k N ends (i + 1) (get_or ends i 0) passed'
+  strings_on k1 passed' e =
       record {
         inside = omega arith;
-        long = ap (λ (n : ℕ). first_short k n (get_or ends i 0) (drop (i + 1) ends)) (add-one i) ∙ split-long.1;
-        last = split-last;
-        few = omega (arith, s.few, split-long.0);
+        long = ap (λ (n : ℕ). first_short k n (get_or ends i 0) (drop (i + 1) ends)) (add-one i) ∙ split_long.1;
+        last = split_last;
+        few = omega (arith, s.few, split_long.0);
       }

@@ -22,9 +22,9 @@ judged_ready {c} j =
 
 module _ {t : Spelling} (r : Ready t) where
   -- the word of a k-mer has k letters
-  pub word-length : (a : ℕ) → a + t.k ≤ length t.letters → length (word_at t.k t.letters a) ≡ t.k
-  word-length a l = length_word t.k t.letters a l
+  pub word_length : (a : ℕ) → a + t.k ≤ length t.letters → length (word_at t.k t.letters a) ≡ t.k
+  word_length a l = length_word t.k t.letters a l
 
   -- and each is the code of a letter
-  pub word-letters : (a : ℕ) → Letters (word_at t.k t.letters a)
-  word-letters a = letters_word t.k t.letters a (every-all is_letter t.letters r.all_letters)
+  pub word_letters : (a : ℕ) → Letters (word_at t.k t.letters a)
+  word_letters a = letters_word t.k t.letters a (every-all is_letter t.letters r.all_letters)

@@ -244,5 +244,5 @@ module _ (c : Collection) (s : Shape (spelling_of c)) (n : length c.weights ≡ 
   strings-joined = λ i. record { k = c.k; letters = cut.same_letters i; ends = cut.same_ends i; weights = cut.same_weights i }
 
   -- each string has its letters and its weights
-  pub strings-whole : All (Whole c.k) (strings c)
-  strings-whole = cut.whole
+  pub strings_whole : All (Whole c.k) (strings c)
+  strings_whole = cut.whole

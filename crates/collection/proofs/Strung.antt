@@ -11,7 +11,7 @@ use Rattle.collection.specs.Collection.{Collection}
 use Rattle.collection.specs.Kmers.{within, kmers_from, kmers}
 use Rattle.collection.specs.Ready.{Strung}
 use Rattle.collection.proofs.Judged.{Judged, shape_long}
-use Rattle.collection.proofs.Kmers.{kmers-counted, kmers_next, StringsLeft, strings_begin, Next, next-string, strings-on}
+use Rattle.collection.proofs.Kmers.{kmers-counted, kmers_next, StringsLeft, strings_begin, Next, next_string, strings_on}
 
 -- a judged collection has a weight for each k-mer
 pub each_weighed : {c : Collection} → Judged c → length c.weights ≡ length (kmers c.k c.ends)
@@ -41,11 +41,11 @@ weights_begin s = record { strings = strings_begin s.ends_long refl; left = omeg
 module _ {k : ℕ} {ends ws : List ℕ} {i before passed : ℕ} (s : WeightsLeft k ends ws i before passed) (l : i < length ends) {e : ℕ}
     (is : e ≡ get_or ends i 0) where
   -- the next string is there
-  pub string-here : Next k (last_end 0 ends) before e
-  string-here = rw is (next-string s.strings l)
+  pub string_here : Next k (last_end 0 ends) before e
+  string_here = rw is (next_string s.strings l)
 
-  left-on : passed + within k before e + length (kmers_from k e (drop (i + 1) ends)) ≡ length ws
-  left-on =
+  left_on : passed + within k before e + length (kmers_from k e (drop (i + 1) ends)) ≡ length ws
+  left_on =
       rw is
       (omega (
         arith,
@@ -56,9 +56,9 @@ module _ {k : ℕ} {ends ws : List ℕ} {i before passed : ℕ} (s : WeightsLeft
       ))
 
   -- and so are its weights
-  pub weights-inside : passed + within k before e ≤ length ws
-  weights-inside = omega (arith, left-on)
+  pub weights_inside : passed + within k before e ≤ length ws
+  weights_inside = omega (arith, left_on)
 
   -- it has passed
-  pub weights-on : 1 ≤ k → WeightsLeft k ends ws (i + 1) e (passed + within k before e)
-  weights-on k1 = record { strings = rw is (strings-on s.strings l k1 (passed + within k before (get_or ends i 0)) refl); left = left-on }
+  pub weights_on : 1 ≤ k → WeightsLeft k ends ws (i + 1) e (passed + within k before e)
+  weights_on k1 = record { strings = rw is (strings_on s.strings l k1 (passed + within k before (get_or ends i 0)) refl); left = left_on }

@@ -20,14 +20,14 @@ use Rattle.collection_faults.specs.Faults.{first_short, last_end, is_weight}
 -- ─── short strings ───────────────────────────────────────────────────────────
 
 module _ (k before : ℕ) (ends : List ℕ) (i : ℕ) (h : i < length ends) where
-  pub short-here : get_or ends i 0 < before + k → first_short k i before (drop i ends) ≡ i + 1
+  pub short_here : get_or ends i 0 < before + k → first_short k i before (drop i ends) ≡ i + 1
   unfolding first_short
-  short-here e = rw (drop-cons ends i 0, lt-ltb _ _ e, add-one)
+  short_here e = rw (drop-cons ends i 0, lt-ltb _ _ e, add-one)
 
   -- it is long: the first short one comes later
-  pub short-next : before + k ≤ get_or ends i 0 → first_short k i before (drop i ends) ≡ first_short k (i + 1) (get_or ends i 0) (drop (i + 1) ends)
+  pub short_next : before + k ≤ get_or ends i 0 → first_short k i before (drop i ends) ≡ first_short k (i + 1) (get_or ends i 0) (drop (i + 1) ends)
   unfolding first_short
-  short-next e = rw (drop-cons ends i 0, le-ltb _ _ e, add-one)
+  short_next e = rw (drop-cons ends i 0, le-ltb _ _ e, add-one)
 
 -- no string is left
 pub short_end : (k before : ℕ) (ends : List ℕ) (i : ℕ) → length ends ≤ i → first_short k i before (drop i ends) ≡ 0
@@ -39,24 +39,24 @@ module _ (k before : ℕ) (ends : List ℕ) (i : ℕ) where
   abbrev pub none_short : Bool
   none_short = eqb (first_short k i before (drop i ends)) 0
 
-  none-short-step : i < length ends → none_short ≡ (leb (before + k) (get_or ends i 0) && eqb (first_short k (i + 1) (get_or ends i 0) (drop (i + 1) ends)) 0)
-  none-short-step h = go (dec_le (before + k) (get_or ends i 0))
+  none_short_step : i < length ends → none_short ≡ (leb (before + k) (get_or ends i 0) && eqb (first_short k (i + 1) (get_or ends i 0) (drop (i + 1) ends)) 0)
+  none_short_step h = go (dec_le (before + k) (get_or ends i 0))
     where
       go : Dec (before + k ≤ get_or ends i 0) → none_short ≡ (leb (before + k) (get_or ends i 0) && eqb (first_short k (i + 1) (get_or ends i 0) (drop (i + 1) ends)) 0)
-      go (yes l) = rw (short-next k before ends i h l, le-leb (before + k) (get_or ends i 0) l)
+      go (yes l) = rw (short_next k before ends i h l, le-leb (before + k) (get_or ends i 0) l)
       go (no l) = let s : get_or ends i 0 < before + k = omega arith in
-          rw (short-here k before ends i h s, lt-leb (before + k) (get_or ends i 0) s) (ne_eqb (i + 1) 0 (λ q. omega arith))
+          rw (short_here k before ends i h s, lt-leb (before + k) (get_or ends i 0) s) (ne_eqb (i + 1) 0 (λ q. omega arith))
 
   -- one string more was tested
-  pub none-short-next : i < length ends → (all good : Bool) → all ≡ (good && none_short)
+  pub none_short_next : i < length ends → (all good : Bool) → all ≡ (good && none_short)
       → all ≡ ((good && leb (before + k) (get_or ends i 0)) && eqb (first_short k (i + 1) (get_or ends i 0) (drop (i + 1) ends)) 0)
-  none-short-next h all good q =
-      q ∙ (ap (λ (t : Bool). good && t) (none-short-step h)
+  none_short_next h all good q =
+      q ∙ (ap (λ (t : Bool). good && t) (none_short_step h)
       ∙ and_assoc good (leb (before + k) (get_or ends i 0)) (eqb (first_short k (i + 1) (get_or ends i 0) (drop (i + 1) ends)) 0))
 
   -- all were tested
-  pub none-short-end : length ends ≤ i → (all good : Bool) → all ≡ (good && none_short) → good ≡ all
-  none-short-end h all good q = sym (q ∙ (ap (λ (n : ℕ). good && eqb n 0) (short_end k before ends i h) ∙ and_true good))
+  pub none_short_end : length ends ≤ i → (all good : Bool) → all ≡ (good && none_short) → good ≡ all
+  none_short_end h all good q = sym (q ∙ (ap (λ (n : ℕ). good && eqb n 0) (short_end k before ends i h) ∙ and_true good))
 
 -- ─── the last end ────────────────────────────────────────────────────────────
 

@@ -14,11 +14,11 @@ use Rattle.cover_trails.specs.Places.{signed, SignedPermutation, arranged}
 use Rattle.cover_trails.specs.Renamed.{Renamed}
 use Rattle.cover_trails.specs.Strings.{Ends, turned}
 use Rattle.cover_trails.specs.Hub.{unspoked}
-use Rattle.cover_trails.proofs.Arranged.{marked, marked-permutation, marked-arranged}
+use Rattle.cover_trails.proofs.Arranged.{marked, marked_permutation, marked-arranged}
 use Rattle.cover_trails.proofs.Amounts.{paths_few, length-spoked}
 use Rattle.cover_trails.proofs.Orders.{length-reordered}
 use Rattle.cover_trails.proofs.Renamed.{renamed-length, renamed-paths, renamed-least}
-use Rattle.cover_trails.proofs.Upper.{toured-reordered, toured-answer, toured-least}
+use Rattle.cover_trails.proofs.Upper.{toured_reordered, toured_answer, toured_least}
 use Rattle.cover_tours.specs.Layout.{Tables}
 use Rattle.cover_tours.specs.Halves.{near, gone}
 use Rattle.cover_tours.specs.Rows.{Graph}
@@ -27,7 +27,7 @@ use Rattle.cover_tours.proofs.Halves.{length-numbered}
 use Rattle.cover_tours.proofs.Tours.{hub_fresh}
 use Rattle.cover.specs.Cover.{Fewest}
 use Rattle.cover.specs.Covering.{place_all, Covering}
-use Rattle.cover.proofs.PlacedHalves.{marks, marks_placed, length-all, unspoked-marks}
+use Rattle.cover.proofs.PlacedHalves.{marks, marks_placed, length-all, unspoked_marks}
 
 -- a table that is written over as a whole
 fill_all : {A : Type 0} (xs w : List A) → length xs ≡ length w → fill xs w ≡ xs
@@ -42,30 +42,30 @@ module _ {m : ℕ} {t u : Tables} {z walks : ℕ} (g : Graph m t.verts t.rows) (
   halves = drop z u.stack
 
   -- spokes left out, the halves are the strings that their marks name
-  in_order : unspoked (2 * m) (along m t halves) ≡ map (marked turned (0, 0) (strings m t)) (marks m halves)
-  in_order = unspoked-marks m t.verts g.verts_low halves
+  in_order_at : unspoked (2 * m) (along m t halves) ≡ map (marked turned (0, 0) (strings m t)) (marks m halves)
+  in_order_at = unspoked_marks m t.verts g.verts_low halves
 
-  count-strings : length (strings m t) ≡ m
-  count-strings = length-numbered (near m t.verts) 0 m
+  count_strings : length (strings m t) ≡ m
+  count_strings = length-numbered (near m t.verts) 0 m
 
-  count-marks : length (marks m halves) ≡ m
-  count-marks =
+  count_marks : length (marks m halves) ≡ m
+  count_marks =
       omega (
         arith,
         length-map (marks m halves) (marked turned (0, 0) (strings m t)),
-        ap length in_order,
-        length-reordered (toured-reordered (hub_fresh m t g) d.toured),
-        count-strings,
+        ap length in_order_at,
+        length-reordered (toured_reordered (hub_fresh m t g) d.toured),
+        count_strings,
       )
 
   -- O is what the stack has beyond the strings
-  odd-count : odd_weights (strings m t) + m + z ≡ 3 * m
-  odd-count =
+  odd_count : odd_weights (strings m t) + m + z ≡ 3 * m
+  odd_count =
       omega (
         arith,
         length-reordered d.toured.all,
         length-spoked (2 * m) (strings m t),
-        count-strings,
+        count_strings,
         length-map halves (gone (near m t.verts)),
         length-drop z u.stack,
         d.size,
@@ -73,23 +73,23 @@ module _ {m : ℕ} {t u : Tables} {z walks : ℕ} (g : Graph m t.verts t.rows) (
       )
 
   -- so the stack starts within the first 2m entries
-  pub start-low : z ≤ 2 * m
-  start-low = omega (arith, odd-count)
+  pub start_low : z ≤ 2 * m
+  start_low = omega (arith, odd_count)
 
   -- the number of paths
   paths-counted : (2 * m - z) / 2 + walks ≡ least (strings m t)
-  paths-counted = omega (arith, odd-count, toured-answer (hub_fresh m t g) d.toured)
+  paths-counted = omega (arith, odd_count, toured_answer (hub_fresh m t g) d.toured)
 
   -- and there are at most m paths
-  pub paths-low : (2 * m - z) / 2 + walks ≤ m
-  paths-low =
+  pub paths_low : (2 * m - z) / 2 + walks ≤ m
+  paths_low =
       omega (
         arith,
         paths-counted,
-        toured-least (hub_fresh m t g) d.toured,
+        toured_least (hub_fresh m t g) d.toured,
         paths_few (unspoked (2 * m) (along m t halves)),
-        length-reordered (toured-reordered (hub_fresh m t g) d.toured),
-        count-strings,
+        length-reordered (toured_reordered (hub_fresh m t g) d.toured),
+        count_strings,
       )
 
   module _ (ps : List ℤ) (l : length ps ≡ m) where
@@ -97,45 +97,45 @@ module _ {m : ℕ} {t u : Tables} {z walks : ℕ} (g : Graph m t.verts t.rows) (
         → ((get_or (marks m halves) n (0, false)).0 < m)
         × (get_or (place_all m 0 halves ps) (get_or (marks m halves) n (0, false)).0 (pos 0) ≡ signed (suc n) (get_or (marks m halves) n (0, false)).1)
     each_placed n b =
-        let r = marks_placed m 0 halves ps l (λ e h. omega (arith, d.once e h)) n (omega (arith, count-marks)) in
+        let r = marks_placed m 0 halves ps l (λ e h. omega (arith, d.once e h)) n (omega (arith, count_marks)) in
         let q : 0 + suc n ≡ suc n = omega arith in
         (r.0, r.1 ∙ ap (λ (i : ℕ). signed i (get_or (marks m halves) n (0, false)).1) q)
 
     places_size : length (place_all m 0 halves ps) ≡ m
     places_size = length-all m 0 halves ps ∙ l
 
-    places-permute : SignedPermutation m (place_all m 0 halves ps)
-    places-permute =
-        marked-permutation turned (0, 0) m (place_all m 0 halves ps) (strings m t) (marks m halves) places_size count-strings count-marks each_placed
+    places_permute : SignedPermutation m (place_all m 0 halves ps)
+    places_permute =
+        marked_permutation turned (0, 0) m (place_all m 0 halves ps) (strings m t) (marks m halves) places_size count_strings count_marks each_placed
 
     places-least : path_count (arranged turned (place_all m 0 halves ps) (strings m t)) ≡ least (strings m t)
     places-least =
         ap path_count
-        (marked-arranged turned (0, 0) m (place_all m 0 halves ps) (strings m t) (marks m halves) places_size count-strings count-marks each_placed
-        ∙ sym in_order)
-        ∙ toured-least (hub_fresh m t g) d.toured
+        (marked-arranged turned (0, 0) m (place_all m 0 halves ps) (strings m t) (marks m halves) places_size count_strings count_marks each_placed
+        ∙ sym in_order_at)
+        ∙ toured_least (hub_fresh m t g) d.toured
 
     -- ─── the same for the strings by their weights ───────────────────────────
 
     module _ {L : List Ends} (r : Renamed L (strings m t)) where
-      permute-named : SignedPermutation (length (strings m t)) (place_all m 0 halves ps)
-      permute-named = subst (λ (n : ℕ). SignedPermutation n (place_all m 0 halves ps)) (sym count-strings) places-permute
+      permute_named : SignedPermutation (length (strings m t)) (place_all m 0 halves ps)
+      permute_named = subst (λ (n : ℕ). SignedPermutation n (place_all m 0 halves ps)) (sym count_strings) places_permute
 
-      covered-fewest : Fewest L (place_all m 0 halves ps)
-      covered-fewest = record {
-        permutation = subst (λ (n : ℕ). SignedPermutation n (place_all m 0 halves ps)) (sym (renamed-length r)) permute-named;
-        fewest = renamed-paths r (place_all m 0 halves ps) permute-named ∙ (places-least ∙ renamed-least r);
+      covered_fewest : Fewest L (place_all m 0 halves ps)
+      covered_fewest = record {
+        permutation = subst (λ (n : ℕ). SignedPermutation n (place_all m 0 halves ps)) (sym (renamed-length r)) permute_named;
+        fewest = renamed-paths r (place_all m 0 halves ps) permute_named ∙ (places-least ∙ renamed-least r);
       }
 
-      covered-paths : (2 * m - z) / 2 + walks ≡ least L
-      covered-paths = paths-counted ∙ renamed-least r
+      covered_paths : (2 * m - z) / 2 + walks ≡ least L
+      covered_paths = paths-counted ∙ renamed-least r
 
       -- what the call leaves: qs are the places, v the table of zeros
       pub covering : {qs : List ℤ} (w : List ℕ) {v : List ℕ} → qs ≡ place_all m 0 halves ps → v ≡ fill (replicate (16 * m) 0) w → length w ≡ 16 * m
           → Covering L m qs v ((2 * m - z) / 2 + walks)
       covering {qs} w {v} e f s = record {
-        paths = covered-paths;
-        places_fewest = subst (Fewest L) (sym e) covered-fewest;
+        paths = covered_paths;
+        places_fewest = subst (Fewest L) (sym e) covered_fewest;
         places_size = ap length e ∙ places_size;
         work_zero = f ∙ fill_all (replicate (16 * m) 0) w (length-replicate (16 * m) 0 ∙ sym s);
       }

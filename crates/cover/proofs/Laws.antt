@@ -44,17 +44,17 @@ cover_number f = f.fewest
 module _ (c : Collection) (places : List ℤ) (work : List ℕ) {answer : CoverAnswer} {places' : List ℤ} {work' : List ℕ}
     (p : Promise c places work answer places' work') where
   -- accepted, the call answers m and the least number of paths
-  pub cover-answers : cover_verdict c places work ≡ Good → answer ≡ Covered (length c.ends) (least (end_weights c))
-  cover-answers e = p.answered ∙ sym (settled Refused refl e)
+  pub cover_answers : cover_verdict c places work ≡ Good → answer ≡ Covered (length c.ends) (least (end_weights c))
+  cover_answers e = p.answered ∙ sym (settled Refused refl e)
 
   -- and fills in places that are a signed permutation of 1 to m with as many paths
-  pub cover-fills : cover_verdict c places work ≡ Good
+  pub cover_fills : cover_verdict c places work ≡ Good
       → (ps : List ℤ) × (places' ≡ fill ps places) × SignedPermutation (length c.ends) ps × Fewest (end_weights c) ps
-  cover-fills e =
+  cover_fills e =
       let u = subst (λ (v : Verdict). PlacesAfter v (end_weights c) places places') e p.placed in
       (u.0, u.1, subst (λ (m : ℕ). SignedPermutation m u.0) (ends_count c) u.2.permutation, u.2)
 
   -- no second answer, and no second table of work, meets the promise
-  pub cover-only : {answer₂ : CoverAnswer} {places₂ : List ℤ} {work₂ : List ℕ} → Promise c places work answer₂ places₂ work₂
+  pub cover_only : {answer₂ : CoverAnswer} {places₂ : List ℤ} {work₂ : List ℕ} → Promise c places work answer₂ places₂ work₂
       → (answer ≡ answer₂) × (work' ≡ work₂)
-  cover-only q = (p.answered ∙ sym q.answered, p.cleared ∙ sym q.cleared)
+  cover_only q = (p.answered ∙ sym q.answered, p.cleared ∙ sym q.cleared)

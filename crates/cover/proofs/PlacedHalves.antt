@@ -22,27 +22,27 @@ use Rattle.cover_trails.proofs.Arranged.{marked}
 use Rattle.lists.proofs.Agree.{agree_same, agree-other, Agreeing, agree_cases}
 use Rattle.cover_tours.specs.Halves.{near, other, gone, numbered}
 use Rattle.cover_tours.specs.States.{numbers}
-use Rattle.cover_tours.proofs.Halves.{near-string, near-hub}
+use Rattle.cover_tours.proofs.Halves.{near-string, near_hub}
 use Rattle.cover.specs.Covering.{counted, placed_by, place_all}
 
 -- ─── one half ────────────────────────────────────────────────────────────────
 
 module _ (m n c : ℕ) (ps : List ℤ) where
   -- a half of a string gives it its place
-  pub string-placed : c < 2 * m → placed_by m n c ps ≡ set ps (c / 2) (signed (n + 1) (eqb (c % 2) 1))
-  string-placed l = rw (lt-ltb c (2 * m) l)
+  pub string_placed : c < 2 * m → placed_by m n c ps ≡ set ps (c / 2) (signed (n + 1) (eqb (c % 2) 1))
+  string_placed l = rw (lt-ltb c (2 * m) l)
 
   -- a spoke gives none
-  pub spoke-placed : 2 * m ≤ c → placed_by m n c ps ≡ ps
-  spoke-placed l = rw (le-ltb c (2 * m) l)
+  pub spoke_placed : 2 * m ≤ c → placed_by m n c ps ≡ ps
+  spoke_placed l = rw (le-ltb c (2 * m) l)
 
   -- there are as many places as before
-  pub length-placed : length (placed_by m n c ps) ≡ length ps
-  length-placed = go (dec_lt c (2 * m))
+  pub length_placed : length (placed_by m n c ps) ≡ length ps
+  length_placed = go (dec_lt c (2 * m))
     where
       go : Dec (c < 2 * m) → length (placed_by m n c ps) ≡ length ps
-      go (yes l) = ap length (string-placed l) ∙ simp length-set
-      go (no l) = ap length (spoke-placed (omega arith))
+      go (yes l) = ap length (string_placed l) ∙ simp length-set
+      go (no l) = ap length (spoke_placed (omega arith))
 
 -- one string more has its place
 pub string-counted : (m n c : ℕ) → c < 2 * m → counted m n c ≡ n + 1
@@ -66,7 +66,7 @@ counted_le m n c = go (dec_lt c (2 * m))
 pub length-all : (m n : ℕ) (cs : List ℕ) (ps : List ℤ) → length (place_all m n cs ps) ≡ length ps
 unfolding place_all
 length-all m n [] ps = refl
-length-all m n (c ∷ cs) ps = length-all m (counted m n c) cs (placed_by m n c ps) ∙ length-placed m n c ps
+length-all m n (c ∷ cs) ps = length-all m (counted m n c) cs (placed_by m n c ps) ∙ length_placed m n c ps
 
 -- a mark for each half of a string: which string it is, and whether it is turned
 unfoldable pub marks : ℕ → List ℕ → List (ℕ × Bool)
@@ -78,9 +78,9 @@ module _ (m c : ℕ) (cs : List ℕ) where
   unfolding marks
   string-marked l = rw (lt-ltb c (2 * m) l)
 
-  spoke-marked : 2 * m ≤ c → marks m (c ∷ cs) ≡ marks m cs
+  spoke_marked : 2 * m ≤ c → marks m (c ∷ cs) ≡ marks m cs
   unfolding marks
-  spoke-marked l = rw (le-ltb c (2 * m) l)
+  spoke_marked l = rw (le-ltb c (2 * m) l)
 
 -- a string that none of the halves names keeps its place
 others_kept : (m n : ℕ) (cs : List ℕ) (ps : List ℤ) (i : ℕ) → occurs i (numbers cs) ≡ 0 → get_or (place_all m n cs ps) i (pos 0) ≡ get_or ps i (pos 0)
@@ -93,8 +93,8 @@ others_kept m n (c ∷ cs) ps i h =
     off e = omega (arith, agree_same i (c / 2) e)
 
     go : Dec (c < 2 * m) → get_or (placed_by m n c ps) i (pos 0) ≡ get_or ps i (pos 0)
-    go (yes l) = ap (λ (x : List ℤ). get_or x i (pos 0)) (string-placed m n c ps l) ∙ get_or-set_other ps (c / 2) i (signed (n + 1) (eqb (c % 2) 1)) (pos 0) off
-    go (no l) = ap (λ (x : List ℤ). get_or x i (pos 0)) (spoke-placed m n c ps (omega arith))
+    go (yes l) = ap (λ (x : List ℤ). get_or x i (pos 0)) (string_placed m n c ps l) ∙ get_or-set_other ps (c / 2) i (signed (n + 1) (eqb (c % 2) 1)) (pos 0) off
+    go (no l) = ap (λ (x : List ℤ). get_or x i (pos 0)) (spoke_placed m n c ps (omega arith))
 
 -- the string of a mark has the place i, turned where the mark says so
 abbrev pub MarkedAt : ℕ → List ℤ → ℕ → ℕ × Bool → Type 0
@@ -108,12 +108,12 @@ once-later m c cs once e h = omega (arith, once e h)
 module _ (m n c : ℕ) (cs : List ℕ) (ps : List ℤ) (l : length ps ≡ m) (once : (e : ℕ) → e < m → occurs e (numbers (c ∷ cs)) ≤ 1)
     (more : (i : ℕ) (qs : List ℤ) → length qs ≡ m → (j : ℕ) → j < length (marks m cs)
     → MarkedAt m (place_all m i cs qs) (i + suc j) (get_or (marks m cs) j (0, false))) where
-  first-at : c < 2 * m → MarkedAt m (place_all m n (c ∷ cs) ps) (n + 1) (c / 2, eqb (c % 2) 1)
+  first_at : c < 2 * m → MarkedAt m (place_all m n (c ∷ cs) ps) (n + 1) (c / 2, eqb (c % 2) 1)
   unfolding place_all occurs
-  first-at h = (
+  first_at h = (
     omega arith,
     others_kept m (counted m n c) cs (placed_by m n c ps) (c / 2) (omega (arith, once (c / 2) (omega arith), agree_same (c / 2) (c / 2) refl))
-        ∙ (ap (λ (x : List ℤ). get_or x (c / 2) (pos 0)) (string-placed m n c ps h)
+        ∙ (ap (λ (x : List ℤ). get_or x (c / 2) (pos 0)) (string_placed m n c ps h)
         ∙ get_or-set_same ps (c / 2) (signed (n + 1) (eqb (c % 2) 1)) (pos 0) (omega arith)),
   )
 
@@ -121,35 +121,35 @@ module _ (m n c : ℕ) (cs : List ℕ) (ps : List ℤ) (l : length ps ≡ m) (on
   unfolding place_all
   all-string h = ap (λ (i : ℕ). place_all m i cs (placed_by m n c ps)) (string-counted m n c h)
 
-  all-spoke : 2 * m ≤ c → place_all m n (c ∷ cs) ps ≡ place_all m n cs ps
+  all_spoke : 2 * m ≤ c → place_all m n (c ∷ cs) ps ≡ place_all m n cs ps
   unfolding place_all
-  all-spoke h = ap₂ (λ (i : ℕ) (qs : List ℤ). place_all m i cs qs) (spoke_counted m n c h) (spoke-placed m n c ps h)
+  all_spoke h = ap₂ (λ (i : ℕ) (qs : List ℤ). place_all m i cs qs) (spoke_counted m n c h) (spoke_placed m n c ps h)
 
   string_at : c < 2 * m → (j : ℕ) → j < suc (length (marks m cs))
       → MarkedAt m (place_all m n (c ∷ cs) ps) (n + suc j) (get_or ((c / 2, eqb (c % 2) 1) ∷ marks m cs) j (0, false))
   string_at h zero b = let e : n + 1 ≡ n + suc 0 = omega arith in
-      subst (λ (i : ℕ). MarkedAt m (place_all m n (c ∷ cs) ps) i (c / 2, eqb (c % 2) 1)) e (first-at h)
+      subst (λ (i : ℕ). MarkedAt m (place_all m n (c ∷ cs) ps) i (c / 2, eqb (c % 2) 1)) e (first_at h)
   string_at h (suc j) b =
       let e : n + 1 + suc j ≡ n + suc (suc j) = omega arith in
       subst (λ (i : ℕ). MarkedAt m (place_all m n (c ∷ cs) ps) i (get_or (marks m cs) j (0, false))) e
       (subst (λ (qs : List ℤ). MarkedAt m qs (n + 1 + suc j) (get_or (marks m cs) j (0, false))) (sym (all-string h))
-      (more (n + 1) (placed_by m n c ps) (length-placed m n c ps ∙ l) j (omega arith)))
+      (more (n + 1) (placed_by m n c ps) (length_placed m n c ps ∙ l) j (omega arith)))
 
-  next-at : Dec (c < 2 * m) → (j : ℕ) → j < length (marks m (c ∷ cs)) → MarkedAt m (place_all m n (c ∷ cs) ps) (n + suc j) (get_or (marks m (c ∷ cs)) j (0, false))
-  next-at (yes h) j b =
+  next_at : Dec (c < 2 * m) → (j : ℕ) → j < length (marks m (c ∷ cs)) → MarkedAt m (place_all m n (c ∷ cs) ps) (n + suc j) (get_or (marks m (c ∷ cs)) j (0, false))
+  next_at (yes h) j b =
       subst (λ (ks : List (ℕ × Bool)). MarkedAt m (place_all m n (c ∷ cs) ps) (n + suc j) (get_or ks j (0, false))) (sym (string-marked m c cs h))
       (string_at h j (rw (string-marked m c cs h) at b))
-  next-at (no h) j b =
+  next_at (no h) j b =
       let k : 2 * m ≤ c = omega arith in
-      subst (λ (ks : List (ℕ × Bool)). MarkedAt m (place_all m n (c ∷ cs) ps) (n + suc j) (get_or ks j (0, false))) (sym (spoke-marked m c cs k))
-      (subst (λ (qs : List ℤ). MarkedAt m qs (n + suc j) (get_or (marks m cs) j (0, false))) (sym (all-spoke k))
-      (more n ps l j (rw (spoke-marked m c cs k) at b)))
+      subst (λ (ks : List (ℕ × Bool)). MarkedAt m (place_all m n (c ∷ cs) ps) (n + suc j) (get_or ks j (0, false))) (sym (spoke_marked m c cs k))
+      (subst (λ (qs : List ℤ). MarkedAt m qs (n + suc j) (get_or (marks m cs) j (0, false))) (sym (all_spoke k))
+      (more n ps l j (rw (spoke_marked m c cs k) at b)))
 
 -- each marked string has the place of its mark
 pub marks_placed : (m n : ℕ) (cs : List ℕ) (ps : List ℤ) → length ps ≡ m → ((e : ℕ) → e < m → occurs e (numbers cs) ≤ 1)
     → (j : ℕ) → j < length (marks m cs) → MarkedAt m (place_all m n cs ps) (n + suc j) (get_or (marks m cs) j (0, false))
 marks_placed m n [] ps l once j b = absurd (unfold marks in (omega arith))
-marks_placed m n (c ∷ cs) ps l once j b = next-at m n c cs ps l once (λ i qs e k h. marks_placed m i cs qs e (once-later m c cs once) k h) (dec_lt c (2 * m)) j b
+marks_placed m n (c ∷ cs) ps l once j b = next_at m n c cs ps l once (λ i qs e k h. marks_placed m i cs qs e (once-later m c cs once) k h) (dec_lt c (2 * m)) j b
 
 -- ─── the order that they make ────────────────────────────────────────────────
 
@@ -182,51 +182,51 @@ mark_gone f m c l = go (ℕ_discrete (c % 2) 1)
 
 -- a string that touches the hub is left out, another stays
 module _ (h : ℕ) (s : Ends) (L : List Ends) where
-  unspoked-from : agree h (front s) ≡ 1 → unspoked h (s ∷ L) ≡ unspoked h L
+  unspoked_from : agree h (front s) ≡ 1 → unspoked h (s ∷ L) ≡ unspoked h L
   unfolding unspoked
-  unspoked-from e = rw e refl
+  unspoked_from e = rw e refl
 
-  unspoked-into : agree h (back s) ≡ 1 → unspoked h (s ∷ L) ≡ unspoked h L
+  unspoked_into : agree h (back s) ≡ 1 → unspoked h (s ∷ L) ≡ unspoked h L
   unfolding unspoked
-  unspoked-into e = go (agree_cases h (front s))
+  unspoked_into e = go (agree_cases h (front s))
     where
       go : Agreeing h (front s) → unspoked h (s ∷ L) ≡ unspoked h L
-      go (inl a) = unspoked-from a.1
+      go (inl a) = unspoked_from a.1
       go (inr a) = rw (a.1, e) refl
 
-  unspoked-off : agree h (front s) ≡ 0 → agree h (back s) ≡ 0 → unspoked h (s ∷ L) ≡ s ∷ unspoked h L
+  unspoked_off : agree h (front s) ≡ 0 → agree h (back s) ≡ 0 → unspoked h (s ∷ L) ≡ s ∷ unspoked h L
   unfolding unspoked
-  unspoked-off a b = rw (a, b) refl
+  unspoked_off a b = rw (a, b) refl
 
 -- Strings do not touch the hub, and spokes do.
 module _ (m : ℕ) (verts : List ℕ) (low : (c : ℕ) → c < 2 * m → get_or verts c 0 < 2 * m) where
-  string-off : (c : ℕ) → c < 2 * m → agree (2 * m) (near m verts c) ≡ 0
-  string-off c l = agree-other (2 * m) (near m verts c) (λ e. omega (arith, near-string m verts c l, low c l))
+  string_off : (c : ℕ) → c < 2 * m → agree (2 * m) (near m verts c) ≡ 0
+  string_off c l = agree-other (2 * m) (near m verts c) (λ e. omega (arith, near-string m verts c l, low c l))
 
-  hub-on : (c : ℕ) → 2 * m ≤ c → c % 2 ≡ 0 → agree (2 * m) (near m verts c) ≡ 1
-  hub-on c l e = agree_same (2 * m) (near m verts c) (sym (near-hub m verts c l e))
+  hub_on : (c : ℕ) → 2 * m ≤ c → c % 2 ≡ 0 → agree (2 * m) (near m verts c) ≡ 1
+  hub_on c l e = agree_same (2 * m) (near m verts c) (sym (near_hub m verts c l e))
 
   -- spokes left out, the halves by their vertices are the strings that the marks name
-  pub unspoked-marks : (cs : List ℕ) → unspoked (2 * m) (map (gone (near m verts)) cs) ≡ map (marked turned (0, 0) (numbered (near m verts) 0 m)) (marks m cs)
-  unspoked-marks [] = unfold unspoked marks in refl
-  unspoked-marks (c ∷ cs) = go (dec_lt c (2 * m)) (ℕ_discrete (c % 2) 0) (unspoked-marks cs)
+  pub unspoked_marks : (cs : List ℕ) → unspoked (2 * m) (map (gone (near m verts)) cs) ≡ map (marked turned (0, 0) (numbered (near m verts) 0 m)) (marks m cs)
+  unspoked_marks [] = unfold unspoked marks in refl
+  unspoked_marks (c ∷ cs) = go (dec_lt c (2 * m)) (ℕ_discrete (c % 2) 0) (unspoked_marks cs)
     where
       go : Dec (c < 2 * m) → Dec (c % 2 ≡ 0)
           → unspoked (2 * m) (map (gone (near m verts)) cs) ≡ map (marked turned (0, 0) (numbered (near m verts) 0 m)) (marks m cs)
           → unspoked (2 * m) (gone (near m verts) c ∷ map (gone (near m verts)) cs)
           ≡ map (marked turned (0, 0) (numbered (near m verts) 0 m)) (marks m (c ∷ cs))
       go (yes l) d ih =
-          unspoked-off (2 * m) (gone (near m verts) c) (map (gone (near m verts)) cs) (string-off c l) (string-off (other c) (omega arith))
+          unspoked_off (2 * m) (gone (near m verts) c) (map (gone (near m verts)) cs) (string_off c l) (string_off (other c) (omega arith))
           ∙ (ap₂ (λ (s : Ends) (L : List Ends). s ∷ L) (sym (mark_gone (near m verts) m c l)) ih
           ∙ ap (map (marked turned (0, 0) (numbered (near m verts) 0 m))) (sym (string-marked m c cs l)))
       go (no l) (yes d) ih =
           let k : 2 * m ≤ c = omega arith in
-          unspoked-from (2 * m) (gone (near m verts) c) (map (gone (near m verts)) cs) (hub-on c k d)
-          ∙ (ih ∙ ap (map (marked turned (0, 0) (numbered (near m verts) 0 m))) (sym (spoke-marked m c cs k)))
+          unspoked_from (2 * m) (gone (near m verts) c) (map (gone (near m verts)) cs) (hub_on c k d)
+          ∙ (ih ∙ ap (map (marked turned (0, 0) (numbered (near m verts) 0 m))) (sym (spoke_marked m c cs k)))
       go (no l) (no d) ih =
           let k : 2 * m ≤ c = omega arith in
-          unspoked-into (2 * m) (gone (near m verts) c) (map (gone (near m verts)) cs) (hub-on (other c) (omega arith) (omega arith))
-          ∙ (ih ∙ ap (map (marked turned (0, 0) (numbered (near m verts) 0 m))) (sym (spoke-marked m c cs k)))
+          unspoked_into (2 * m) (gone (near m verts) c) (map (gone (near m verts)) cs) (hub_on (other c) (omega arith) (omega arith))
+          ∙ (ih ∙ ap (map (marked turned (0, 0) (numbered (near m verts) 0 m))) (sym (spoke_marked m c cs k)))
 
 -- ─── a loop that gives the places ────────────────────────────────────────────
 
@@ -239,19 +239,19 @@ pub record Giving (m start : ℕ) (stack : List ℕ) (ps₀ ps : List ℤ) (n p 
 
 module _ {m start : ℕ} {stack : List ℕ} {ps₀ ps : List ℤ} {n p : ℕ} (g : Giving m start stack ps₀ ps n p) (k : length stack ≡ 3 * m) where
   -- the next half gives its place
-  pub giving-on : p < 3 * m → (c : ℕ) → c ≡ get_or stack p 0 → {qs : List ℤ} {i : ℕ} → qs ≡ placed_by m n c ps → i ≡ counted m n c
+  pub giving_on : p < 3 * m → (c : ℕ) → c ≡ get_or stack p 0 → {qs : List ℤ} {i : ℕ} → qs ≡ placed_by m n c ps → i ≡ counted m n c
       → Giving m start stack ps₀ qs i (p + 1)
   unfolding place_all
-  giving-on l c is {qs} {i} a b = record {
+  giving_on l c is {qs} {i} a b = record {
     inside = omega arith;
     few = rw b (omega (arith, counted_le m n c, g.few));
-    size = ap length a ∙ (length-placed m n c ps ∙ g.size);
+    size = ap length a ∙ (length_placed m n c ps ∙ g.size);
     rest =
         ap₂ (λ (x : ℕ) (y : List ℤ). place_all m x (drop (p + 1) stack) y) b a
         ∙ (sym (ap (λ (cs : List ℕ). place_all m n cs ps) (drop_next stack p 0 (omega arith) ∙ ap (λ (x : ℕ). x ∷ drop (p + 1) stack) (sym is))) ∙ g.rest);
   }
 
   -- all halves have given theirs
-  pub giving-end : 3 * m ≤ p → ps ≡ place_all m 0 (drop start stack) ps₀
+  pub giving_end : 3 * m ≤ p → ps ≡ place_all m 0 (drop start stack) ps₀
   unfolding place_all
-  giving-end h = let l : length stack ≤ p = omega arith in sym (ap (λ (cs : List ℕ). place_all m n cs ps) (drop_of_length-le stack l)) ∙ g.rest
+  giving_end h = let l : length stack ≤ p = omega arith in sym (ap (λ (cs : List ℕ). place_all m n cs ps) (drop_of_length-le stack l)) ∙ g.rest

@@ -54,29 +54,29 @@ module _ {c : Collection} {places : List ℤ} {work : List ℕ} (r : Roomy c pla
   same_ends = sym (end_weights_lem (spelling_of c) c.weights r.judged.shape.long (each_weighed r.judged))
 
   -- the lent part of the work
-  pub work-fits : (length c.ends ≡ 0 → ⊥) → Fits (length c.ends) (take (16 * length c.ends) work)
-  work-fits h = record { some = omega arith; few = r.judged.shape.m_high; size = length-take-le (16 * length c.ends) work r.work_room }
+  pub work_fits : (length c.ends ≡ 0 → ⊥) → Fits (length c.ends) (take (16 * length c.ends) work)
+  work_fits h = record { some = omega arith; few = r.judged.shape.m_high; size = length-take-le (16 * length c.ends) work r.work_room }
 
   -- the lent part of the places
-  pub places-fit : length (take (length c.ends) places) ≡ length c.ends
-  places-fit = length-take-le (length c.ends) places r.places_room
+  pub places_fit : length (take (length c.ends) places) ≡ length c.ends
+  places_fit = length-take-le (length c.ends) places r.places_room
 
 -- ─── the three ends of a call ────────────────────────────────────────────────
 
 module _ {verdict : Verdict} {strings : List Ends} {m : ℕ} {places : List ℤ} {work : List ℕ} where
   -- where it is refused
-  pub cover-refused : {number place : ℕ} → verdict ≡ Bad number place → CoverOf verdict strings m places work (Refused number place) places work
-  cover-refused e = record {
+  pub cover_refused : {number place : ℕ} → verdict ≡ Bad number place → CoverOf verdict strings m places work (Refused number place) places work
+  cover_refused e = record {
     answered = refused Refused _ e;
     cleared = refused (λ number place. work) _ e;
     placed = subst (λ (v : Verdict). PlacesAfter v strings places places) (sym e) refl;
   }
 
   -- where all strings are covered
-  pub cover-done : verdict ≡ Good → {qs places' : List ℤ} {v work' : List ℕ} {n : ℕ} → Covering strings m qs v n → places' ≡ qs ++ drop m places
+  pub cover_done : verdict ≡ Good → {qs places' : List ℤ} {v work' : List ℕ} {n : ℕ} → Covering strings m qs v n → places' ≡ qs ++ drop m places
       → work' ≡ v ++ drop (16 * m) work
       → CoverOf verdict strings m places work (Covered m n) places' work'
-  cover-done e {qs} {places'} {v} {work'} {n} c p w = record {
+  cover_done e {qs} {places'} {v} {work'} {n} c p w = record {
     answered = settled Refused (ap (Covered m) c.paths) e;
     cleared = settled (λ number place. work) (w ∙ zeros) e;
     placed = subst (λ (x : Verdict). PlacesAfter x strings places places') (sym e)
@@ -107,11 +107,11 @@ pub cover_none : {verdict : Verdict} (k : ℕ) (letters ends weights : List ℕ)
 cover_none {verdict} k letters ends weights {places} {work} e z =
     subst (λ (m : ℕ). CoverOf verdict (end_weights (collection k letters ends weights)) m places work (Covered 0 0) places work) (sym z)
     (subst (λ (L : List Ends). CoverOf verdict L 0 places work (Covered 0 0) places work) (sym (no_ends k letters ends weights z))
-    (cover-done e (record { paths = sym no_strings.2; places_fewest = fewest_none; places_size = refl; work_zero = refl }) refl refl))
+    (cover_done e (record { paths = sym no_strings.2; places_fewest = fewest_none; places_size = refl; work_zero = refl }) refl refl))
 
 -- all strings covered, in parts of the lent tables
 pub cover_all : (c : Collection) (places : List ℤ) (work : List ℕ) → cover_verdict c places work ≡ Good
     → {qs : List ℤ} {v : List ℕ} {n : ℕ} → Covering (ends_from c.k 0 c.ends c.weights) (length c.ends) qs v n
     → Promise c places work (Covered (length c.ends) n) (qs ++ drop (length c.ends) places) (v ++ drop (16 * length c.ends) work)
 cover_all c places work e {qs} {v} {n} covering =
-    cover-done e (subst (λ (L : List Ends). Covering L (length c.ends) qs v n) (same_ends (cover_good c places work e)) covering) refl refl
+    cover_done e (subst (λ (L : List Ends). Covering L (length c.ends) qs v n) (same_ends (cover_good c places work e)) covering) refl refl

@@ -21,16 +21,16 @@ zero_less (suc n) = +ℤ_idl (neg_ℤ (pos (suc n)))
 
 module _ (n : ℕ) (h : n ≤ 1048576) where
   -- a number that fits is itself, as a signed one
-  pub as-positive : to_z w32 n ≡ signed n false
-  as-positive = to_z_pos w32 n (omega arith)
+  pub as_positive : to_z w32 n ≡ signed n false
+  as_positive = to_z_pos w32 n (omega arith)
 
   less : pos 0 -ℤ to_z w32 n ≡ signed n true
-  less = ap (λ (x : ℤ). pos 0 -ℤ x) as-positive ∙ zero_less n
+  less = ap (λ (x : ℤ). pos 0 -ℤ x) as_positive ∙ zero_less n
 
   -- it fits with the other sign, too
   pub negative_fits : SFits w32 (pos 0 -ℤ to_z w32 n)
   negative_fits = rw less (record { sfits = negative_mag n h })
 
   -- and is the negative number
-  pub as-negative : to_z w32 (of_z w32 (pos 0 -ℤ to_z w32 n)) ≡ signed n true
-  as-negative = to_z-of_z w32 _ negative_fits ∙ less
+  pub as_negative : to_z w32 (of_z w32 (pos 0 -ℤ to_z w32 n)) ≡ signed n true
+  as_negative = to_z-of_z w32 _ negative_fits ∙ less

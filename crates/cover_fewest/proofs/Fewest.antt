@@ -15,7 +15,7 @@ use Rattle.collection.specs.Judge.{Passes}
 use Rattle.collection.specs.Strings.{Str, strings, strings_from, weights_in}
 use Rattle.collection.specs.EndWeights.{ends_of, end_weights}
 use Rattle.collection.proofs.Judged.{Judged, collection_good}
-use Rattle.collection.proofs.Strings.{Whole, strings-whole, strings_count}
+use Rattle.collection.proofs.Strings.{Whole, strings_whole, strings_count}
 use Rattle.runs.specs.Runs.{run_count, inner_runs}
 use Rattle.runs.proofs.Joined.{count_none, count_reverse, runs-some}
 use Rattle.cover_trails.specs.Paths.{path_count}
@@ -23,7 +23,7 @@ use Rattle.cover_trails.specs.Places.{SignedPermutation, arranged, arranged_to}
 use Rattle.cover_trails.specs.Strings.{Ends, turned}
 use Rattle.cover_trails.proofs.Arranged.{length-arranged, map-arranged}
 use Rattle.cover_trails.proofs.Bounds.{none_fewer, one_reaches, no_strings}
-use Rattle.cover_trails.proofs.Kept.{all-arranged, total-arranged}
+use Rattle.cover_trails.proofs.Kept.{all-arranged, total_arranged}
 use Rattle.cover.specs.Cover.{Fewest}
 use Rattle.cover.proofs.Laws.{ends_count}
 use Rattle.apply_strings.specs.Turned.{turn_str}
@@ -63,55 +63,55 @@ module _ (c : Collection) (passes : Passes c) where
 
   whole : All (Whole c.k) ss
   unfolding ss
-  whole = strings-whole c j.shape j.counted
+  whole = strings_whole c j.shape j.counted
 
   some-weights : All HasWeight ss
   some-weights = all_map (λ s w. let long = w.long in let counted = w.counted in let z : 1 ≤ length s.weights = omega arith in z) ss whole
 
-  string-count : length ss ≡ length c.ends
+  string_count : length ss ≡ length c.ends
   unfolding ss
-  string-count = strings_count c
+  string_count = strings_count c
 
-  end-count : length (end_weights c) ≡ length c.ends
-  end-count = ends_count c
+  end_count : length (end_weights c) ≡ length c.ends
+  end_count = ends_count c
 
   -- R is at least m, so that R - m loses nothing
   enough : length c.ends ≤ inner_runs c
   unfolding inner_runs ss
-  enough = subst (λ (n : ℕ). n ≤ inside (strings c)) string-count (inside_enough (strings c) some-weights)
+  enough = subst (λ (n : ℕ). n ≤ inside (strings c)) string_count (inside_enough (strings c) some-weights)
 
   -- for any order and turning: runs and strings together are R and the paths together
-  pub runs-at : (places : List ℤ) → SignedPermutation (length c.ends) places
+  pub runs_at_lem : (places : List ℤ) → SignedPermutation (length c.ends) places
       → runs_at c places + length c.ends ≡ inner_runs c + path_count (arranged turned places (end_weights c))
   unfolding inner_runs end_weights ss sum
-  runs-at places perm =
+  runs_at_lem places perm =
       let all : List Str = strings c in
       let a = runs-paths (arranged turn_str places all)
       (all-arranged turn_str HasWeight (λ s h. subst (λ (n : ℕ). 1 ≤ n) (sym (length-reverse s.weights)) h) places all some-weights) in
-      let n = length-arranged turn_str (record { letters = []; weights = [] }) (length c.ends) places all perm string-count in
-      let t = total-arranged turn_str (λ s. run_count s.weights) inside refl (λ s r. refl) (λ s. count_reverse s.weights)
-      (length c.ends) places all perm string-count in
+      let n = length-arranged turn_str (record { letters = []; weights = [] }) (length c.ends) places all perm string_count in
+      let t = total_arranged turn_str (λ s. run_count s.weights) inside refl (λ s r. refl) (λ s. count_reverse s.weights)
+      (length c.ends) places all perm string_count in
       let e = map-arranged turn_str turned ends_of ends_turned places all in
       omega (arith, a, n, t, ap path_count e)
 
   -- the fewest runs of any order and turning are R - m + E + O/2
-  pub fewest-runs : FewestRuns c (least_runs c)
-  fewest-runs =
+  pub fewest_runs : FewestRuns c (least_runs c)
+  fewest_runs =
       let es : List Ends = end_weights c in
       let r = one_reaches es in
       record {
         none_fewer = λ places perm. omega
-            (arith, runs-at places perm, enough, none_fewer es places (subst (λ (n : ℕ). SignedPermutation n places) (sym end-count) perm));
+            (arith, runs_at_lem places perm, enough, none_fewer es places (subst (λ (n : ℕ). SignedPermutation n places) (sym end_count) perm));
         reached = (
           r.0,
-          subst (λ (n : ℕ). SignedPermutation n r.0) end-count r.1,
-          omega (arith, runs-at r.0 (subst (λ (n : ℕ). SignedPermutation n r.0) end-count r.1), enough, r.2),
+          subst (λ (n : ℕ). SignedPermutation n r.0) end_count r.1,
+          omega (arith, runs_at_lem r.0 (subst (λ (n : ℕ). SignedPermutation n r.0) end_count r.1), enough, r.2),
         );
       }
 
   -- places with the least number of paths, as COVER gives them, have the fewest runs
-  pub cover-fewest : (places : List ℤ) → Fewest (end_weights c) places → runs_at c places ≡ least_runs c
-  cover-fewest places f = omega (arith, runs-at places (subst (λ (n : ℕ). SignedPermutation n places) end-count f.permutation), enough, f.fewest)
+  pub cover_fewest : (places : List ℤ) → Fewest (end_weights c) places → runs_at c places ≡ least_runs c
+  cover_fewest places f = omega (arith, runs_at_lem places (subst (λ (n : ℕ). SignedPermutation n places) end_count f.permutation), enough, f.fewest)
 
 -- with no strings all three numbers are 0
 pub none-zero : (k : ℕ) → (least_runs (collection k [] [] []) ≡ 0) × (runs_at (collection k [] [] []) [] ≡ 0)

@@ -39,19 +39,19 @@ module _ {m : ℕ} {t₀ : Tables} {s z₀ : ℕ} {t : Tables} {n z here : ℕ} 
       held-left : held (set t.stack (z - 1) back) (n - 1) ≡ held t.stack (n - 1)
       held-left = held-other t.stack (n - 1) (z - 1) back (omega (arith, g.room))
 
-      given-more : drop (z - 1) (set t.stack (z - 1) back) ≡ back ∷ drop z t.stack
-      given-more = drop_stored t.stack z back (λ e. omega (arith, g.room)) (omega (arith, g.between.high, g.between.stack_size))
+      given_more : drop (z - 1) (set t.stack (z - 1) back) ≡ back ∷ drop z t.stack
+      given_more = drop_stored t.stack z back (λ e. omega (arith, g.room)) (omega (arith, g.between.high, g.between.stack_size))
 
       listed_back : (e : ℕ) → e < m
           → occurs e (numbers (held (set t.stack (z - 1) back) (n - 1))) + occurs e (numbers (drop (z - 1) (set t.stack (z - 1) back)))
           ≡ get_or t.used e 0
       unfolding occurs
-      listed_back e b = rw (held-left, given-more) (omega (arith, rw held_was at (g.between.listed e b)))
+      listed_back e b = rw (held-left, given_more) (omega (arith, rw held_was at (g.between.listed e b)))
 
       -- and the walk stands where that half started
-      pub going-back : Going m t₀ s z₀ (returned t (n - 1) (z - 1)) (n - 1) (z - 1) (near m t.verts (get_or t.stack (n - 1) 0))
+      pub going_back : Going m t₀ s z₀ (returned t (n - 1) (z - 1)) (n - 1) (z - 1) (near m t.verts (get_or t.stack (n - 1) 0))
       unfolding back
-      going-back = record {
+      going_back = record {
         same = record { verts = g.same.verts; rows = g.same.rows };
         between = record {
           graph = g.between.graph;
@@ -68,7 +68,7 @@ module _ {m : ℕ} {t₀ : Tables} {s z₀ : ℕ} {t : Tables} {n z here : ℕ} 
         here_low = near_low g.between.graph back (g.codes (n - 1) (omega arith));
         grown = g.grown;
         Z = back ∷ g.Z;
-        gave = given-more ∙ ap (λ (L : List ℕ). back ∷ L) g.gave;
+        gave = given_more ∙ ap (λ (L : List ℕ). back ∷ L) g.gave;
         z_at = near m t.verts back;
         state =
             subst (λ (T : List ℕ). Walk s (unused (near m t.verts) 0 t₀.used) (left m t) (along m t T) (near m t.verts back) (along m t (back ∷ g.Z))
@@ -79,9 +79,9 @@ module _ {m : ℕ} {t₀ : Tables} {s z₀ : ℕ} {t : Tables} {n z here : ℕ} 
       }
 
     -- or the walk is closed
-    pub going-closed : n ≡ 0 → Walked m t₀ t s z₀ z
+    pub going_closed : n ≡ 0 → Walked m t₀ t s z₀ z
     unfolding held
-    going-closed e =
+    going_closed e =
         let k = walk-closed
         (subst (λ (j : ℕ). Walk s (unused (near m t.verts) 0 t₀.used) (left m t) (along m t (held t.stack j)) here (along m t g.Z) g.z_at) e
         g.state) none_here in
@@ -103,11 +103,11 @@ module _ {m : ℕ} {t₀ : Tables} {s z₀ : ℕ} {t : Tables} {n z here : ℕ} 
 -- The same for the table u that the code leaves.
 module _ {m : ℕ} {t₀ : Tables} {s z₀ : ℕ} {t : Tables} {n z here c : ℕ} (g : Going m t₀ s z₀ t n z here) (a : Answer m t here c) where
   -- a half was given back
-  pub going-gave : {u : Tables} {h : ℕ} → 6 * m ≤ c → (n ≡ 0 → ⊥) → u ≡ returned t (n - 1) (z - 1) → h ≡ near m t.verts (get_or t.stack (n - 1) 0)
+  pub going_gave : {u : Tables} {h : ℕ} → 6 * m ≤ c → (n ≡ 0 → ⊥) → u ≡ returned t (n - 1) (z - 1) → h ≡ near m t.verts (get_or t.stack (n - 1) 0)
       → Going m t₀ s z₀ u (n - 1) (z - 1) h
-  going-gave {u} {h} l some e q =
+  going_gave {u} {h} l some e q =
       subst (λ (x : Tables). Going m t₀ s z₀ x (n - 1) (z - 1) h) (sym e)
-      (subst (λ (y : ℕ). Going m t₀ s z₀ (returned t (n - 1) (z - 1)) (n - 1) (z - 1) y) (sym q) (going-back g c a l some))
+      (subst (λ (y : ℕ). Going m t₀ s z₀ (returned t (n - 1) (z - 1)) (n - 1) (z - 1) y) (sym q) (going_back g c a l some))
 
   -- and the same is unused
   pub gave_left : {u : Tables} → u ≡ returned t (n - 1) (z - 1) → left m u ≡ left m t

@@ -49,8 +49,8 @@ going_start {m} {t} {z} s l r = record {
 
 module _ {m : ℕ} {t₀ : Tables} {s z₀ : ℕ} {t : Tables} {n z here : ℕ} (g : Going m t₀ s z₀ t n z here) where
   -- a cursor moves
-  going-moved : (v e : ℕ) → Cursors m (moved t v e) → Going m t₀ s z₀ (moved t v e) n z here
-  going-moved v e k = record {
+  going_moved : (v e : ℕ) → Cursors m (moved t v e) → Going m t₀ s z₀ (moved t v e) n z here
+  going_moved v e k = record {
     same = record { verts = g.same.verts; rows = g.same.rows };
     between = record {
       graph = g.between.graph;
@@ -73,9 +73,9 @@ module _ {m : ℕ} {t₀ : Tables} {s z₀ : ℕ} {t : Tables} {n z here : ℕ} 
   }
 
   -- a search for an unused half moves one cursor
-  pub going-found : {u : Tables} {v r : ℕ} → Found m t u v r → Going m t₀ s z₀ u n z here × Answer m u v r
-  going-found {u} {v} {r} f = (
-    subst (λ (x : Tables). Going m t₀ s z₀ x n z here) (sym f.moves) (going-moved v f.cursor (subst (Cursors m) f.moves f.kept)),
+  pub going_found : {u : Tables} {v r : ℕ} → Found m t u v r → Going m t₀ s z₀ u n z here × Answer m u v r
+  going_found {u} {v} {r} f = (
+    subst (λ (x : Tables). Going m t₀ s z₀ x n z here) (sym f.moves) (going_moved v f.cursor (subst (Cursors m) f.moves f.kept)),
     subst (λ (x : Tables). Answer m x v r) (sym f.moves) f.answer,
   )
 

@@ -22,42 +22,42 @@ module _ (m : ℕ) (verts : List ℕ) (c : ℕ) where
   near-string h = rw (lt-ltb c (2 * m) h)
 
   -- an even half of a spoke starts at the hub
-  pub near-hub : 2 * m ≤ c → c % 2 ≡ 0 → near m verts c ≡ 2 * m
+  pub near_hub : 2 * m ≤ c → c % 2 ≡ 0 → near m verts c ≡ 2 * m
   unfolding near
-  near-hub h e = rw (le-ltb c (2 * m) h, eq-eqb (c % 2) 0 e)
+  near_hub h e = rw (le-ltb c (2 * m) h, eq-eqb (c % 2) 0 e)
 
   -- an odd one at the spoke's vertex
-  pub near-spoke : 2 * m ≤ c → (c % 2 ≡ 0 → ⊥) → near m verts c ≡ c / 2 - m
+  pub near_spoke : 2 * m ≤ c → (c % 2 ≡ 0 → ⊥) → near m verts c ≡ c / 2 - m
   unfolding near
-  near-spoke h e = rw (le-ltb c (2 * m) h, ne_eqb (c % 2) 0 e)
+  near_spoke h e = rw (le-ltb c (2 * m) h, ne_eqb (c % 2) 0 e)
 
 -- ─── one more is used ────────────────────────────────────────────────────────
 
 module _ (f : ℕ → ℕ) where
-  use-one : (e : ℕ) (flags : List ℕ) (i : ℕ) → i < length flags → get_or flags i 0 ≡ 0
+  use_one : (e : ℕ) (flags : List ℕ) (i : ℕ) → i < length flags → get_or flags i 0 ≡ 0
       → Reordered (unused f e flags) ((f (2 * (e + i)), f (2 * (e + i) + 1)) ∷ unused f e (set flags i 1))
   unfolding unused
-  use-one e [] i l z = absurd (omega arith)
-  use-one e (zero ∷ flags) zero l z = let q : e + 0 ≡ e = omega arith in rw q (unmoved _)
-  use-one e (zero ∷ flags) (suc i) l z =
+  use_one e [] i l z = absurd (omega arith)
+  use_one e (zero ∷ flags) zero l z = let q : e + 0 ≡ e = omega arith in rw q (unmoved _)
+  use_one e (zero ∷ flags) (suc i) l z =
       let q : e + suc i ≡ suc e + i = omega arith in
-      rw q (both (keep (use-one (suc e) flags i (omega arith) z)) exchange)
-  use-one e (suc n ∷ flags) zero l z = absurd (omega arith)
-  use-one e (suc n ∷ flags) (suc i) l z = let q : e + suc i ≡ suc e + i = omega arith in rw q (use-one (suc e) flags i (omega arith) z)
+      rw q (both (keep (use_one (suc e) flags i (omega arith) z)) exchange)
+  use_one e (suc n ∷ flags) zero l z = absurd (omega arith)
+  use_one e (suc n ∷ flags) (suc i) l z = let q : e + suc i ≡ suc e + i = omega arith in rw q (use_one (suc e) flags i (omega arith) z)
 
   -- number i is used, as it is gone along from its half c
-  use-at : (flags : List ℕ) (i a b : ℕ) → i < length flags → get_or flags i 0 ≡ 0 → 2 * (0 + i) ≡ a → 2 * (0 + i) + 1 ≡ b
+  use_at : (flags : List ℕ) (i a b : ℕ) → i < length flags → get_or flags i 0 ≡ 0 → 2 * (0 + i) ≡ a → 2 * (0 + i) + 1 ≡ b
       → Reordered (unused f 0 flags) ((f a, f b) ∷ unused f 0 (set flags i 1))
-  use-at flags i a b l z p q = rw (q, p) at (use-one 0 flags i l z)
+  use_at flags i a b l z p q = rw (q, p) at (use_one 0 flags i l z)
 
   -- the half c is used, and the others stay
-  pub use-half : (flags : List ℕ) (c : ℕ) → c / 2 < length flags → get_or flags (c / 2) 0 ≡ 0
+  pub use_half : (flags : List ℕ) (c : ℕ) → c / 2 < length flags → get_or flags (c / 2) 0 ≡ 0
       → Reordered (unused f 0 flags) (gone f c ∷ unused f 0 (set flags (c / 2) 1))
-  use-half flags c l z = go (ℕ_discrete (c % 2) 0)
+  use_half flags c l z = go (ℕ_discrete (c % 2) 0)
     where
       go : Dec (c % 2 ≡ 0) → Reordered (unused f 0 flags) (gone f c ∷ unused f 0 (set flags (c / 2) 1))
-      go (yes p) = use-at flags (c / 2) c (other c) l z (omega arith) (omega arith)
-      go (no p) = both (use-at flags (c / 2) (other c) c l z (omega arith) (omega arith)) (turn (unmoved (unused f 0 (set flags (c / 2) 1))))
+      go (yes p) = use_at flags (c / 2) c (other c) l z (omega arith) (omega arith)
+      go (no p) = both (use_at flags (c / 2) (other c) c l z (omega arith) (omega arith)) (turn (unmoved (unused f 0 (set flags (c / 2) 1))))
 
   -- there are n of them
   pub length-numbered : (e n : ℕ) → length (numbered f e n) ≡ n
@@ -95,4 +95,4 @@ module _ (f : ℕ → ℕ) where
   -- an unused one does
   pub some-unused : (flags : List ℕ) (c : ℕ) → c / 2 < length flags → get_or flags (c / 2) 0 ≡ 0 → 1 ≤ occurs (f c) (weights (unused f 0 flags))
   unfolding occurs weights
-  some-unused flags c l z = omega (arith, occurs-reordered (use-half flags c l z) (f c), agree_same (f c) (f c) refl)
+  some-unused flags c l z = omega (arith, occurs-reordered (use_half flags c l z) (f c), agree_same (f c) (f c) refl)

@@ -48,8 +48,8 @@ module _ {m : ℕ} {w : List ℕ} (f : Fits m w) where
 
 module _ (m : ℕ) (w : List ℕ) where
   -- a store among the cursors
-  pub tables-cursor : (v x : ℕ) → v < 3 * m → tables m (set w (9 * m + v) x) ≡ moved (tables m w) v x
-  tables-cursor v x h = λ j. record {
+  pub tables_cursor : (v x : ℕ) → v < 3 * m → tables m (set w (9 * m + v) x) ≡ moved (tables m w) v x
+  tables_cursor v x h = λ j. record {
     verts = part-set-other 0 (2 * m) (9 * m) (3 * m) w v x (inl (omega arith)) h j;
     used = part-set-other (2 * m) (3 * m) (9 * m) (3 * m) w v x (inl (omega arith)) h j;
     rows = part-set-other (5 * m) (4 * m) (9 * m) (3 * m) w v x (inl (omega arith)) h j;
@@ -57,7 +57,7 @@ module _ (m : ℕ) (w : List ℕ) where
     stack = part-set-other (12 * m) (3 * m) (9 * m) (3 * m) w v x (inr (omega arith)) h j;
   }
 
-  tables-used : (e x : ℕ) → e < 3 * m → tables m (set w (2 * m + e) x)
+  tables_used : (e x : ℕ) → e < 3 * m → tables m (set w (2 * m + e) x)
       ≡ record {
         verts =
             (tables m w).verts;
@@ -66,7 +66,7 @@ module _ (m : ℕ) (w : List ℕ) where
         cursors = (tables m w).cursors;
         stack = (tables m w).stack;
       }
-  tables-used e x h = λ j. record {
+  tables_used e x h = λ j. record {
     verts = part-set-other 0 (2 * m) (2 * m) (3 * m) w e x (inl (omega arith)) h j;
     used = part-set (2 * m) (3 * m) w e x h j;
     rows = part-set-other (5 * m) (4 * m) (2 * m) (3 * m) w e x (inr (omega arith)) h j;
@@ -74,7 +74,7 @@ module _ (m : ℕ) (w : List ℕ) where
     stack = part-set-other (12 * m) (3 * m) (2 * m) (3 * m) w e x (inr (omega arith)) h j;
   }
 
-  tables-stack : (n x : ℕ) → n < 3 * m → tables m (set w (12 * m + n) x)
+  tables_stack : (n x : ℕ) → n < 3 * m → tables m (set w (12 * m + n) x)
       ≡ record {
         verts =
             (tables m w).verts;
@@ -83,7 +83,7 @@ module _ (m : ℕ) (w : List ℕ) where
         cursors = (tables m w).cursors;
         stack = set (tables m w).stack n x;
       }
-  tables-stack n x h = λ j. record {
+  tables_stack n x h = λ j. record {
     verts = part-set-other 0 (2 * m) (12 * m) (3 * m) w n x (inl (omega arith)) h j;
     used = part-set-other (2 * m) (3 * m) (12 * m) (3 * m) w n x (inl (omega arith)) h j;
     rows = part-set-other (5 * m) (4 * m) (12 * m) (3 * m) w n x (inl (omega arith)) h j;
@@ -93,11 +93,11 @@ module _ (m : ℕ) (w : List ℕ) where
 
   -- a half copied within the stack
   pub tables-returned : (n z : ℕ) → n < 3 * m → z < 3 * m → tables m (set w (12 * m + z) (get_or w (12 * m + n) 0)) ≡ returned (tables m w) n z
-  tables-returned n z h g = rw (stack_at m w n h) (tables-stack z (get_or (tables m w).stack n 0) g)
+  tables-returned n z h g = rw (stack_at m w n h) (tables_stack z (get_or (tables m w).stack n 0) g)
 
 -- a flag set and a half put on the stack
 pub tables-taken : (m : ℕ) (w : List ℕ) (n c : ℕ) → n < 3 * m → c / 2 < 3 * m → tables m (set (set w (2 * m + c / 2) 1) (12 * m + n) c) ≡ taken (tables m w) n c
 tables-taken m w n c h g =
-    tables-stack m (set w (2 * m + c / 2) 1) n c h
+    tables_stack m (set w (2 * m + c / 2) 1) n c h
     ∙ ap (λ (t : Tables). record { verts = t.verts; used = t.used; rows = t.rows; cursors = t.cursors; stack = set t.stack n c })
-    (tables-used m w (c / 2) 1 g)
+    (tables_used m w (c / 2) 1 g)

@@ -12,7 +12,7 @@ use Rattle.cover_tours.specs.Halves.{near}
 use Rattle.cover_tours.specs.Rows.{InRow, Graph, Passed, Cursor, Cursors, Sought, Answer}
 use Rattle.cover_tours.specs.States.{moved, taken}
 use Rattle.cover_tours.proofs.Entries.{still_used}
-use Rattle.cover_tours.proofs.Halves.{near-string, near-hub, near-spoke, none-unused}
+use Rattle.cover_tours.proofs.Halves.{near-string, near_hub, near_spoke, none-unused}
 
 -- every half starts at a vertex or at the hub
 pub near_low : {m : ℕ} {verts rows : List ℕ} → Graph m verts rows → (c : ℕ) → c < 6 * m → near m verts c ≤ 2 * m
@@ -20,8 +20,8 @@ near_low {m} {verts} g c l = go (dec_lt c (2 * m)) (ℕ_discrete (c % 2) 0)
   where
     go : Dec (c < 2 * m) → Dec (c % 2 ≡ 0) → near m verts c ≤ 2 * m
     go (yes p) d = rw (near-string m verts c p) (omega (arith, g.verts_low c p))
-    go (no p) (yes d) = rw (near-hub m verts c (omega arith) d) (omega arith)
-    go (no p) (no d) = rw (near-spoke m verts c (omega arith) d) (omega arith)
+    go (no p) (yes d) = rw (near_hub m verts c (omega arith) d) (omega arith)
+    go (no p) (no d) = rw (near_spoke m verts c (omega arith) d) (omega arith)
 
 -- a search goes on past a half that is used
 pub passed_more : {rows used : List ℕ} {p e : ℕ} → Passed rows used p e → (get_or used (get_or rows e 0 / 2) 0 ≡ 0 → ⊥) → Passed rows used p (e + 1)
@@ -41,8 +41,8 @@ module _ {m : ℕ} {t : Tables} {v e : ℕ} (c : Cursor m t.rows t.used v (get_o
       go q k l z (no i) = s.passed.all_used q (omega arith) l z
 
   -- the cursor moves to where it stopped
-  pub cursors-moved : Cursors m t → v < length t.cursors → Cursors m (moved t v e)
-  cursors-moved all b x l = go (ℕ_discrete x v)
+  pub cursors_moved : Cursors m t → v < length t.cursors → Cursors m (moved t v e)
+  cursors_moved all b x l = go (ℕ_discrete x v)
     where
       go : Dec (x ≡ v) → Cursor m t.rows t.used x (get_or (set t.cursors v e) x 0)
       go (yes p) = rw (p, get_or-set_same t.cursors v e 0 b) (record { low = omega (arith, c.low, s.low); high = s.high; passed = passed-all })
@@ -67,7 +67,7 @@ module _ {m : ℕ} {t : Tables} {v e : ℕ} (c : Cursor m t.rows t.used v (get_o
       go h b z q (yes l) d = in_row h z q (g.in_row h b (inl l))
       go h b z q (no l) (yes d) = in_row h z q (g.in_row h b (inr d))
       go h b z q (no l) (no d) =
-          let w : h / 2 - m ≡ v = sym (near-spoke m t.verts h (omega arith) d) ∙ q in
+          let w : h / 2 - m ≡ v = sym (near_spoke m t.verts h (omega arith) d) ∙ q in
           let k : h / 2 ≡ m + v = omega arith in
           own (omega arith) (rw k at z)
 
@@ -79,7 +79,7 @@ module _ {m : ℕ} {t : Tables} {v e : ℕ} (c : Cursor m t.rows t.used v (get_o
 pub own_spoke : (m : ℕ) (t : Tables) (v : ℕ) → v < 2 * m → get_or t.used (m + v) 0 ≡ 0 → Answer m t v (2 * (m + v) + 1)
 own_spoke m t v l z =
     let a : (2 * (m + v) + 1) / 2 ≡ m + v = omega arith in
-    inr (omega arith, rw a z, near-spoke m t.verts (2 * (m + v) + 1) (omega arith) (λ e. omega arith) ∙ omega arith)
+    inr (omega arith, rw a z, near_spoke m t.verts (2 * (m + v) + 1) (omega arith) (λ e. omega arith) ∙ omega arith)
 
 -- cursors stay right when a half is taken
 pub cursors_used : (m : ℕ) (t : Tables) (n c : ℕ) → c / 2 < length t.used → Cursors m t → Cursors m (taken t n c)

@@ -15,7 +15,7 @@ use Rattle.cover_tours.specs.Layout.{Tables}
 use Rattle.cover_tours.specs.Halves.{near, gone, unused, numbered}
 use Rattle.cover_tours.specs.Rows.{Graph}
 use Rattle.cover_tours.specs.States.{Same, left, along, Walked, strings, Begun, Touring, Visited, Done}
-use Rattle.cover_tours.proofs.Halves.{near-string, near-hub, some-unused}
+use Rattle.cover_tours.proofs.Halves.{near-string, near_hub, some-unused}
 
 -- no string touches the hub
 hub_off : (f : ℕ → ℕ) (h e n : ℕ) → ((c : ℕ) → c < 2 * (e + n) → f c ≡ h → ⊥) → occurs h (weights (numbered f e n)) ≡ 0
@@ -68,25 +68,25 @@ touring_first {m} {t} {u} {r} b w = record {
 -- ─── a visit ─────────────────────────────────────────────────────────────────
 
 module _ {m : ℕ} {t : Tables} {z walks : ℕ} (k : Touring m t z walks) (i : ℕ) (l : i < m) where
-  in-flags : (2 * i) / 2 < length t.used
-  in-flags = omega (arith, k.ready.between.used_size)
+  in_flags : (2 * i) / 2 < length t.used
+  in_flags = omega (arith, k.ready.between.used_size)
 
   -- to a string that is used
-  pub visited-used : (get_or t.used i 0 ≡ 0 → ⊥) → Visited m t t i z walks
-  visited-used h = record { same = record { verts = refl; rows = refl }; touring = k; grown = λ e q. q; is_used = h }
+  pub visited_used : (get_or t.used i 0 ≡ 0 → ⊥) → Visited m t t i z walks
+  visited_used h = record { same = record { verts = refl; rows = refl }; touring = k; grown = λ e q. q; is_used = h }
 
   -- to one that is not: a later walk
   module _ (h : get_or t.used i 0 ≡ 0) where
     -- the walk starts at a vertex
-    pub at-vertex : near m t.verts (2 * i) ≤ 2 * m
-    at-vertex = rw (near-string m t.verts (2 * i) (omega arith)) (omega (arith, k.ready.between.graph.verts_low (2 * i) (omega arith)))
+    pub at_vertex : near m t.verts (2 * i) ≤ 2 * m
+    at_vertex = rw (near-string m t.verts (2 * i) (omega arith)) (omega (arith, k.ready.between.graph.verts_low (2 * i) (omega arith)))
 
-    is-left : 1 ≤ occurs (near m t.verts (2 * i)) (weights (left m t))
-    is-left = let e : (2 * i) / 2 ≡ i = omega arith in some-unused (near m t.verts) t.used (2 * i) in-flags (rw e h)
+    is_left : 1 ≤ occurs (near m t.verts (2 * i)) (weights (left m t))
+    is_left = let e : (2 * i) / 2 ≡ i = omega arith in some-unused (near m t.verts) t.used (2 * i) in_flags (rw e h)
 
     module _ {u : Tables} {r : ℕ} (w : Walked m t u (near m t.verts (2 * i)) z r) where
-      now-used : get_or u.used i 0 ≡ 0 → ⊥
-      now-used q =
+      now_used : get_or u.used i 0 ≡ 0 → ⊥
+      now_used q =
           let e : (2 * i) / 2 ≡ i = omega arith in
           omega (
             arith,
@@ -95,8 +95,8 @@ module _ {m : ℕ} {t : Tables} {z walks : ℕ} (k : Touring m t z walks) (i : �
             ap (λ (vs : List ℕ). occurs (near m vs (2 * i)) (weights (left m u))) w.same.verts,
           )
 
-      visited-walk : Visited m t u i r (walks + 1)
-      visited-walk = record {
+      visited_walk : Visited m t u i r (walks + 1)
+      visited_walk = record {
         same = w.same;
         touring = record {
           ready = w.ready;
@@ -105,15 +105,15 @@ module _ {m : ℕ} {t : Tables} {z walks : ℕ} (k : Touring m t z walks) (i : �
               subst (λ (j : ℕ). Toured (2 * m) (strings m u) j (left m u) (along m u (drop r u.stack))) (sym e)
               (subst (λ (ss : List Ends). Toured (2 * m) ss (suc walks) (left m u) (along m u (drop r u.stack))) (sym (same-strings m w.same))
               (subst (λ (Y : List Ends). Toured (2 * m) (strings m t) (suc walks) (left m u) Y) (sym (gave_along w))
-              (later-walk (hub_fresh m t k.ready.between.graph) k.toured (near m t.verts (2 * i)) is-left w.closed)));
+              (later-walk (hub_fresh m t k.ready.between.graph) k.toured (near m t.verts (2 * i)) is_left w.closed)));
         };
         grown = w.grown;
-        is_used = now-used;
+        is_used = now_used;
       }
 
     -- and makes one walk more
-    pub visited-from : {u : Tables} {s r : ℕ} → s ≡ near m t.verts (2 * i) → Walked m t u s z r → Visited m t u i r (walks + 1)
-    visited-from {u} {s} {r} q w = visited-walk (subst (λ (x : ℕ). Walked m t u x z r) q w)
+    pub visited_from : {u : Tables} {s r : ℕ} → s ≡ near m t.verts (2 * i) → Walked m t u s z r → Visited m t u i r (walks + 1)
+    visited_from {u} {s} {r} q w = visited_walk (subst (λ (x : ℕ). Walked m t u x z r) q w)
 
 -- one more string is used
 pub visits_more : {m : ℕ} {t u : Tables} {i z walks : ℕ} → Visited m t u i z walks → ((e : ℕ) → e < i → get_or t.used e 0 ≡ 0 → ⊥) → (e : ℕ) → e < i + 1
@@ -149,19 +149,19 @@ tour_done {m} {t} {u} {z} {walks} s k h = record {
   once = λ e l. unfold occurs in (omega (arith, k.ready.between.listed e l, k.ready.between.flags e, one e l));
 }
   where
-    spoke-used : (e : ℕ) → m ≤ e → e < 3 * m → get_or u.used e 0 ≡ 0 → ⊥
-    spoke-used e a b q =
+    spoke_used : (e : ℕ) → m ≤ e → e < 3 * m → get_or u.used e 0 ≡ 0 → ⊥
+    spoke_used e a b q =
         let d : (2 * e) / 2 ≡ e = omega arith in
         omega (
           arith,
           some-unused (near m u.verts) u.used (2 * e) (omega (arith, k.ready.between.used_size)) (rw d q),
           k.toured.hub_spent,
-          ap (λ (v : ℕ). occurs v (weights (left m u))) (near-hub m u.verts (2 * e) (omega arith) (omega arith)),
+          ap (λ (v : ℕ). occurs v (weights (left m u))) (near_hub m u.verts (2 * e) (omega arith) (omega arith)),
         )
 
     all_used : (e : ℕ) → e < length u.used → Dec (e < m) → get_or u.used e 0 ≡ 0 → ⊥
     all_used e l (yes p) = h e p
-    all_used e l (no p) = spoke-used e (omega arith) (omega (arith, k.ready.between.used_size))
+    all_used e l (no p) = spoke_used e (omega arith) (omega (arith, k.ready.between.used_size))
 
     empty : left m u ≡ []
     empty = none_left (near m u.verts) 0 u.used (λ e l. all_used e l (dec_lt e m))

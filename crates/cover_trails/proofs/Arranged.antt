@@ -12,14 +12,14 @@ use lib.Seq.{take-suc, take_all, get_or-append-add}
 use borrow.Author.Tests.{eq-eqb, ne_eqb}
 use Rattle.lists.specs.Choose.{choose}
 use Rattle.lists.specs.Every.{All}
-use Rattle.lists.proofs.Every.{all-at, at_all}
-use Rattle.lists.proofs.Mapped.{map_at, map-at-below, map-all}
+use Rattle.lists.proofs.Every.{all_at, at_all}
+use Rattle.lists.proofs.Mapped.{map_at, map_at_below, map-all}
 use Rattle.lists.specs.Count.{agree}
 use Rattle.cover_trails.specs.Counting.{occurs}
 use Rattle.cover_trails.specs.Places.{is_turned, signed, SignedPermutation, turned_by, standing, arranged_to, arranged}
 use Rattle.lists.proofs.Agree.{agree_same, agree-other, agree_le}
 use Rattle.cover_trails.proofs.Counting.{occurs_at, occurs_where}
-use Rattle.cover_trails.proofs.Once.{once-if-used, range-if-used, once-if-apart}
+use Rattle.cover_trails.proofs.Once.{once_if_used, range_if_used, once_if_apart}
 
 -- ─── a place from its number and its sign ────────────────────────────────────
 
@@ -39,24 +39,24 @@ turned-signed (suc n) false l = refl
 
 module _ (m : ℕ) (places : List ℤ) (number : length places ≡ m) where
   -- if each of 1 to m is used
-  pub permutation-if-used : ((k : ℕ) → 1 ≤ k → k ≤ m → 1 ≤ occurs k (map nat_abs places)) → SignedPermutation m places
-  permutation-if-used h =
+  pub permutation_if_used : ((k : ℕ) → 1 ≤ k → k ≤ m → 1 ≤ occurs k (map nat_abs places)) → SignedPermutation m places
+  permutation_if_used h =
       let size : length (map nat_abs places) ≡ m = length-map places nat_abs ∙ number in
       record {
         number = number;
         range = at_all (λ p. (1 ≤ nat_abs p) × (nat_abs p ≤ m)) (pos 0) places (λ i l. within_range i l size);
-        once = once-if-used m (map nat_abs places) size h;
+        once = once_if_used m (map nat_abs places) size h;
       }
     where
       within_range : (i : ℕ) → i < length places → length (map nat_abs places) ≡ m → (1 ≤ nat_abs (get_or places i (pos 0))) × (nat_abs (get_or places i (pos 0)) ≤ m)
-      within_range i l size = rw (map_at nat_abs (pos 0) places i) at (range-if-used m (map nat_abs places) size h i (omega arith))
+      within_range i l size = rw (map_at nat_abs (pos 0) places i) at (range_if_used m (map nat_abs places) size h i (omega arith))
 
   -- or if all are from 1 to m and none is used twice
-  pub permutation-if-apart : All (λ p. (1 ≤ nat_abs p) × (nat_abs p ≤ m)) places → ((k : ℕ) → occurs k (map nat_abs places) ≤ 1) → SignedPermutation m places
-  permutation-if-apart range h = record {
+  pub permutation_if_apart : All (λ p. (1 ≤ nat_abs p) × (nat_abs p ≤ m)) places → ((k : ℕ) → occurs k (map nat_abs places) ≤ 1) → SignedPermutation m places
+  permutation_if_apart range h = record {
     number = number;
     range = range;
-    once = once-if-apart m (map nat_abs places) (length-map places nat_abs ∙ number) (map-all (λ k. (1 ≤ k) × (k ≤ m)) nat_abs places range) h;
+    once = once_if_apart m (map nat_abs places) (length-map places nat_abs ∙ number) (map-all (λ k. (1 ≤ k) × (k ≤ m)) nat_abs places range) h;
   }
 
 -- ─── the strings at one place ────────────────────────────────────────────────
@@ -68,115 +68,115 @@ module _ {A : Type 0} (turn : A → A) (k : ℕ) (p : ℤ) (places : List ℤ) (
   standing_here e = rw (eq-eqb k (nat_abs p) e)
 
   -- another does not
-  pub standing-other : (k ≡ nat_abs p → ⊥) → standing turn k (p ∷ places) (x ∷ xs) ≡ standing turn k places xs
+  pub standing_other : (k ≡ nat_abs p → ⊥) → standing turn k (p ∷ places) (x ∷ xs) ≡ standing turn k places xs
   unfolding standing
-  standing-other h = rw (ne_eqb k (nat_abs p) h)
+  standing_other h = rw (ne_eqb k (nat_abs p) h)
 
 module _ {A : Type 0} (turn : A → A) (k : ℕ) where
   -- where no string has the place, none stands there
-  standing-none : (places : List ℤ) (xs : List A) → occurs k (map nat_abs places) ≡ 0 → standing turn k places xs ≡ []
+  standing_none : (places : List ℤ) (xs : List A) → occurs k (map nat_abs places) ≡ 0 → standing turn k places xs ≡ []
   unfolding standing occurs
-  standing-none [] xs h = refl
-  standing-none (p ∷ places) [] h = refl
-  standing-none (p ∷ places) (x ∷ xs) h =
+  standing_none [] xs h = refl
+  standing_none (p ∷ places) [] h = refl
+  standing_none (p ∷ places) (x ∷ xs) h =
       let off : k ≡ nat_abs p → ⊥ = λ e. omega (arith, agree_same k (nat_abs p) e) in
-      standing-other turn k p places x xs off ∙ standing-none places xs (omega arith)
+      standing_other turn k p places x xs off ∙ standing_none places xs (omega arith)
 
   -- as many stand there as have the place
-  pub length-standing : (places : List ℤ) (xs : List A) → length xs ≡ length places → length (standing turn k places xs) ≡ occurs k (map nat_abs places)
+  pub length_standing : (places : List ℤ) (xs : List A) → length xs ≡ length places → length (standing turn k places xs) ≡ occurs k (map nat_abs places)
   unfolding occurs standing
-  length-standing [] xs l = refl
-  length-standing (p ∷ places) [] l = absurd (omega arith)
-  length-standing (p ∷ places) (x ∷ xs) l = go (ℕ_discrete k (nat_abs p)) (length-standing places xs (omega arith))
+  length_standing [] xs l = refl
+  length_standing (p ∷ places) [] l = absurd (omega arith)
+  length_standing (p ∷ places) (x ∷ xs) l = go (ℕ_discrete k (nat_abs p)) (length_standing places xs (omega arith))
     where
       go : Dec (k ≡ nat_abs p) → length (standing turn k places xs) ≡ occurs k (map nat_abs places)
           → length (standing turn k (p ∷ places) (x ∷ xs)) ≡ agree k (nat_abs p) + occurs k (map nat_abs places)
       go (yes e) ih = rw (standing_here turn k p places x xs e) (omega (arith, agree_same k (nat_abs p) e))
-      go (no q) ih = rw (standing-other turn k p places x xs q) (omega (arith, agree-other k (nat_abs p) q))
+      go (no q) ih = rw (standing_other turn k p places x xs q) (omega (arith, agree-other k (nat_abs p) q))
 
   -- a place that is used once has its one string
-  pub standing-at : (d : A) (places : List ℤ) (xs : List A) → length xs ≡ length places → occurs k (map nat_abs places) ≡ 1
+  pub standing_at : (d : A) (places : List ℤ) (xs : List A) → length xs ≡ length places → occurs k (map nat_abs places) ≡ 1
       → (i : ℕ) → i < length places → nat_abs (get_or places i (pos 0)) ≡ k
       → standing turn k places xs ≡ turned_by turn (get_or places i (pos 0)) (get_or xs i d) ∷ []
   unfolding occurs
-  standing-at d [] xs l o i b e = absurd (omega arith)
-  standing-at d (p ∷ places) [] l o i b e = absurd (omega arith)
-  standing-at d (p ∷ places) (x ∷ xs) l o zero b e =
+  standing_at d [] xs l o i b e = absurd (omega arith)
+  standing_at d (p ∷ places) [] l o i b e = absurd (omega arith)
+  standing_at d (p ∷ places) (x ∷ xs) l o zero b e =
       standing_here turn k p places x xs (sym e)
-      ∙ ap (λ (L : List A). turned_by turn p x ∷ L) (standing-none places xs (omega (arith, agree_same k (nat_abs p) (sym e))))
-  standing-at d (p ∷ places) (x ∷ xs) l o (suc i) b e =
+      ∙ ap (λ (L : List A). turned_by turn p x ∷ L) (standing_none places xs (omega (arith, agree_same k (nat_abs p) (sym e))))
+  standing_at d (p ∷ places) (x ∷ xs) l o (suc i) b e =
       let later = occurs_at k (map nat_abs places) i (rw (length-map places nat_abs) (omega arith)) (map_at nat_abs (pos 0) places i ∙ e) in
-      standing-other turn k p places x xs (λ q. omega (arith, agree_same k (nat_abs p) q))
-      ∙ standing-at d places xs (omega arith) (omega (arith, agree_le k (nat_abs p))) i (omega arith) e
+      standing_other turn k p places x xs (λ q. omega (arith, agree_same k (nat_abs p) q))
+      ∙ standing_at d places xs (omega arith) (omega (arith, agree_le k (nat_abs p))) i (omega arith) e
 
 -- ─── where each string stands in its new order ───────────────────────────────
 
 module _ {A : Type 0} (turn : A → A) (d : A) (m : ℕ) (places : List ℤ) (xs : List A) (s : SignedPermutation m places) (l : length xs ≡ m) where
-  one-standing : (i n : ℕ) → i < m → nat_abs (get_or places i (pos 0)) ≡ suc n → n < m
+  one_standing : (i n : ℕ) → i < m → nat_abs (get_or places i (pos 0)) ≡ suc n → n < m
       → standing turn (suc n) places xs ≡ turned_by turn (get_or places i (pos 0)) (get_or xs i d) ∷ []
-  one-standing i n b e k =
-      standing-at turn (suc n) d places xs (omega (arith, s.number)) (s.once (suc n) (omega arith) (omega arith)) i (omega (arith, s.number)) e
+  one_standing i n b e k =
+      standing_at turn (suc n) d places xs (omega (arith, s.number)) (s.once (suc n) (omega arith) (omega arith)) i (omega (arith, s.number)) e
 
-  length-arranged-to : (n : ℕ) → n ≤ m → length (arranged_to turn n places xs) ≡ n
+  length-arranged_to : (n : ℕ) → n ≤ m → length (arranged_to turn n places xs) ≡ n
   unfolding arranged_to
-  length-arranged-to zero k = refl
-  length-arranged-to (suc n) k =
+  length-arranged_to zero k = refl
+  length-arranged_to (suc n) k =
       omega (
         arith,
         length-append (arranged_to turn n places xs) (standing turn (suc n) places xs),
-        length-arranged-to n (omega arith),
-        length-standing turn (suc n) places xs (omega (arith, s.number)),
+        length-arranged_to n (omega arith),
+        length_standing turn (suc n) places xs (omega (arith, s.number)),
         s.once (suc n) (omega arith) k,
       )
 
   -- the new order has as many strings
   pub length-arranged : length (arranged turn places xs) ≡ m
-  length-arranged = length-arranged-to (length places) (omega (arith, s.number)) ∙ s.number
+  length-arranged = length-arranged_to (length places) (omega (arith, s.number)) ∙ s.number
 
-  arranged-to-at : (i n : ℕ) → i < m → nat_abs (get_or places i (pos 0)) ≡ suc n → (k : ℕ) → n < k → k ≤ m
+  arranged_to_at : (i n : ℕ) → i < m → nat_abs (get_or places i (pos 0)) ≡ suc n → (k : ℕ) → n < k → k ≤ m
       → get_or (arranged_to turn k places xs) n d ≡ turned_by turn (get_or places i (pos 0)) (get_or xs i d)
   unfolding arranged_to
-  arranged-to-at i n b e zero low high = absurd (omega arith)
-  arranged-to-at i n b e (suc k) low high = go (dec_lt n k) (arranged-to-at i n b e k)
+  arranged_to_at i n b e zero low high = absurd (omega arith)
+  arranged_to_at i n b e (suc k) low high = go (dec_lt n k) (arranged_to_at i n b e k)
     where
       size : length (arranged_to turn k places xs) ≡ k
-      size = length-arranged-to k (omega arith)
+      size = length-arranged_to k (omega arith)
 
       go : Dec (n < k) → (n < k → k ≤ m → get_or (arranged_to turn k places xs) n d ≡ turned_by turn (get_or places i (pos 0)) (get_or xs i d))
           → get_or (arranged_to turn k places xs ++ standing turn (suc k) places xs) n d ≡ turned_by turn (get_or places i (pos 0)) (get_or xs i d)
       go (yes q) ih = get_or-append (arranged_to turn k places xs) (standing turn (suc k) places xs) d n (omega (arith, size)) ∙ ih q (omega arith)
       go (no q) ih =
           let here : n ≡ length (arranged_to turn k places xs) + 0 = omega (arith, size) in
-          rw (here, get_or-append-add, one-standing i k b (omega arith) (omega arith))
+          rw (here, get_or-append-add, one_standing i k b (omega arith) (omega arith))
 
   -- string i stands at its place, turned where the place says so
-  pub arranged-at : (i : ℕ) → i < m
+  pub arranged_at : (i : ℕ) → i < m
       → get_or (arranged turn places xs) (nat_abs (get_or places i (pos 0)) - 1) d ≡ turned_by turn (get_or places i (pos 0)) (get_or xs i d)
-  arranged-at i b =
-      let r = all-at (λ p. (1 ≤ nat_abs p) × (nat_abs p ≤ m)) places s.range i (pos 0) (omega (arith, s.number)) in
-      arranged-to-at i (nat_abs (get_or places i (pos 0)) - 1) b (omega (arith, r)) (length places) (omega (arith, r, s.number)) (omega (arith, s.number))
+  arranged_at i b =
+      let r = all_at (λ p. (1 ≤ nat_abs p) × (nat_abs p ≤ m)) places s.range i (pos 0) (omega (arith, s.number)) in
+      arranged_to_at i (nat_abs (get_or places i (pos 0)) - 1) b (omega (arith, r)) (length places) (omega (arith, r, s.number)) (omega (arith, s.number))
 
   -- An order that has at each place the string of that place is the new order.
   module _ (order : List A) (o : length order ≡ m)
       (has : (n : ℕ) → n < m
       → (i : ℕ) × (i < m) × (nat_abs (get_or places i (pos 0)) ≡ suc n) × (get_or order n d ≡ turned_by turn (get_or places i (pos 0)) (get_or xs i d))) where
-    arranged-to-is : (n : ℕ) → n ≤ m → arranged_to turn n places xs ≡ take n order
+    arranged_to_is : (n : ℕ) → n ≤ m → arranged_to turn n places xs ≡ take n order
     unfolding arranged_to
-    arranged-to-is zero k = refl
-    arranged-to-is (suc n) k =
+    arranged_to_is zero k = refl
+    arranged_to_is (suc n) k =
         let u = has n k in
-        ap₂ (λ (L M : List A). L ++ M) (arranged-to-is n (omega arith)) (one-standing u.0 n u.1 u.2 k ∙ ap (λ (x : A). x ∷ []) (sym u.3))
+        ap₂ (λ (L M : List A). L ++ M) (arranged_to_is n (omega arith)) (one_standing u.0 n u.1 u.2 k ∙ ap (λ (x : A). x ∷ []) (sym u.3))
         ∙ sym (take-suc order n d (omega arith))
 
     -- the new order is that order
-    pub arranged-by-place : arranged turn places xs ≡ order
-    arranged-by-place = arranged-to-is (length places) (omega (arith, s.number)) ∙ take_all (length places) order (omega (arith, s.number))
+    pub arranged_by_place : arranged turn places xs ≡ order
+    arranged_by_place = arranged_to_is (length places) (omega (arith, s.number)) ∙ take_all (length places) order (omega (arith, s.number))
 
   -- And so is one in which each string stands at its place.
-  pub arranged-by-string : (order : List A) → length order ≡ m
+  pub arranged_by_string : (order : List A) → length order ≡ m
       → ((i : ℕ) → i < m → get_or order (nat_abs (get_or places i (pos 0)) - 1) d ≡ turned_by turn (get_or places i (pos 0)) (get_or xs i d))
       → arranged turn places xs ≡ order
-  arranged-by-string order o stands = arranged-by-place order o has
+  arranged_by_string order o stands = arranged_by_place order o has
     where
       has : (n : ℕ) → n < m
           → (i : ℕ) × (i < m) × (nat_abs (get_or places i (pos 0)) ≡ suc n) × (get_or order n d ≡ turned_by turn (get_or places i (pos 0)) (get_or xs i d))
@@ -199,8 +199,8 @@ module _ {A : Type 0} (turn : A → A) (d : A) (m : ℕ) (places : List ℤ) (xs
     (placed : (n : ℕ) → n < m
     → ((get_or marks n (0, false)).0 < m) × (get_or places (get_or marks n (0, false)).0 (pos 0) ≡ signed (suc n) (get_or marks n (0, false)).1)) where
   -- the places are a signed permutation
-  pub marked-permutation : SignedPermutation m places
-  marked-permutation = permutation-if-used m places number used
+  pub marked_permutation : SignedPermutation m places
+  marked_permutation = permutation_if_used m places number used
     where
       used : (k : ℕ) → 1 ≤ k → k ≤ m → 1 ≤ occurs k (map nat_abs places)
       used zero low high = omega arith
@@ -211,7 +211,7 @@ module _ {A : Type 0} (turn : A → A) (d : A) (m : ℕ) (places : List ℤ) (xs
 
   -- and they make the order that the marks name
   pub marked-arranged : arranged turn places xs ≡ map (marked turn d xs) marks
-  marked-arranged = arranged-by-place turn d m places xs marked-permutation l (map (marked turn d xs) marks) (length-map marks (marked turn d xs) ∙ o) has
+  marked-arranged = arranged_by_place turn d m places xs marked_permutation l (map (marked turn d xs) marks) (length-map marks (marked turn d xs) ∙ o) has
     where
       has : (n : ℕ) → n < m
           → (i : ℕ) × (i < m) × (nat_abs (get_or places i (pos 0)) ≡ suc n)
@@ -222,18 +222,18 @@ module _ {A : Type 0} (turn : A → A) (d : A) (m : ℕ) (places : List ℤ) (xs
             (get_or marks n (0, false)).0,
             u.0,
             ap nat_abs u.1 ∙ size_signed (suc n) (get_or marks n (0, false)).1,
-            rw t (map-at-below (marked turn d xs) d (0, false) marks n (omega arith)),
+            rw t (map_at_below (marked turn d xs) d (0, false) marks n (omega arith)),
           )
 
 -- ─── what is done to each string ─────────────────────────────────────────────
 
 -- can be done before or after they are arranged
 module _ {A B : Type 0} (turn_a : A → A) (turn_b : B → B) (f : A → B) (h : (x : A) → f (turn_a x) ≡ turn_b (f x)) where
-  map-standing : (k : ℕ) (places : List ℤ) (xs : List A) → map f (standing turn_a k places xs) ≡ standing turn_b k places (map f xs)
+  map_standing : (k : ℕ) (places : List ℤ) (xs : List A) → map f (standing turn_a k places xs) ≡ standing turn_b k places (map f xs)
   unfolding standing
-  map-standing k [] xs = refl
-  map-standing k (p ∷ places) [] = refl
-  map-standing k (p ∷ places) (x ∷ xs) = go (eqb k (nat_abs p)) (is_turned p) (map-standing k places xs)
+  map_standing k [] xs = refl
+  map_standing k (p ∷ places) [] = refl
+  map_standing k (p ∷ places) (x ∷ xs) = go (eqb k (nat_abs p)) (is_turned p) (map_standing k places xs)
     where
       go : (t u : Bool) → map f (standing turn_a k places xs) ≡ standing turn_b k places (map f xs)
           → map f (choose t (choose u (turn_a x) x ∷ standing turn_a k places xs) (standing turn_a k places xs))
@@ -242,13 +242,13 @@ module _ {A B : Type 0} (turn_a : A → A) (turn_b : B → B) (f : A → B) (h :
       go true false ih = ap (λ (L : List B). f x ∷ L) ih
       go false u ih = ih
 
-  map-arranged-to : (n : ℕ) (places : List ℤ) (xs : List A) → map f (arranged_to turn_a n places xs) ≡ arranged_to turn_b n places (map f xs)
+  map-arranged_to : (n : ℕ) (places : List ℤ) (xs : List A) → map f (arranged_to turn_a n places xs) ≡ arranged_to turn_b n places (map f xs)
   unfolding arranged_to
-  map-arranged-to zero places xs = refl
-  map-arranged-to (suc n) places xs =
+  map-arranged_to zero places xs = refl
+  map-arranged_to (suc n) places xs =
       map-append f (arranged_to turn_a n places xs) (standing turn_a (suc n) places xs)
-      ∙ ap₂ (λ (L M : List B). L ++ M) (map-arranged-to n places xs) (map-standing (suc n) places xs)
+      ∙ ap₂ (λ (L M : List B). L ++ M) (map-arranged_to n places xs) (map_standing (suc n) places xs)
 
   -- so it may be done before or after the strings are arranged
   pub map-arranged : (places : List ℤ) (xs : List A) → map f (arranged turn_a places xs) ≡ arranged turn_b places (map f xs)
-  map-arranged places xs = map-arranged-to (length places) places xs
+  map-arranged places xs = map-arranged_to (length places) places xs

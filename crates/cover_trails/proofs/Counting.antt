@@ -39,21 +39,21 @@ module _ (f g : ℕ → ℕ) where
   sum_mono (suc n) h = omega (arith, h n (omega arith), sum_mono n (λ w l. h w (omega arith)))
 
   -- where f exceeds g at most at x, the sums differ by no more than f and g do at x
-  pub sum-at : (n x : ℕ) → x < n → ((w : ℕ) → w < n → (w ≡ x → ⊥) → f w ≤ g w) → sum_below n f + g x ≤ sum_below n g + f x
+  pub sum_at : (n x : ℕ) → x < n → ((w : ℕ) → w < n → (w ≡ x → ⊥) → f w ≤ g w) → sum_below n f + g x ≤ sum_below n g + f x
   unfolding sum_below
-  sum-at zero x l h = omega arith
-  sum-at (suc n) x l h = go (ℕ_discrete x n) (λ k. sum-at n x k (λ w b. h w (omega arith)))
+  sum_at zero x l h = omega arith
+  sum_at (suc n) x l h = go (ℕ_discrete x n) (λ k. sum_at n x k (λ w b. h w (omega arith)))
     where
       go : Dec (x ≡ n) → (x < n → sum_below n f + g x ≤ sum_below n g + f x) → f n + sum_below n f + g x ≤ g n + sum_below n g + f x
       go (yes e) ih = omega (arith, ap f e, ap g e, sum_mono n (λ w k. h w (omega arith) (λ q. omega arith)))
       go (no q) ih = omega (arith, ih (omega arith), h n (omega arith) (λ p. q (sym p)))
 
   -- the same where x need not be below the bound
-  pub sum-off : (n x k : ℕ) → ((w : ℕ) → (w ≡ x → ⊥) → f w ≤ g w) → f x ≤ g x + k → sum_below n f ≤ sum_below n g + k
-  sum-off n x k h l = go (dec_lt x n)
+  pub sum_off : (n x k : ℕ) → ((w : ℕ) → (w ≡ x → ⊥) → f w ≤ g w) → f x ≤ g x + k → sum_below n f ≤ sum_below n g + k
+  sum_off n x k h l = go (dec_lt x n)
     where
       go : Dec (x < n) → sum_below n f ≤ sum_below n g + k
-      go (yes p) = omega (arith, sum-at n x p (λ w b. h w))
+      go (yes p) = omega (arith, sum_at n x p (λ w b. h w))
       go (no q) = omega (arith, sum_mono n (λ w r. h w (λ e. q (omega arith))))
 
 -- ─── occurrences ─────────────────────────────────────────────────────────────

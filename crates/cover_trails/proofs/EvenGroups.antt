@@ -50,18 +50,18 @@ even_members (suc m) (suc o) e = absurd (omega arith)
 
 module _ (n : ℕ) (name : ℕ → ℕ) (ws : List ℕ) (l : ℕ) where
   -- no weight of the group is odd: there are no odd members
-  pub no-odd-members : ((w : ℕ) → w < n → l ≡ name w → oddly ws w ≡ 0) → odd_members n name ws l ≡ 0
+  pub no_odd_members : ((w : ℕ) → w < n → l ≡ name w → oddly ws w ≡ 0) → odd_members n name ws l ≡ 0
   unfolding odd_members
-  no-odd-members h = sum-zero (λ w. agree l (name w) * oddly ws w) n (λ w b. go w b (agree_cases l (name w)))
+  no_odd_members h = sum-zero (λ w. agree l (name w) * oddly ws w) n (λ w b. go w b (agree_cases l (name w)))
     where
       go : (w : ℕ) → w < n → Agreeing l (name w) → agree l (name w) * oddly ws w ≡ 0
       go w b (inl a) = rw (h w b a.0) (omega arith)
       go w b (inr a) = rw a.1 (omega arith)
 
   -- and the other way round
-  no-odd-member : odd_members n name ws l ≡ 0 → (w : ℕ) → w < n → l ≡ name w → oddly ws w ≡ 0
+  no_odd_member : odd_members n name ws l ≡ 0 → (w : ℕ) → w < n → l ≡ name w → oddly ws w ≡ 0
   unfolding odd_members
-  no-odd-member e w b q =
+  no_odd_member e w b q =
       let one : agree l (name w) ≡ 1 = agree_same l (name w) q in
       let part : agree l (name w) * oddly ws w ≡ oddly ws w = rw one (omega arith) in
       omega (arith, e, sum-part (λ w. agree l (name w) * oddly ws w) n w b, part)
@@ -69,10 +69,10 @@ module _ (n : ℕ) (name : ℕ → ℕ) (ws : List ℕ) (l : ℕ) where
 -- Of the groups of strings: l is counted exactly if it is the name of a group with an end weight, in which all weights occur evenly often.
 module _ (strings : List Ends) where
   -- a group that is counted has such a weight
-  pub counted-group : (l : ℕ) → even_group (above (weights strings)) (name_of strings) (weights strings) l ≡ 1
+  pub counted_group : (l : ℕ) → even_group (above (weights strings)) (name_of strings) (weights strings) l ≡ 1
       → (w : ℕ) × (1 ≤ occurs w (weights strings)) × (name_of strings w ≡ l) × ((v : ℕ) → Joined strings w v → oddly (weights strings) v ≡ 0)
   unfolding even_group
-  counted-group l e =
+  counted_group l e =
       let m = even_members (occurs l (map (name_of strings) (weights strings))) (odd_members (above (weights strings)) (name_of strings) (weights strings) l) e in
       let w = occurs-map-some (name_of strings) l (weights strings) m.0 in
       (w.0, w.1, w.2, λ v j. go v m.1 (sym w.2 ∙ joined-same_name strings j) (dec_lt v (above (weights strings))))
@@ -82,15 +82,15 @@ module _ (strings : List Ends) where
 
       go : (v : ℕ) → odd_members (above (weights strings)) (name_of strings) (weights strings) l ≡ 0 → l ≡ name_of strings v → Dec (v < above (weights strings))
           → oddly (weights strings) v ≡ 0
-      go v z q (yes b) = no-odd-member (above (weights strings)) (name_of strings) (weights strings) l z v b q
+      go v z q (yes b) = no_odd_member (above (weights strings)) (name_of strings) (weights strings) l z v b q
       go v z q (no b) = beyond v (occurs_beyond (above (weights strings)) v (weights strings) (above-all (weights strings)) (omega arith))
 
   -- and the group of such a weight is counted
-  pub group-counted : (w : ℕ) → 1 ≤ occurs w (weights strings) → ((v : ℕ) → Joined strings w v → oddly (weights strings) v ≡ 0)
+  pub group_counted : (w : ℕ) → 1 ≤ occurs w (weights strings) → ((v : ℕ) → Joined strings w v → oddly (weights strings) v ≡ 0)
       → even_group (above (weights strings)) (name_of strings) (weights strings) (name_of strings w) ≡ 1
   unfolding even_group
-  group-counted w m h =
+  group_counted w m h =
       even_is (occurs (name_of strings w) (map (name_of strings) (weights strings)))
       (odd_members (above (weights strings)) (name_of strings) (weights strings) (name_of strings w))
       (occurs-map (name_of strings) w (weights strings) m)
-      (no-odd-members (above (weights strings)) (name_of strings) (weights strings) (name_of strings w) (λ v b q. h v (same_name_joined strings w v q)))
+      (no_odd_members (above (weights strings)) (name_of strings) (weights strings) (name_of strings w) (λ v b q. h v (same_name_joined strings w v q)))

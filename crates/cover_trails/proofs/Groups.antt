@@ -41,13 +41,13 @@ pub level_reordered : (name : ℕ → ℕ) {L M : List Ends} → Reordered L M �
 level_reordered name = all-reordered (λ s. name (front s) ≡ name (back s)) (λ s e. sym e)
 
 module _ (s : Ends) (strings : List Ends) (w : ℕ) where
-  name-joined : name_of strings w ≡ name_of strings (back s) → name_of (s ∷ strings) w ≡ name_of strings (front s)
+  name_joined : name_of strings w ≡ name_of strings (back s) → name_of (s ∷ strings) w ≡ name_of strings (front s)
   unfolding name_of
-  name-joined h = rw (eq-eqb (name_of strings w) (name_of strings (back s)) h)
+  name_joined h = rw (eq-eqb (name_of strings w) (name_of strings (back s)) h)
 
-  name-other : (name_of strings w ≡ name_of strings (back s) → ⊥) → name_of (s ∷ strings) w ≡ name_of strings w
+  name_other : (name_of strings w ≡ name_of strings (back s) → ⊥) → name_of (s ∷ strings) w ≡ name_of strings w
   unfolding name_of
-  name-other h = rw (ne_eqb (name_of strings w) (name_of strings (back s)) h)
+  name_other h = rw (ne_eqb (name_of strings w) (name_of strings (back s)) h)
 
 -- a name names itself
 pub name_of_name : (strings : List Ends) (w : ℕ) → name_of strings (name_of strings w) ≡ name_of strings w
@@ -55,19 +55,19 @@ unfolding name_of
 name_of_name [] w = refl
 name_of_name (s ∷ strings) w = go (ℕ_discrete (name_of strings w) (name_of strings (back s))) (name_of_name strings)
   where
-    front-name : ((v : ℕ) → name_of strings (name_of strings v) ≡ name_of strings v) → Dec (name_of strings (name_of strings (front s)) ≡ name_of strings (back s))
+    front_name : ((v : ℕ) → name_of strings (name_of strings v) ≡ name_of strings v) → Dec (name_of strings (name_of strings (front s)) ≡ name_of strings (back s))
         → name_of (s ∷ strings) (name_of strings (front s)) ≡ name_of strings (front s)
-    front-name ih (yes e) = name-joined s strings (name_of strings (front s)) e
-    front-name ih (no q) = name-other s strings (name_of strings (front s)) q ∙ ih (front s)
+    front_name ih (yes e) = name_joined s strings (name_of strings (front s)) e
+    front_name ih (no q) = name_other s strings (name_of strings (front s)) q ∙ ih (front s)
 
     go : Dec (name_of strings w ≡ name_of strings (back s)) → ((v : ℕ) → name_of strings (name_of strings v) ≡ name_of strings v)
         → name_of (s ∷ strings) (name_of (s ∷ strings) w) ≡ name_of (s ∷ strings) w
     go (yes e) ih =
-        let r : name_of (s ∷ strings) w ≡ name_of strings (front s) = name-joined s strings w e in
-        ap (name_of (s ∷ strings)) r ∙ front-name ih (ℕ_discrete (name_of strings (name_of strings (front s))) (name_of strings (back s))) ∙ sym r
+        let r : name_of (s ∷ strings) w ≡ name_of strings (front s) = name_joined s strings w e in
+        ap (name_of (s ∷ strings)) r ∙ front_name ih (ℕ_discrete (name_of strings (name_of strings (front s))) (name_of strings (back s))) ∙ sym r
     go (no q) ih =
-        let r : name_of (s ∷ strings) w ≡ name_of strings w = name-other s strings w q in
-        ap (name_of (s ∷ strings)) r ∙ name-other s strings (name_of strings w) (λ e. q (sym (ih w) ∙ e)) ∙ ih w ∙ sym r
+        let r : name_of (s ∷ strings) w ≡ name_of strings w = name_other s strings w q in
+        ap (name_of (s ∷ strings)) r ∙ name_other s strings (name_of strings w) (λ e. q (sym (ih w) ∙ e)) ∙ ih w ∙ sym r
 
 -- names are below every bound of the weights
 pub name_below : (n : ℕ) (strings : List Ends) → EndsBelow n strings → (w : ℕ) → w < n → name_of strings w < n
@@ -99,18 +99,18 @@ carried_group P (s ∷ strings) k w v h p =
     go : Dec (name_of strings w ≡ name_of strings (back s)) → Dec (name_of strings v ≡ name_of strings (back s))
         → ((a b : ℕ) → name_of strings a ≡ name_of strings b → P a → P b) → P v
     go (yes a) (yes b) ih = ih w v (a ∙ sym b) p
-    go (yes a) (no b) ih = ih (front s) v (sym (name-joined s strings w a) ∙ h ∙ name-other s strings v b) (k.0.1 (ih w (back s) a p))
-    go (no a) (yes b) ih = ih (back s) v (sym b) (k.0.0 (ih w (front s) (sym (name-other s strings w a) ∙ h ∙ name-joined s strings v b) p))
-    go (no a) (no b) ih = ih w v (sym (name-other s strings w a) ∙ h ∙ name-other s strings v b) p
+    go (yes a) (no b) ih = ih (front s) v (sym (name_joined s strings w a) ∙ h ∙ name_other s strings v b) (k.0.1 (ih w (back s) a p))
+    go (no a) (yes b) ih = ih (back s) v (sym b) (k.0.0 (ih w (front s) (sym (name_other s strings w a) ∙ h ∙ name_joined s strings v b) p))
+    go (no a) (no b) ih = ih w v (sym (name_other s strings w a) ∙ h ∙ name_other s strings v b) p
 
 module _ (P : ℕ → Type 0) where
   -- what is carried in one order is carried in the other
-  pub carried-back : {L M : List Ends} → Reordered L M → Carried P M → Carried P L
-  carried-back r = all-reordered (Carries P) (λ s k. (k.1, k.0)) (reordered-back r)
+  pub carried_back : {L M : List Ends} → Reordered L M → Carried P M → Carried P L
+  carried_back r = all-reordered (Carries P) (λ s k. (k.1, k.0)) (reordered-back r)
 
   -- P of all end weights, or of none of them
-  pub carried-all : (L : List Ends) → ((w : ℕ) → 1 ≤ occurs w (weights L) → P w) → Carried P L
-  carried-all L h = all_map (λ s k. (λ p. k.1, λ p. k.0)) L (all_weights P L h)
+  pub carried_all : (L : List Ends) → ((w : ℕ) → 1 ≤ occurs w (weights L) → P w) → Carried P L
+  carried_all L h = all_map (λ s k. (λ p. k.1, λ p. k.0)) L (all_weights P L h)
 
   pub carried_none : (L : List Ends) → ((w : ℕ) → 1 ≤ occurs w (weights L) → P w → ⊥) → Carried P L
   carried_none L h = all_map (λ s k. (λ p. absurd (k.0 p), λ p. absurd (k.1 p))) L (all_weights (λ w. P w → ⊥) L h)

@@ -16,7 +16,7 @@ use Rattle.cover_trails.specs.Paths.{path_count}
 use Rattle.cover_trails.specs.Groups.{name_of, all_even, odd_members, even_group, count_even_groups, count_odd, even_groups, odd_weights, least}
 use Rattle.cover_trails.specs.Walks.{Reordered}
 use Rattle.lists.proofs.Agree.{agree_same, agree-other, Agreeing, agree_cases}
-use Rattle.cover_trails.proofs.Counting.{sum-zero, sum-part, sum_mono, sum-at, sum-off, oddly_le, oddly-same, oddly-other, AllBelow, above-all}
+use Rattle.cover_trails.proofs.Counting.{sum-zero, sum-part, sum_mono, sum_at, sum_off, oddly_le, oddly-same, oddly-other, AllBelow, above-all}
 use Rattle.cover_trails.proofs.Orders.{names_reordered, oddly-reordered, EndsBelow, below_reordered}
 use Rattle.cover_trails.proofs.EvenGroups.{even_le, even_not, even_mono}
 use Rattle.cover_trails.proofs.Paths.{breaks, paths_breaks, paths-none}
@@ -26,9 +26,9 @@ use Rattle.cover_trails.proofs.Groups.{Level, name_level, level_reordered}
 
 -- One weight x more in ws changes only its own parity and only its own group. So 2 E + O grows by at most 1.
 module _ (n : ℕ) (name : ℕ → ℕ) (ws : List ℕ) (x : ℕ) (x<n : x < n) where
-  odd-members-other : (l : ℕ) → (l ≡ name x → ⊥) → odd_members n name (x ∷ ws) l ≡ odd_members n name ws l
+  odd_members_other : (l : ℕ) → (l ≡ name x → ⊥) → odd_members n name (x ∷ ws) l ≡ odd_members n name ws l
   unfolding odd_members
-  odd-members-other l h = ap (sum_below n) (fun_ext λ w. go w (ℕ_discrete w x))
+  odd_members_other l h = ap (sum_below n) (fun_ext λ w. go w (ℕ_discrete w x))
     where
       go : (w : ℕ) → Dec (w ≡ x) → agree l (name w) * oddly (x ∷ ws) w ≡ agree l (name w) * oddly ws w
       go w (yes e) =
@@ -36,43 +36,43 @@ module _ (n : ℕ) (name : ℕ → ℕ) (ws : List ℕ) (x : ℕ) (x<n : x < n) 
           rw z (omega arith)
       go w (no q) = ap (λ (d : ℕ). agree l (name w) * d) (oddly-other ws x w q)
 
-  even-group-other : (l : ℕ) → (l ≡ name x → ⊥) → even_group n name (x ∷ ws) l ≡ even_group n name ws l
+  even_group_other : (l : ℕ) → (l ≡ name x → ⊥) → even_group n name (x ∷ ws) l ≡ even_group n name ws l
   unfolding even_group occurs
-  even-group-other l h =
+  even_group_other l h =
       let m : occurs l (map name (x ∷ ws)) ≡ occurs l (map name ws) = omega (arith, agree-other l (name x) h) in
-      ap₂ all_even m (odd-members-other l h)
+      ap₂ all_even m (odd_members_other l h)
 
-  odd-member : oddly (x ∷ ws) x ≡ 1 → 1 ≤ odd_members n name (x ∷ ws) (name x)
+  odd_member : oddly (x ∷ ws) x ≡ 1 → 1 ≤ odd_members n name (x ∷ ws) (name x)
   unfolding odd_members
-  odd-member h =
+  odd_member h =
       omega (
         arith,
         sum-part (λ w. agree (name x) (name w) * oddly (x ∷ ws) w) n x x<n,
         ap₂ (λ (a b : ℕ). a * b) (agree_same (name x) (name x) refl) h,
       )
 
-  own-odd : oddly (x ∷ ws) x ≡ 1 → even_group n name (x ∷ ws) (name x) ≤ 0
+  own_odd : oddly (x ∷ ws) x ≡ 1 → even_group n name (x ∷ ws) (name x) ≤ 0
   unfolding even_group
-  own-odd h = omega (arith, even_not (occurs (name x) (map name (x ∷ ws))) (odd_members n name (x ∷ ws) (name x)) (odd-member h))
+  own_odd h = omega (arith, even_not (occurs (name x) (map name (x ∷ ws))) (odd_members n name (x ∷ ws) (name x)) (odd_member h))
 
-  own-even : even_group n name (x ∷ ws) (name x) ≤ 1
+  own_even : even_group n name (x ∷ ws) (name x) ≤ 1
   unfolding even_group
-  own-even = even_le (occurs (name x) (map name (x ∷ ws))) (odd_members n name (x ∷ ws) (name x))
+  own_even = even_le (occurs (name x) (map name (x ∷ ws))) (odd_members n name (x ∷ ws) (name x))
 
   one_more : 2 * count_even_groups n name (x ∷ ws) + count_odd n (x ∷ ws) ≤ 2 * count_even_groups n name ws + count_odd n ws + 1
   unfolding count_even_groups count_odd
   one_more = go (ℕ_discrete (oddly (x ∷ ws) x) 1)
     where
       odd : sum_below n (oddly (x ∷ ws)) + oddly ws x ≤ sum_below n (oddly ws) + oddly (x ∷ ws) x
-      odd = sum-at (oddly (x ∷ ws)) (oddly ws) n x x<n (λ w b h. omega (arith, oddly-other ws x w h))
+      odd = sum_at (oddly (x ∷ ws)) (oddly ws) n x x<n (λ w b h. omega (arith, oddly-other ws x w h))
 
       even : (k : ℕ) → even_group n name (x ∷ ws) (name x) ≤ k → sum_below n (even_group n name (x ∷ ws)) ≤ sum_below n (even_group n name ws) + k
-      even k h = sum-off (even_group n name (x ∷ ws)) (even_group n name ws) n (name x) k (λ w q. omega (arith, even-group-other w q)) (omega arith)
+      even k h = sum_off (even_group n name (x ∷ ws)) (even_group n name ws) n (name x) k (λ w q. omega (arith, even_group_other w q)) (omega arith)
 
       go : Dec (oddly (x ∷ ws) x ≡ 1)
           → 2 * sum_below n (even_group n name (x ∷ ws)) + sum_below n (oddly (x ∷ ws)) ≤ 2 * sum_below n (even_group n name ws) + sum_below n (oddly ws) + 1
-      go (yes h) = omega (arith, odd, even 0 (own-odd h), oddly-same ws x)
-      go (no h) = omega (arith, odd, even 1 own-even, oddly-same ws x, oddly_le (x ∷ ws) x)
+      go (yes h) = omega (arith, odd, even 0 (own_odd h), oddly-same ws x)
+      go (no h) = omega (arith, odd, even 1 own_even, oddly-same ws x, oddly_le (x ∷ ws) x)
 
 -- without weights there is nothing to pay for
 pub no_even_groups : (n : ℕ) (name : ℕ → ℕ) → count_even_groups n name [] ≡ 0
@@ -156,11 +156,11 @@ below_path_ends n (s ∷ order) h = (h.0, below_from n s order h)
 
 -- Every group has one of them, where all strings are level.
 module _ (name : ℕ → ℕ) (l : ℕ) where
-  present-from : (s : Ends) (order : List Ends) → Level name (s ∷ order) → 1 ≤ occurs l (map name (weights (s ∷ order)))
+  present_from : (s : Ends) (order : List Ends) → Level name (s ∷ order) → 1 ≤ occurs l (map name (weights (s ∷ order)))
       → 1 ≤ occurs l (map name (path_ends_from s order))
   unfolding weights occurs path_ends_from cut_ends
-  present-from s [] h p = omega (arith, ap (agree l) h.0)
-  present-from s (t ∷ order) h p = go (present-from t order h.1) (agree_cases (back s) (front t))
+  present_from s [] h p = omega (arith, ap (agree l) h.0)
+  present_from s (t ∷ order) h p = go (present_from t order h.1) (agree_cases (back s) (front t))
     where
       go : (1 ≤ occurs l (map name (weights (t ∷ order))) → 1 ≤ occurs l (map name (path_ends_from t order))) → Agreeing (back s) (front t)
           → 1 ≤ occurs l (map name (cut_ends (agree (back s) (front t)) (back s) (front t) (path_ends_from t order)))
@@ -175,38 +175,38 @@ module _ (name : ℕ → ℕ) (l : ℕ) where
   present : (order : List Ends) → Level name order → 1 ≤ occurs l (map name (weights order)) → 1 ≤ occurs l (map name (path_ends order))
   unfolding weights occurs path_ends
   present [] h p = omega arith
-  present (s ∷ order) h p = omega (arith, present-from s order h p)
+  present (s ∷ order) h p = omega (arith, present_from s order h p)
 
 -- ─── the bound ───────────────────────────────────────────────────────────────
 
 module _ (n : ℕ) (name : ℕ → ℕ) where
-  odd-members-at-ends : (order : List Ends) (l : ℕ) → odd_members n name (weights order) l ≡ odd_members n name (path_ends order) l
+  odd_members_at_ends : (order : List Ends) (l : ℕ) → odd_members n name (weights order) l ≡ odd_members n name (path_ends order) l
   unfolding odd_members
-  odd-members-at-ends order l = ap (sum_below n) (fun_ext λ w. ap (λ (d : ℕ). agree l (name w) * d) (parity order w))
+  odd_members_at_ends order l = ap (sum_below n) (fun_ext λ w. ap (λ (d : ℕ). agree l (name w) * d) (parity order w))
 
-  even-at-ends : (order : List Ends) → Level name order → (l : ℕ) → even_group n name (weights order) l ≤ even_group n name (path_ends order) l
+  even_at_ends : (order : List Ends) → Level name order → (l : ℕ) → even_group n name (weights order) l ≤ even_group n name (path_ends order) l
   unfolding even_group
-  even-at-ends order h l =
-      rw (odd-members-at-ends order l)
+  even_at_ends order h l =
+      rw (odd_members_at_ends order l)
       (even_mono (occurs l (map name (weights order))) (occurs l (map name (path_ends order))) (odd_members n name (path_ends order) l) (present name l order h))
 
   -- of any names that are the same at both ends of each string
-  pub lower-level : (order : List Ends) → Level name order → EndsBelow n order
+  pub lower_level : (order : List Ends) → Level name order → EndsBelow n order
       → 2 * count_even_groups n name (weights order) + count_odd n (weights order) ≤ 2 * path_count order
   unfolding count_even_groups count_odd
-  lower-level order h b =
+  lower_level order h b =
       omega (
         arith,
-        sum_mono (even_group n name (weights order)) (even_group n name (path_ends order)) n (λ l k. even-at-ends order h l),
+        sum_mono (even_group n name (weights order)) (even_group n name (path_ends order)) n (λ l k. even_at_ends order h l),
         ap (sum_below n) (fun_ext (parity order)),
         each_pays n name (path_ends order) (below_path_ends n order b),
         length_path_ends order,
       )
 
   -- a group counts the same in another order
-  pub even-group-reordered : {L M : List Ends} → Reordered L M → (l : ℕ) → even_group n name (weights L) l ≡ even_group n name (weights M) l
+  pub even_group_reordered : {L M : List Ends} → Reordered L M → (l : ℕ) → even_group n name (weights L) l ≡ even_group n name (weights M) l
   unfolding even_group odd_members
-  even-group-reordered r l =
+  even_group_reordered r l =
       ap₂ all_even (names_reordered name l r) (ap (sum_below n) (fun_ext λ w. ap (λ (d : ℕ). agree l (name w) * d) (oddly-reordered r w)))
 
 -- every order and turning of the strings has at least E + O / 2 paths
@@ -216,7 +216,7 @@ lower strings order r =
     let n = above (weights strings) in
     omega (
       arith,
-      lower-level n (name_of strings) order (level_reordered (name_of strings) r (name_level strings)) (below_reordered n r (above-all (weights strings))),
-      ap (sum_below n) (fun_ext (even-group-reordered n (name_of strings) r)),
+      lower_level n (name_of strings) order (level_reordered (name_of strings) r (name_level strings)) (below_reordered n r (above-all (weights strings))),
+      ap (sum_below n) (fun_ext (even_group_reordered n (name_of strings) r)),
       ap (sum_below n) (fun_ext (oddly-reordered r)),
     )

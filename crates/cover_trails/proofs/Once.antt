@@ -10,7 +10,7 @@ use Rattle.lists.specs.Every.{All}
 use Rattle.lists.specs.Count.{agree}
 use Rattle.cover_trails.specs.Counting.{occurs, sum_below}
 use Rattle.lists.proofs.Agree.{agree_same, agree-other, agree_le}
-use Rattle.cover_trails.proofs.Counting.{sum-zero, sum_mono, sum-at, sum-off, occurs_at, occurs_split, occurs_between}
+use Rattle.cover_trails.proofs.Counting.{sum-zero, sum_mono, sum_at, sum_off, occurs_at, occurs_split, occurs_between}
 
 sum_ones : (m : ℕ) → sum_below m (λ k. 1) ≡ m
 unfolding sum_below
@@ -25,7 +25,7 @@ uses-le m (x ∷ ks) =
     omega (
       arith,
       uses-le m ks,
-      sum-off (λ k. agree (suc k) x + occurs (suc k) ks) (λ k. occurs (suc k) ks) m (x - 1) 1
+      sum_off (λ k. agree (suc k) x + occurs (suc k) ks) (λ k. occurs (suc k) ks) m (x - 1) 1
           (λ w q. omega (arith, agree-other (suc w) x (λ e. q (omega arith)))) (omega (arith, agree_le (suc (x - 1)) x)),
     )
 
@@ -37,26 +37,26 @@ uses-ge m (x ∷ ks) h =
     omega (
       arith,
       uses-ge m ks h.1,
-      sum-at (λ k. occurs (suc k) ks) (λ k. agree (suc k) x + occurs (suc k) ks) m (x - 1) (omega (arith, h.0)) (λ w b q. omega arith),
+      sum_at (λ k. occurs (suc k) ks) (λ k. agree (suc k) x + occurs (suc k) ks) m (x - 1) (omega (arith, h.0)) (λ w b q. omega arith),
       agree_same (suc (x - 1)) x (omega (arith, h.0)),
     )
 
 module _ (m : ℕ) (ks : List ℕ) (size : length ks ≡ m) where
   -- if each of 1 to m is used, it is used once
-  pub once-if-used : ((k : ℕ) → 1 ≤ k → k ≤ m → 1 ≤ occurs k ks) → (k : ℕ) → 1 ≤ k → k ≤ m → occurs k ks ≡ 1
-  once-if-used h zero low high = omega arith
-  once-if-used h (suc k) low high =
+  pub once_if_used : ((k : ℕ) → 1 ≤ k → k ≤ m → 1 ≤ occurs k ks) → (k : ℕ) → 1 ≤ k → k ≤ m → occurs k ks ≡ 1
+  once_if_used h zero low high = omega arith
+  once_if_used h (suc k) low high =
       omega (
         arith,
         h (suc k) low high,
         uses-le m ks,
         sum_ones m,
-        sum-at (λ k. 1) (λ k. occurs (suc k) ks) m k (omega arith) (λ w b q. h (suc w) (omega arith) (omega arith)),
+        sum_at (λ k. 1) (λ k. occurs (suc k) ks) m k (omega arith) (λ w b q. h (suc w) (omega arith) (omega arith)),
       )
 
   -- and no other number is there
-  pub range-if-used : ((k : ℕ) → 1 ≤ k → k ≤ m → 1 ≤ occurs k ks) → (i : ℕ) → i < length ks → (1 ≤ get_or ks i 0) × (get_or ks i 0 ≤ m)
-  range-if-used h i l = (go-low (dec_lt 0 (get_or ks i 0)), go-high (dec_lt m (get_or ks i 0)))
+  pub range_if_used : ((k : ℕ) → 1 ≤ k → k ≤ m → 1 ≤ occurs k ks) → (i : ℕ) → i < length ks → (1 ≤ get_or ks i 0) × (get_or ks i 0 ≤ m)
+  range_if_used h i l = (go_low (dec_lt 0 (get_or ks i 0)), go_high (dec_lt m (get_or ks i 0)))
     where
       -- else the others alone would use each of 1 to m
       other : ((w : ℕ) → w < m → suc w ≡ get_or ks i 0 → ⊥) → ⊥
@@ -80,22 +80,22 @@ module _ (m : ℕ) (ks : List ℕ) (size : length ks ≡ m) where
                 )),
           )
 
-      go-low : Dec (0 < get_or ks i 0) → 1 ≤ get_or ks i 0
-      go-low (yes b) = b
-      go-low (no b) = absurd (other (λ w k e. omega arith))
+      go_low : Dec (0 < get_or ks i 0) → 1 ≤ get_or ks i 0
+      go_low (yes b) = b
+      go_low (no b) = absurd (other (λ w k e. omega arith))
 
-      go-high : Dec (m < get_or ks i 0) → get_or ks i 0 ≤ m
-      go-high (yes b) = absurd (other (λ w k e. omega arith))
-      go-high (no b) = omega arith
+      go_high : Dec (m < get_or ks i 0) → get_or ks i 0 ≤ m
+      go_high (yes b) = absurd (other (λ w k e. omega arith))
+      go_high (no b) = omega arith
 
   -- if all are from 1 to m and none is used twice, each is used once
-  pub once-if-apart : All (λ k. (1 ≤ k) × (k ≤ m)) ks → ((k : ℕ) → occurs k ks ≤ 1) → (k : ℕ) → 1 ≤ k → k ≤ m → occurs k ks ≡ 1
-  once-if-apart r h zero low high = omega arith
-  once-if-apart r h (suc k) low high =
+  pub once_if_apart : All (λ k. (1 ≤ k) × (k ≤ m)) ks → ((k : ℕ) → occurs k ks ≤ 1) → (k : ℕ) → 1 ≤ k → k ≤ m → occurs k ks ≡ 1
+  once_if_apart r h zero low high = omega arith
+  once_if_apart r h (suc k) low high =
       omega (
         arith,
         h (suc k),
         uses-ge m ks r,
         sum_ones m,
-        sum-at (λ k. occurs (suc k) ks) (λ k. 1) m k (omega arith) (λ w b q. h (suc w)),
+        sum_at (λ k. occurs (suc k) ks) (λ k. 1) m k (omega arith) (λ w b q. h (suc w)),
       )

@@ -11,7 +11,7 @@ use lib.ListN.{length, get_or, length-map}
 use Rattle.lists.specs.Choose.{choose}
 use Rattle.lists.specs.Every.{All}
 use Rattle.lists.specs.Count.{count_from}
-use Rattle.lists.proofs.Mapped.{map_at, values-at}
+use Rattle.lists.proofs.Mapped.{map_at, values_at}
 use Rattle.lists.proofs.Count.{length_count}
 use Rattle.cover_trails.specs.Counting.{occurs}
 use Rattle.cover_trails.specs.Strings.{Ends, turned}
@@ -19,31 +19,31 @@ use Rattle.cover_trails.specs.Places.{is_turned, signed, SignedPermutation, turn
 use Rattle.cover_trails.specs.Walks.{Reordered, empty, keep, turn, exchange, both}
 use Rattle.cover_trails.proofs.Counting.{occurs_at}
 use Rattle.cover_trails.proofs.Orders.{move_in, reordered-left}
-use Rattle.cover_trails.proofs.Arranged.{size_signed, turned-signed, standing_here, standing-other, arranged-by-string, permutation-if-used}
+use Rattle.cover_trails.proofs.Arranged.{size_signed, turned-signed, standing_here, standing_other, arranged_by_string, permutation_if_used}
 
 -- ─── from places to an order ─────────────────────────────────────────────────
 
 module _ (p : ℤ) (places : List ℤ) (x : Ends) (xs : List Ends) where
-  before-place : (n : ℕ) → n < nat_abs p → arranged_to turned n (p ∷ places) (x ∷ xs) ≡ arranged_to turned n places xs
+  before_place : (n : ℕ) → n < nat_abs p → arranged_to turned n (p ∷ places) (x ∷ xs) ≡ arranged_to turned n places xs
   unfolding arranged_to
-  before-place zero l = refl
-  before-place (suc n) l =
-      ap₂ (λ (L M : List Ends). L ++ M) (before-place n (omega arith)) (standing-other turned (suc n) p places x xs (λ q. omega arith))
+  before_place zero l = refl
+  before_place (suc n) l =
+      ap₂ (λ (L M : List Ends). L ++ M) (before_place n (omega arith)) (standing_other turned (suc n) p places x xs (λ q. omega arith))
 
-  into-place : (n : ℕ) → 1 ≤ nat_abs p → nat_abs p ≤ n
+  into_place : (n : ℕ) → 1 ≤ nat_abs p → nat_abs p ≤ n
       → Reordered (turned_by turned p x ∷ arranged_to turned n places xs) (arranged_to turned n (p ∷ places) (x ∷ xs))
   unfolding arranged_to
-  into-place zero l k = absurd (omega arith)
-  into-place (suc n) l k = go (ℕ_discrete (suc n) (nat_abs p)) (into-place n l)
+  into_place zero l k = absurd (omega arith)
+  into_place (suc n) l k = go (ℕ_discrete (suc n) (nat_abs p)) (into_place n l)
     where
       go : Dec (suc n ≡ nat_abs p)
           → (nat_abs p ≤ n → Reordered (turned_by turned p x ∷ arranged_to turned n places xs) (arranged_to turned n (p ∷ places) (x ∷ xs)))
           → Reordered (turned_by turned p x ∷ (arranged_to turned n places xs ++ standing turned (suc n) places xs))
           (arranged_to turned n (p ∷ places) (x ∷ xs) ++ standing turned (suc n) (p ∷ places) (x ∷ xs))
       go (yes q) ih =
-          rw (before-place n (omega arith), standing_here turned (suc n) p places x xs q)
+          rw (before_place n (omega arith), standing_here turned (suc n) p places x xs q)
           (move_in (turned_by turned p x) (arranged_to turned n places xs) (standing turned (suc n) places xs))
-      go (no q) ih = rw (standing-other turned (suc n) p places x xs q) (reordered-left (standing turned (suc n) places xs) (ih (omega arith)))
+      go (no q) ih = rw (standing_other turned (suc n) p places x xs q) (reordered-left (standing turned (suc n) places xs) (ih (omega arith)))
 
 turned_first : (p : ℤ) (x : Ends) {L M : List Ends} → Reordered L M → Reordered (x ∷ L) (turned_by turned p x ∷ M)
 turned_first (pos n) x r = keep r
@@ -60,7 +60,7 @@ placed_to n [] [] l h = rw (nothing_placed n) empty
 placed_to n [] (x ∷ xs) l h = absurd (omega arith)
 placed_to n (p ∷ places) [] l h = absurd (omega arith)
 placed_to n (p ∷ places) (x ∷ xs) l h =
-    both (turned_first p x (placed_to n places xs (omega arith) h.1)) (into-place p places x xs n h.0.0 h.0.1)
+    both (turned_first p x (placed_to n places xs (omega arith) h.1)) (into_place p places x xs n h.0.0 h.0.1)
 
 -- signed places make an order and turning
 pub places-reordered : (places : List ℤ) (strings : List Ends) → SignedPermutation (length strings) places → Reordered strings (arranged turned places strings)
@@ -95,18 +95,18 @@ located_first t x L M k = record {
   place = first 0 (λ i. suc (k.place i));
   turns = first t k.turns;
   size = ap suc k.size;
-  inside = in-first;
-  onto = on-first;
+  inside = in_first;
+  onto = on_first;
   string = at_first;
 }
   where
-    in-first : (i : ℕ) → i < suc (length L) → first 0 (λ i. suc (k.place i)) i < suc (length L)
-    in-first zero l = omega arith
-    in-first (suc i) l = omega (arith, k.inside i (omega arith))
+    in_first : (i : ℕ) → i < suc (length L) → first 0 (λ i. suc (k.place i)) i < suc (length L)
+    in_first zero l = omega arith
+    in_first (suc i) l = omega (arith, k.inside i (omega arith))
 
-    on-first : (j : ℕ) → j < suc (length L) → (i : ℕ) × (i < suc (length L)) × (first 0 (λ i. suc (k.place i)) i ≡ j)
-    on-first zero l = (0, omega arith, refl)
-    on-first (suc j) l = let o = k.onto j (omega arith) in (suc o.0, omega (arith, o.1), ap suc o.2)
+    on_first : (j : ℕ) → j < suc (length L) → (i : ℕ) × (i < suc (length L)) × (first 0 (λ i. suc (k.place i)) i ≡ j)
+    on_first zero l = (0, omega arith, refl)
+    on_first (suc j) l = let o = k.onto j (omega arith) in (suc o.0, omega (arith, o.1), ap suc o.2)
 
     at_first : (i : ℕ) → i < suc (length L)
         → get_or (choose t (turned x) x ∷ M) (first 0 (λ i. suc (k.place i)) i) (0, 0)
@@ -119,28 +119,28 @@ located_swap x y L = record {
   place = swapped;
   turns = λ i. false;
   size = refl;
-  inside = in-swap;
-  onto = on-swap;
-  string = at-swap;
+  inside = in_swap;
+  onto = on_swap;
+  string = at_swap;
 }
   where
     swapped : ℕ → ℕ
     swapped = first 1 (first 0 (λ i. suc (suc i)))
 
-    in-swap : (i : ℕ) → i < suc (suc (length L)) → swapped i < suc (suc (length L))
-    in-swap zero l = omega arith
-    in-swap (suc zero) l = omega arith
-    in-swap (suc (suc i)) l = l
+    in_swap : (i : ℕ) → i < suc (suc (length L)) → swapped i < suc (suc (length L))
+    in_swap zero l = omega arith
+    in_swap (suc zero) l = omega arith
+    in_swap (suc (suc i)) l = l
 
-    on-swap : (j : ℕ) → j < suc (suc (length L)) → (i : ℕ) × (i < suc (suc (length L))) × (swapped i ≡ j)
-    on-swap zero l = (1, omega arith, refl)
-    on-swap (suc zero) l = (0, omega arith, refl)
-    on-swap (suc (suc j)) l = (suc (suc j), l, refl)
+    on_swap : (j : ℕ) → j < suc (suc (length L)) → (i : ℕ) × (i < suc (suc (length L))) × (swapped i ≡ j)
+    on_swap zero l = (1, omega arith, refl)
+    on_swap (suc zero) l = (0, omega arith, refl)
+    on_swap (suc (suc j)) l = (suc (suc j), l, refl)
 
-    at-swap : (i : ℕ) → i < suc (suc (length L)) → get_or (y ∷ (x ∷ L)) (swapped i) (0, 0) ≡ get_or (x ∷ (y ∷ L)) i (0, 0)
-    at-swap zero l = refl
-    at-swap (suc zero) l = refl
-    at-swap (suc (suc i)) l = refl
+    at_swap : (i : ℕ) → i < suc (suc (length L)) → get_or (y ∷ (x ∷ L)) (swapped i) (0, 0) ≡ get_or (x ∷ (y ∷ L)) i (0, 0)
+    at_swap zero l = refl
+    at_swap (suc zero) l = refl
+    at_swap (suc (suc i)) l = refl
 
 located_both : (L M N : List Ends) → Located L M → Located M N → Located L N
 located_both L M N k q = record {
@@ -189,33 +189,33 @@ module _ (xs order : List Ends) (k : Located xs order) where
 
   place_at : (i : ℕ) → i < length xs → get_or places_of i (pos 0) ≡ place_of i
   unfolding places_of
-  place_at i l = values-at place_of (pos 0) 0 (length xs) i l ∙ ap place_of (omega arith)
+  place_at i l = values_at place_of (pos 0) 0 (length xs) i l ∙ ap place_of (omega arith)
 
-  size-at : (i : ℕ) → i < length xs → nat_abs (get_or places_of i (pos 0)) ≡ suc (k.place i)
+  size_at : (i : ℕ) → i < length xs → nat_abs (get_or places_of i (pos 0)) ≡ suc (k.place i)
   unfolding place_of
-  size-at i l = ap nat_abs (place_at i l) ∙ size_signed (suc (k.place i)) (k.turns i)
+  size_at i l = ap nat_abs (place_at i l) ∙ size_signed (suc (k.place i)) (k.turns i)
 
   places-length : length places_of ≡ length xs
   unfolding places_of
   places-length = length-map (count_from 0 (length xs)) place_of ∙ length_count 0 (length xs)
 
-  places-used : (j : ℕ) → 1 ≤ j → j ≤ length xs → 1 ≤ occurs j (map nat_abs places_of)
-  places-used zero low high = omega arith
-  places-used (suc j) low high =
+  places_used : (j : ℕ) → 1 ≤ j → j ≤ length xs → 1 ≤ occurs j (map nat_abs places_of)
+  places_used zero low high = omega arith
+  places_used (suc j) low high =
       let o = k.onto j (omega arith) in
       let l : o.0 < length (map nat_abs places_of) = rw (length-map places_of nat_abs, places-length) o.1 in
       occurs_at (suc j) (map nat_abs places_of) o.0 l
-      (map_at nat_abs (pos 0) places_of o.0 ∙ size-at o.0 o.1 ∙ ap suc o.2)
+      (map_at nat_abs (pos 0) places_of o.0 ∙ size_at o.0 o.1 ∙ ap suc o.2)
 
-  places-permute : SignedPermutation (length xs) places_of
-  places-permute = permutation-if-used (length xs) places_of places-length places-used
+  places_permute : SignedPermutation (length xs) places_of
+  places_permute = permutation_if_used (length xs) places_of places-length places_used
 
-  places-arrange : arranged turned places_of xs ≡ order
-  places-arrange = arranged-by-string turned (0, 0) (length xs) places_of xs places-permute refl order k.size stands
+  places_arrange : arranged turned places_of xs ≡ order
+  places_arrange = arranged_by_string turned (0, 0) (length xs) places_of xs places_permute refl order k.size stands
     where
       stands : (i : ℕ) → i < length xs → get_or order (nat_abs (get_or places_of i (pos 0)) - 1) (0, 0) ≡ turned_by turned (get_or places_of i (pos 0)) (get_or xs i (0, 0))
       stands i l =
-          let at_i : nat_abs (get_or places_of i (pos 0)) - 1 ≡ k.place i = omega (arith, size-at i l) in
+          let at_i : nat_abs (get_or places_of i (pos 0)) - 1 ≡ k.place i = omega (arith, size_at i l) in
           let t : is_turned (get_or places_of i (pos 0)) ≡ k.turns i = unfold place_of in
           (ap is_turned (place_at i l) ∙ turned-signed (suc (k.place i)) (k.turns i) (omega arith)) in
           rw (at_i, t) (k.string i l)
@@ -225,4 +225,4 @@ pub reordered-places : (strings order : List Ends) → Reordered strings order
     → (places : List ℤ) × SignedPermutation (length strings) places × (arranged turned places strings ≡ order)
 reordered-places strings order r =
     let k = located r in
-    (places_of strings order k, places-permute strings order k, places-arrange strings order k)
+    (places_of strings order k, places_permute strings order k, places_arrange strings order k)

@@ -23,22 +23,22 @@ use Rattle.cover_trails.proofs.Places.{places-reordered}
 -- ─── the paths of an order ───────────────────────────────────────────────────
 
 module _ (g : ℕ → ℕ) (P : ℕ → Type 0) (apart : (v w : ℕ) → P v → P w → g v ≡ g w → v ≡ w) where
-  agree-named : (v w : ℕ) → P v → P w → agree (g v) (g w) ≡ agree v w
-  agree-named v w p q = go (ℕ_discrete v w)
+  agree_named : (v w : ℕ) → P v → P w → agree (g v) (g w) ≡ agree v w
+  agree_named v w p q = go (ℕ_discrete v w)
     where
       go : Dec (v ≡ w) → agree (g v) (g w) ≡ agree v w
       go (yes e) = agree_same (g v) (g w) (ap g e) ∙ sym (agree_same v w e)
       go (no n) = agree-other (g v) (g w) (λ e. n (apart v w p q e)) ∙ sym (agree-other v w n)
 
   -- an order has as many paths under the names
-  pub paths-named : (L : List Ends) → All (λ s. P (front s) × P (back s)) L → path_count (map (renamed g) L) ≡ path_count L
+  pub paths_named : (L : List Ends) → All (λ s. P (front s) × P (back s)) L → path_count (map (renamed g) L) ≡ path_count L
   unfolding paths
-  paths-named [] h = refl
-  paths-named (s ∷ []) h = refl
-  paths-named (s ∷ (t ∷ L)) h =
+  paths_named [] h = refl
+  paths_named (s ∷ []) h = refl
+  paths_named (s ∷ (t ∷ L)) h =
       paths_next (renamed g s) (renamed g t) (map (renamed g) L)
-      ∙ (ap (λ (n : ℕ). (1 - n) + path_count (map (renamed g) (t ∷ L))) (agree-named (back s) (front t) h.0.1 h.1.0.0)
-      ∙ (ap (λ (n : ℕ). (1 - agree (back s) (front t)) + n) (paths-named (t ∷ L) h.1) ∙ sym (paths_next s t L)))
+      ∙ (ap (λ (n : ℕ). (1 - n) + path_count (map (renamed g) (t ∷ L))) (agree_named (back s) (front t) h.0.1 h.1.0.0)
+      ∙ (ap (λ (n : ℕ). (1 - agree (back s) (front t)) + n) (paths_named (t ∷ L) h.1) ∙ sym (paths_next s t L)))
 
 -- ─── the least number ────────────────────────────────────────────────────────
 
@@ -53,7 +53,7 @@ module _ {strings named : List Ends} (r : Renamed strings named) where
   renamed-paths places s =
       ap (λ (L : List Ends). path_count (arranged turned places L)) r.is
       ∙ (ap path_count (sym (map-arranged turned turned (renamed r.weight) (λ x. refl) places named))
-      ∙ paths-named r.weight (λ v. 1 ≤ occurs v (weights named)) r.apart (arranged turned places named)
+      ∙ paths_named r.weight (λ v. 1 ≤ occurs v (weights named)) r.apart (arranged turned places named)
       (all-reordered (λ t. (1 ≤ occurs (front t) (weights named)) × (1 ≤ occurs (back t) (weights named))) (λ t p. (p.1, p.0))
       (places-reordered places named s)
       (all_weights (λ v. 1 ≤ occurs v (weights named)) named (λ w h. h))))

@@ -49,7 +49,7 @@ unfoldable pub count_odd : ℕ → List ℕ → ℕ
 unfolding sum_below oddly
 count_odd n ws = sum_below n (oddly ws)
 
--- E: the groups whose weights all occur evenly often (`counted-group`, `group-counted` in proofs/EvenGroups)
+-- E: the groups whose weights all occur evenly often (`counted_group`, `group_counted` in proofs/EvenGroups)
 unfoldable pub even_groups : List Ends → ℕ
 unfolding count_even_groups above name_of weights
 even_groups strings = count_even_groups (above (weights strings)) (name_of strings) (weights strings)

@@ -18,14 +18,14 @@ module _ {m : ℕ} {w a b c d : List ℕ} (f : Fits m w)
     (ed : d ≡ put (3 * m) (ladder 1 0 (2 * m)) c)
     (la : length a ≡ length w) (lb : length b ≡ length w) (lc : length c ≡ length w) where
   -- each leaves what lies elsewhere
-  past-hub : (i n : ℕ) → Apart i n (7 * m) (2 * m) → i + n ≤ 16 * m → part i n a ≡ part i n w
-  past-hub i n h l = ladder-other (7 * m) (2 * m) (2 * m) 2 w ea (omega (arith, f.size)) i n h (omega (arith, f.size))
+  past_hub : (i n : ℕ) → Apart i n (7 * m) (2 * m) → i + n ≤ 16 * m → part i n a ≡ part i n w
+  past_hub i n h l = ladder-other (7 * m) (2 * m) (2 * m) 2 w ea (omega (arith, f.size)) i n h (omega (arith, f.size))
 
-  past-cursors : (i n : ℕ) → Apart i n (9 * m) (3 * m) → i + n ≤ 16 * m → part i n b ≡ part i n a
-  past-cursors i n h l = ladder-other (9 * m) (3 * m) 0 1 a eb (omega (arith, f.size)) i n h (omega (arith, f.size))
+  past_cursors : (i n : ℕ) → Apart i n (9 * m) (3 * m) → i + n ≤ 16 * m → part i n b ≡ part i n a
+  past_cursors i n h l = ladder-other (9 * m) (3 * m) 0 1 a eb (omega (arith, f.size)) i n h (omega (arith, f.size))
 
-  past-flags : (i n : ℕ) → Apart i n (2 * m) m → Apart i n (3 * m) (2 * m) → i + n ≤ 16 * m → part i n d ≡ part i n b
-  past-flags i n h g l =
+  past_flags : (i n : ℕ) → Apart i n (2 * m) m → Apart i n (3 * m) (2 * m) → i + n ≤ 16 * m → part i n d ≡ part i n b
+  past_flags i n h g l =
       ladder-other (3 * m) (2 * m) 1 0 c ed (omega (arith, f.size)) i n g (omega (arith, f.size))
       ∙ ladder-other (2 * m) m 0 0 b ec (omega (arith, f.size)) i n h (omega (arith, f.size))
 
@@ -33,16 +33,16 @@ module _ {m : ℕ} {w a b c d : List ℕ} (f : Fits m w)
   pub blanked : Blank m w d
   blanked = record {
     verts =
-        past-flags 0 (2 * m) (inl (omega arith)) (inl (omega arith)) (omega arith)
-        ∙ (past-cursors 0 (2 * m) (inl (omega arith)) (omega arith) ∙ past-hub 0 (2 * m) (inl (omega arith)) (omega arith));
+        past_flags 0 (2 * m) (inl (omega arith)) (inl (omega arith)) (omega arith)
+        ∙ (past_cursors 0 (2 * m) (inl (omega arith)) (omega arith) ∙ past_hub 0 (2 * m) (inl (omega arith)) (omega arith));
     order =
-        past-flags (5 * m) (2 * m) (inr (omega arith)) (inr (omega arith)) (omega arith)
-        ∙ (past-cursors (5 * m) (2 * m) (inl (omega arith)) (omega arith) ∙ past-hub (5 * m) (2 * m) (inl (omega arith)) (omega arith));
+        past_flags (5 * m) (2 * m) (inr (omega arith)) (inr (omega arith)) (omega arith)
+        ∙ (past_cursors (5 * m) (2 * m) (inl (omega arith)) (omega arith) ∙ past_hub (5 * m) (2 * m) (inl (omega arith)) (omega arith));
     hub =
-        past-flags (7 * m) (2 * m) (inr (omega arith)) (inr (omega arith)) (omega arith)
-        ∙ (past-cursors (7 * m) (2 * m) (inl (omega arith)) (omega arith) ∙ ladder-part (7 * m) (2 * m) (2 * m) 2 w ea (omega (arith, f.size)));
+        past_flags (7 * m) (2 * m) (inr (omega arith)) (inr (omega arith)) (omega arith)
+        ∙ (past_cursors (7 * m) (2 * m) (inl (omega arith)) (omega arith) ∙ ladder-part (7 * m) (2 * m) (2 * m) 2 w ea (omega (arith, f.size)));
     cursors =
-        past-flags (9 * m) (3 * m) (inr (omega arith)) (inr (omega arith)) (omega arith)
+        past_flags (9 * m) (3 * m) (inr (omega arith)) (inr (omega arith)) (omega arith)
         ∙ ladder-part (9 * m) (3 * m) 0 1 a eb (omega (arith, f.size));
     unused =
         ladder-other (3 * m) (2 * m) 1 0 c ed (omega (arith, f.size)) (2 * m) m (inl (omega arith)) (omega (arith, f.size))

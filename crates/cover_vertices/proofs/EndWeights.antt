@@ -8,7 +8,7 @@ use lib.Seq.{length-take-le, get_or-take, get_or-drop, drop-drop}
 use Rattle.lists.specs.Count.{count_from}
 use Rattle.lists.proofs.Count.{length_count}
 use Rattle.lists.specs.Fill.{put}
-use Rattle.lists.proofs.Storing.{drop_next, Storing, begin-at, inside, store, restated, stored}
+use Rattle.lists.proofs.Storing.{drop_next, Storing, begin_at, inside, store, restated, stored}
 use Rattle.collection_faults.specs.Faults.{first_short}
 use Rattle.collection.specs.Collection.{Spelling, collection}
 use Rattle.collection.specs.Kmers.{within, kmers_from, kmers}
@@ -19,16 +19,16 @@ use Rattle.cover_vertices.specs.Promises.{ends_from}
 use Rattle.cover_trails.specs.Strings.{Ends, weights}
 use Rattle.collection.specs.Ready.{Strung}
 use Rattle.collection.specs.EndWeights.{ends_of, end_weights}
-use Rattle.collection.proofs.Strung.{WeightsLeft, weights_begin, string-here, weights-on}
+use Rattle.collection.proofs.Strung.{WeightsLeft, weights_begin, string_here, weights_on}
 
 -- ─── from ends and weights alone ─────────────────────────────────────────────
 
 module _ (n : ℕ) (ws : List ℕ) (some : 1 ≤ n) (room : n ≤ length ws) where
-  first-weight : get_or (take n ws) 0 0 ≡ get_or ws 0 0
-  first-weight = get_or-take n ws 0 0 (omega arith)
+  first_weight : get_or (take n ws) 0 0 ≡ get_or ws 0 0
+  first_weight = get_or-take n ws 0 0 (omega arith)
 
-  last-weight : get_or (take n ws) (length (take n ws) - 1) 0 ≡ get_or ws (n - 1) 0
-  last-weight = rw (length-take-le n ws room) (get_or-take n ws (n - 1) 0 (omega arith))
+  last_weight_lem : get_or (take n ws) (length (take n ws) - 1) 0 ≡ get_or ws (n - 1) 0
+  last_weight_lem = rw (length-take-le n ws room) (get_or-take n ws (n - 1) 0 (omega arith))
 
 kmers-cons : (k before e : ℕ) (ends : List ℕ) → length (kmers_from k before (e ∷ ends)) ≡ within k before e + length (kmers_from k e ends)
 unfolding kmers_from
@@ -43,7 +43,7 @@ ends_from_lem k i before letters (e ∷ ends) ws h l =
     let n = within k before e in
     let c = kmers-cons k before e ends in
     ap₂ (λ (s : Ends) (L : List Ends). s ∷ L)
-    (λ j. (first-weight n ws (omega (arith, a.0)) (omega (arith, c, l)) j, last-weight n ws (omega (arith, a.0)) (omega (arith, c, l)) j))
+    (λ j. (first_weight n ws (omega (arith, a.0)) (omega (arith, c, l)) j, last_weight_lem n ws (omega (arith, a.0)) (omega (arith, c, l)) j))
     (ends_from_lem k (suc i) e (drop (e - before) letters) ends (drop n ws) a.1 (simp length-drop (omega (arith, c, l))))
 
 -- they are the end weights of the strings
@@ -97,36 +97,36 @@ writing_start k at ends ws w s h =
     let e : at + 2 * 0 ≡ at = omega arith in
     record {
       walk = weights_begin s;
-      storing = rw e (begin-at at w (weights (ends_from k 0 ends ws)) (omega (arith, length-weights (ends_from k 0 ends ws), length-ends k 0 ends ws)));
+      storing = rw e (begin_at at w (weights (ends_from k 0 ends ws)) (omega (arith, length-weights (ends_from k 0 ends ws), length-ends k 0 ends ws)));
     }
 
 module _ {k at : ℕ} {ends ws w₀ w : List ℕ} {before passed i : ℕ} (g : Writing k at ends ws w₀ w before passed i) where
   module _ (l : i < length ends) {e : ℕ} (is : e ≡ get_or ends i 0) where
-    next-two : Storing (length w₀) w (put at (weights (ends_from k 0 ends ws)) w₀)
+    next_two : Storing (length w₀) w (put at (weights (ends_from k 0 ends ws)) w₀)
         (get_or ws passed 0 ∷ (get_or ws (passed + within k before e - 1) 0 ∷ weights (ends_from k e (drop (i + 1) ends) (drop (passed + within k before e) ws))))
         (at + 2 * i)
-    next-two =
-        let q : passed + within k before e - 1 ≡ passed + (within k before e - 1) = omega (arith, (string-here g.walk l is).long) in
+    next_two =
+        let q : passed + within k before e - 1 ≡ passed + (within k before e - 1) = omega (arith, (string_here g.walk l is).long) in
         rw (q, is) (restated (ends_next k before ends ws i passed l) g.storing)
 
     -- both entries are in the table
-    pub first-inside : at + 2 * i < length w
-    first-inside = inside next-two
+    pub first_inside : at + 2 * i < length w
+    first_inside = inside next_two
 
-    pub second-inside : at + 2 * i + 1 < length w
-    second-inside = simp length-set at (inside (store next-two))
+    pub second_inside : at + 2 * i + 1 < length w
+    second_inside = simp length-set at (inside (store next_two))
 
     -- its end weights are stored
-    pub writing-on : 1 ≤ k
+    pub writing_on : 1 ≤ k
         → Writing k at ends ws w₀ (set (set w (at + 2 * i) (get_or ws passed 0)) (at + 2 * i + 1) (get_or ws (passed + within k before e - 1) 0)) e
         (passed + within k before e) (i + 1)
-    writing-on k1 =
+    writing_on k1 =
         let q : at + 2 * (i + 1) ≡ at + 2 * i + 1 + 1 = omega arith in
         record {
-          walk = weights-on g.walk l is k1;
-          storing = rw q (store (store next-two));
+          walk = weights_on g.walk l is k1;
+          storing = rw q (store (store next_two));
         }
 
   -- behind the last string all end weights are stored
-  pub writing-end : length ends ≤ i → w ≡ put at (weights (ends_from k 0 ends ws)) w₀
-  writing-end h = stored (restated (ends_end k before ends (drop passed ws) i h) g.storing)
+  pub writing_end : length ends ≤ i → w ≡ put at (weights (ends_from k 0 ends ws)) w₀
+  writing_end h = stored (restated (ends_end k before ends (drop passed ws) i h) g.storing)

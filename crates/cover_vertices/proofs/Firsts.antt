@@ -11,10 +11,10 @@ use Rattle.cover_vertices.specs.Firsts.{first_of}
 
 module _ (ks : ℕ → ℕ) where
   -- it is not behind the place
-  pub first-le : (q : ℕ) → first_of ks q ≤ q
+  pub first_le : (q : ℕ) → first_of ks q ≤ q
   unfolding first_of
-  first-le zero = omega arith
-  first-le (suc q) = go (eqb (ks (suc q)) (ks q)) (first-le q)
+  first_le zero = omega arith
+  first_le (suc q) = go (eqb (ks (suc q)) (ks q)) (first_le q)
     where
       go : (t : Bool) → first_of ks q ≤ q → choose t (first_of ks q) (suc q) ≤ suc q
       go true h = omega arith
@@ -31,10 +31,10 @@ module _ (ks : ℕ → ℕ) where
       go false e h = refl
 
   -- it is the first of all places from it up to the place
-  pub first-between : (q p : ℕ) → first_of ks q ≤ p → p ≤ q → first_of ks p ≡ first_of ks q
+  pub first_between : (q p : ℕ) → first_of ks q ≤ p → p ≤ q → first_of ks p ≡ first_of ks q
   unfolding first_of
-  first-between zero p a b = let e : p ≡ 0 = omega arith in ap (first_of ks) e
-  first-between (suc q) p a b = go (eqb (ks (suc q)) (ks q)) refl a (ℕ_discrete p (suc q)) (first-between q p)
+  first_between zero p a b = let e : p ≡ 0 = omega arith in ap (first_of ks) e
+  first_between (suc q) p a b = go (eqb (ks (suc q)) (ks q)) refl a (ℕ_discrete p (suc q)) (first_between q p)
     where
       go : (t : Bool) → eqb (ks (suc q)) (ks q) ≡ t → choose t (first_of ks q) (suc q) ≤ p → Dec (p ≡ suc q)
           → (first_of ks q ≤ p → p ≤ q → first_of ks p ≡ first_of ks q)
@@ -45,23 +45,23 @@ module _ (ks : ℕ → ℕ) where
 
   -- equal keys up to a place below n, where keys rise
   module _ (n : ℕ) (rises : (p q : ℕ) → p ≤ q → q < n → ks p ≤ ks q) where
-    first-up : (p d : ℕ) → p + d < n → ks p ≡ ks (p + d) → first_of ks p ≡ first_of ks (p + d)
+    first_up : (p d : ℕ) → p + d < n → ks p ≡ ks (p + d) → first_of ks p ≡ first_of ks (p + d)
     unfolding first_of
-    first-up p zero l e = let z : p ≡ p + 0 = omega arith in ap (first_of ks) z
-    first-up p (suc d) l e =
+    first_up p zero l e = let z : p ≡ p + 0 = omega arith in ap (first_of ks) z
+    first_up p (suc d) l e =
         let z : p + suc d ≡ suc (p + d) = omega arith in
         let h : ks p ≡ ks (suc (p + d)) = e ∙ ap ks z in
         let k : ks (p + d) ≡ ks p = omega (arith, rises p (p + d) (omega arith) (omega arith), rises (p + d) (suc (p + d)) (omega arith) (omega arith)) in
-        first-up p d (omega arith) (sym k)
+        first_up p d (omega arith) (sym k)
         ∙ (sym (ap (λ (u : Bool). choose u (first_of ks (p + d)) (suc (p + d))) (eq-eqb (ks (suc (p + d))) (ks (p + d)) (sym h ∙ sym k)))
         ∙ ap (first_of ks) (sym z))
 
     -- equal keys have one first place
-    pub first-same : (p q : ℕ) → p < n → q < n → ks p ≡ ks q → first_of ks p ≡ first_of ks q
-    first-same p q a b e = go (dec_lt q p)
+    pub first_same : (p q : ℕ) → p < n → q < n → ks p ≡ ks q → first_of ks p ≡ first_of ks q
+    first_same p q a b e = go (dec_lt q p)
       where
         up : (p q : ℕ) → p ≤ q → q < n → ks p ≡ ks q → first_of ks p ≡ first_of ks q
-        up p q a b e = let z : q ≡ p + (q - p) = omega arith in rw z (first-up p (q - p) (omega arith) (rw z at e))
+        up p q a b e = let z : q ≡ p + (q - p) = omega arith in rw z (first_up p (q - p) (omega arith) (rw z at e))
 
         go : Dec (q < p) → first_of ks p ≡ first_of ks q
         go (yes l) = sym (up q p (omega arith) a (sym e))

@@ -7,8 +7,8 @@ use native.Mathlib.Omega.{arith}
 use lib.ListN.{length, get_or, set}
 use Rattle.lists.specs.Fill.{put}
 use Rattle.lists.specs.Regions.{part, Apart}
-use Rattle.lists.proofs.Puts.{put-part, put_other}
-use Rattle.lists.proofs.Storing.{Storing, begin-at, inside, store, restated, stored}
+use Rattle.lists.proofs.Puts.{put_part, put_other}
+use Rattle.lists.proofs.Storing.{Storing, begin_at, inside, store, restated, stored}
 use Rattle.cover_vertices.specs.Ladder.{ladder}
 
 -- there are n of them
@@ -26,12 +26,12 @@ ladder_at x step (suc n) (suc i) h = omega (arith, ladder_at (x + step) step n i
 
 -- the rest after i of n: one more
 module _ (x step n i : ℕ) (h : i < n) where
-  pub ladder-next : ladder x step (n - i) ≡ x ∷ ladder (x + step) step (n - (i + 1))
+  pub ladder_next : ladder x step (n - i) ≡ x ∷ ladder (x + step) step (n - (i + 1))
   unfolding ladder
-  ladder-next = let e : n - i ≡ suc (n - (i + 1)) = omega arith in ap (ladder x step) e
+  ladder_next = let e : n - i ≡ suc (n - (i + 1)) = omega arith in ap (ladder x step) e
 
-  pub step-next : (n - i) * step ≡ step + (n - (i + 1)) * step
-  step-next = let e : n - i ≡ suc (n - (i + 1)) = omega arith in rw e (omega (arith, suc-mul (n - (i + 1)) step))
+  pub step_next : (n - i) * step ≡ step + (n - (i + 1)) * step
+  step_next = let e : n - i ≡ suc (n - (i + 1)) = omega arith in rw e (omega (arith, suc-mul (n - (i + 1)) step))
 
 -- nothing is left to store
 pub ladder_end : (x step n i : ℕ) → n ≤ i → ladder x step (n - i) ≡ []
@@ -54,31 +54,31 @@ climb_start at n first step w h b =
     record {
       inside = omega arith;
       bound = rw e b;
-      storing = rw (e, f) (begin-at at w (ladder first step n) (omega (arith, length-ladder first step n)));
+      storing = rw (e, f) (begin_at at w (ladder first step n) (omega (arith, length-ladder first step n)));
     }
 
 module _ {at n first step : ℕ} {w₀ w : List ℕ} {x i : ℕ} (c : Climbing at n first step w₀ w x i) where
   module _ (h : i < n) where
-    next-stored : Storing (length w₀) w (put at (ladder first step n) w₀) (x ∷ ladder (x + step) step (n - (i + 1))) (at + i)
-    next-stored = restated (ladder-next x step n i h) c.storing
+    next_stored : Storing (length w₀) w (put at (ladder first step n) w₀) (x ∷ ladder (x + step) step (n - (i + 1))) (at + i)
+    next_stored = restated (ladder_next x step n i h) c.storing
 
     -- the next entry is in the table
-    pub climb-inside : at + i < length w
-    climb-inside = inside next-stored
+    pub climb_inside : at + i < length w
+    climb_inside = inside next_stored
 
     -- and the number after it fits
-    pub climb-fits : x + step < 2 ^ 32
-    climb-fits = omega (arith, c.bound, step-next x step n i h)
+    pub climb_fits : x + step < 2 ^ 32
+    climb_fits = omega (arith, c.bound, step_next x step n i h)
 
     -- the next is stored
-    pub climb-on : Climbing at n first step w₀ (set w (at + i) x) (x + step) (i + 1)
-    climb-on =
+    pub climb_on : Climbing at n first step w₀ (set w (at + i) x) (x + step) (i + 1)
+    climb_on =
         let e : at + (i + 1) ≡ at + i + 1 = omega arith in
-        record { inside = omega arith; bound = omega (arith, c.bound, step-next x step n i h); storing = rw e (store next-stored) }
+        record { inside = omega arith; bound = omega (arith, c.bound, step_next x step n i h); storing = rw e (store next_stored) }
 
   -- all numbers are stored
-  pub climb-end : n ≤ i → w ≡ put at (ladder first step n) w₀
-  climb-end h = stored (restated (ladder_end x step n i h) c.storing)
+  pub climb_end : n ≤ i → w ≡ put at (ladder first step n) w₀
+  climb_end h = stored (restated (ladder_end x step n i h) c.storing)
 
 -- ─── the table with a ladder in it ───────────────────────────────────────────
 
@@ -88,7 +88,7 @@ module _ (at n x step : ℕ) (w : List ℕ) {v : List ℕ} (e : v ≡ put at (la
   ladder-part =
       subst (λ (k : ℕ). part at k v ≡ ladder x step n) (length-ladder x step n)
       (subst (λ (u : List ℕ). part at (length (ladder x step n)) u ≡ ladder x step n) (sym e)
-      (put-part at (ladder x step n) w (omega (arith, length-ladder x step n))))
+      (put_part at (ladder x step n) w (omega (arith, length-ladder x step n))))
 
   -- other regions are as they were
   pub ladder-other : (b k : ℕ) → Apart b k at n → b + k ≤ length w → part b k v ≡ part b k w

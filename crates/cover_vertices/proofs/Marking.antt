@@ -10,8 +10,8 @@ use lib.ListN.{length, get_or, set, take}
 use lib.Seq.{get_or-set_same, get_or-set_other, take-suc, take_all}
 use Rattle.lists.specs.Every.{All}
 use Rattle.lists.specs.Regions.{Only}
-use Rattle.lists.proofs.Every.{all-at}
-use Rattle.lists.proofs.Regions.{part-set, part_length, part_at, among-refl, only_set, only_at}
+use Rattle.lists.proofs.Every.{all_at}
+use Rattle.lists.proofs.Regions.{part-set, part_length, part_at, among_refl, only_set, only_at}
 use Rattle.cover_tours.specs.Layout.{Fits}
 use Rattle.lists.specs.Count.{agree}
 use Rattle.cover_trails.specs.Counting.{occurs}
@@ -38,7 +38,7 @@ pub record Marking (m : ℕ) (w₀ w : List ℕ) (i : ℕ) : Type 0 where
 -- no end has turned a flag yet
 pub marking_start : (m : ℕ) (w : List ℕ) → flags_in m w ≡ ladder 1 0 (2 * m) → Marking m w w 0
 marking_start m w e = record {
-  rest = among-refl ((3 * m, 2 * m) ∷ []) w;
+  rest = among_refl ((3 * m, 2 * m) ∷ []) w;
   inside = omega arith;
   odd = λ x l. unfold occurs in (omega (arith, one x l));
   flags = λ x l. omega (arith, one x l);
@@ -48,62 +48,62 @@ marking_start m w e = record {
     one x l = ap (λ (L : List ℕ). get_or L x 0) e ∙ ladder_at 1 0 (2 * m) x l ∙ omega arith
 
 module _ {m : ℕ} {w₀ w : List ℕ} {i : ℕ} (f : Fits m w₀) (low : All (λ x. x < 2 * m) (verts_in m w₀)) (g : Marking m w₀ w i) (l : i < 2 * m) where
-  verts-length : length (verts_in m w₀) ≡ 2 * m
-  verts-length = part_length 0 (2 * m) w₀ (omega (arith, f.size))
+  verts_length : length (verts_in m w₀) ≡ 2 * m
+  verts_length = part_length 0 (2 * m) w₀ (omega (arith, f.size))
 
   -- the vertex of the next end
-  pub vertex-read : get_or w i 0 ≡ get_or (verts_in m w₀) i 0
-  vertex-read = let e : 0 + i ≡ i = omega arith in rw e at (only_at (3 * m) (2 * m) w₀ w g.rest 0 (2 * m) (inl (omega arith)) i 0 l)
+  pub vertex_read : get_or w i 0 ≡ get_or (verts_in m w₀) i 0
+  vertex_read = let e : 0 + i ≡ i = omega arith in rw e at (only_at (3 * m) (2 * m) w₀ w g.rest 0 (2 * m) (inl (omega arith)) i 0 l)
 
   -- that vertex is below 2m
-  pub vertex-low : get_or w i 0 < 2 * m
-  vertex-low = rw vertex-read (all-at (λ x. x < 2 * m) (verts_in m w₀) low i 0 (omega (arith, verts-length)))
+  pub vertex_low : get_or w i 0 < 2 * m
+  vertex_low = rw vertex_read (all_at (λ x. x < 2 * m) (verts_in m w₀) low i 0 (omega (arith, verts_length)))
 
   module _ (v : ℕ) (is : v ≡ get_or w i 0) where
     v_low : v < 2 * m
-    v_low = omega (arith, vertex-low)
+    v_low = omega (arith, vertex_low)
 
     -- its flag is 0 or 1
-    pub flag-low : get_or w (3 * m + v) 0 ≤ 1
-    flag-low = rw (part_at (3 * m) (2 * m) w v 0 v_low) at (g.flags v v_low)
+    pub flag_low : get_or w (3 * m + v) 0 ≤ 1
+    flag_low = rw (part_at (3 * m) (2 * m) w v 0 v_low) at (g.flags v v_low)
 
-    in-part : v < length (flags_in m w)
-    in-part = omega (arith, part_length (3 * m) (2 * m) w (omega (arith, f.size, g.rest.size)), v_low)
+    in_part : v < length (flags_in m w)
+    in_part = omega (arith, part_length (3 * m) (2 * m) w (omega (arith, f.size, g.rest.size)), v_low)
 
-    flag-turned : (x : ℕ) → x < 2 * m → Dec (x ≡ v)
+    flag_turned : (x : ℕ) → x < 2 * m → Dec (x ≡ v)
         → ((get_or (set (flags_in m w) v (1 - get_or w (3 * m + v) 0)) x 0 + occurs x (take (i + 1) (verts_in m w₀))) % 2 ≡ 1)
         × (get_or (set (flags_in m w) v (1 - get_or w (3 * m + v) 0)) x 0 ≤ 1)
-    flag-turned x b (yes e) =
-        let same = get_or-set_same (flags_in m w) v (1 - get_or w (3 * m + v) 0) 0 in-part in
+    flag_turned x b (yes e) =
+        let same = get_or-set_same (flags_in m w) v (1 - get_or w (3 * m + v) 0) 0 in_part in
         rw (e, same) (
           omega (
             arith,
             g.odd v v_low,
-            flag-low,
+            flag_low,
             part_at (3 * m) (2 * m) w v 0 v_low,
-            occurs_more v (verts_in m w₀) i (omega (arith, verts-length)),
-            agree_same v (get_or (verts_in m w₀) i 0) (is ∙ vertex-read),
+            occurs_more v (verts_in m w₀) i (omega (arith, verts_length)),
+            agree_same v (get_or (verts_in m w₀) i 0) (is ∙ vertex_read),
           ),
           omega arith,
         )
-    flag-turned x b (no e) =
+    flag_turned x b (no e) =
         rw (get_or-set_other (flags_in m w) v x (1 - get_or w (3 * m + v) 0) 0 e) (
           omega (
             arith,
             g.odd x b,
-            occurs_more x (verts_in m w₀) i (omega (arith, verts-length)),
-            agree-other x (get_or (verts_in m w₀) i 0) (λ q. e (q ∙ (sym vertex-read ∙ sym is))),
+            occurs_more x (verts_in m w₀) i (omega (arith, verts_length)),
+            agree-other x (get_or (verts_in m w₀) i 0) (λ q. e (q ∙ (sym vertex_read ∙ sym is))),
           ),
           g.flags x b,
         )
 
     -- the next end turns it
-    pub marking-on : Marking m w₀ (set w (3 * m + v) (1 - get_or w (3 * m + v) 0)) (i + 1)
-    marking-on = record {
+    pub marking_on : Marking m w₀ (set w (3 * m + v) (1 - get_or w (3 * m + v) 0)) (i + 1)
+    marking_on = record {
       rest = only_set (3 * m) (2 * m) w₀ w g.rest v (1 - get_or w (3 * m + v) 0) v_low;
       inside = omega arith;
-      odd = λ x b. rw (part-set (3 * m) (2 * m) w v (1 - get_or w (3 * m + v) 0) v_low) (flag-turned x b (ℕ_discrete x v)).0;
-      flags = λ x b. rw (part-set (3 * m) (2 * m) w v (1 - get_or w (3 * m + v) 0) v_low) (flag-turned x b (ℕ_discrete x v)).1;
+      odd = λ x b. rw (part-set (3 * m) (2 * m) w v (1 - get_or w (3 * m + v) 0) v_low) (flag_turned x b (ℕ_discrete x v)).0;
+      flags = λ x b. rw (part-set (3 * m) (2 * m) w v (1 - get_or w (3 * m + v) 0) v_low) (flag_turned x b (ℕ_discrete x v)).1;
     }
 
 -- all ends have turned their flags

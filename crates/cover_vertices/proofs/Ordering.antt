@@ -14,9 +14,9 @@ use Rattle.lists.specs.Pick.{sort_by}
 use Rattle.lists.specs.Regions.{part}
 use Rattle.lists.specs.Limits.{most_strings}
 use Rattle.lists.proofs.Count.{length_count, count_at, all_count}
-use Rattle.lists.proofs.Every.{all-at}
-use Rattle.lists.proofs.Puts.{put-part}
-use Rattle.lists.proofs.Sorts.{sort_by-at, sort_by-place, all-sort_by, length-sort_by}
+use Rattle.lists.proofs.Every.{all_at}
+use Rattle.lists.proofs.Puts.{put_part}
+use Rattle.lists.proofs.Sorts.{sort_by_at, sort_by_place, all_sort_by, length_sort_by}
 use Rattle.collection_faults.specs.Faults.{is_weight}
 use Rattle.collection_faults.proofs.Finding.{weights_low}
 use Rattle.collection.specs.Kmers.{within}
@@ -57,30 +57,30 @@ ladder_count i (suc n) = let e : i + 1 ≡ suc i = omega arith in ap (λ (l : Li
 module _ {m : ℕ} (keys : List ℕ) {w₀ w₁ w₂ : List ℕ} (f : Fits m w₀) (l : length keys ≡ 2 * m) (a : w₁ ≡ put (12 * m) keys w₀)
     (b : w₂ ≡ put (5 * m) (ladder 0 1 (2 * m)) w₁)
     (s₁ : length w₁ ≡ length w₀) where
-  keys-first : keys_in m w₁ ≡ keys
-  keys-first =
+  keys_first : keys_in m w₁ ≡ keys
+  keys_first =
       subst (λ (n : ℕ). part (12 * m) n w₁ ≡ keys) l
-      (subst (λ (v : List ℕ). part (12 * m) (length keys) v ≡ keys) (sym a) (put-part (12 * m) keys w₀ (omega (arith, f.size))))
+      (subst (λ (v : List ℕ). part (12 * m) (length keys) v ≡ keys) (sym a) (put_part (12 * m) keys w₀ (omega (arith, f.size))))
 
   -- the weights stand there after both writes
-  pub keys-then : keys_in m w₂ ≡ keys
-  keys-then = ladder-other (5 * m) (2 * m) 0 1 w₁ b (omega (arith, f.size, s₁)) (12 * m) (2 * m) (inr (omega arith)) (omega (arith, f.size, s₁)) ∙ keys-first
+  pub keys_then : keys_in m w₂ ≡ keys
+  keys_then = ladder-other (5 * m) (2 * m) 0 1 w₁ b (omega (arith, f.size, s₁)) (12 * m) (2 * m) (inr (omega arith)) (omega (arith, f.size, s₁)) ∙ keys_first
 
   -- and the numbers of the ends
-  pub ids-then : order_in m w₂ ≡ count_from 0 (2 * m)
-  ids-then = ladder-part (5 * m) (2 * m) 0 1 w₁ b (omega (arith, f.size, s₁)) ∙ ladder_count 0 (2 * m)
+  pub ids_then : order_in m w₂ ≡ count_from 0 (2 * m)
+  ids_then = ladder-part (5 * m) (2 * m) 0 1 w₁ b (omega (arith, f.size, s₁)) ∙ ladder_count 0 (2 * m)
 
   -- these numbers are below 2m
-  pub ids-low : All (λ x. x < 2 * m) (order_in m w₂)
-  ids-low = subst (All (λ x. x < 2 * m)) (sym ids-then) (all_count (λ x. x < 2 * m) 0 (2 * m) (λ j u v. omega arith))
+  pub ids_low : All (λ x. x < 2 * m) (order_in m w₂)
+  ids_low = subst (All (λ x. x < 2 * m)) (sym ids_then) (all_count (λ x. x < 2 * m) 0 (2 * m) (λ j u v. omega arith))
 
   -- after the sort the numbers are in the order of the weights
   pub ordered : {w₃ : List ℕ} → length w₂ ≡ length w₀ → Sorted (key_at (keys_in m w₂)) (5 * m) (9 * m) (2 * m) w₂ w₃ → Ordered m keys w₃
   ordered {w₃} s₂ s = record {
     keys_are =
         sorted_part (key_at (keys_in m w₂)) s (12 * m) (2 * m) (inr (omega arith), (inr (omega arith), tt)) (omega (arith, f.size, s₂))
-        ∙ keys-then;
-    order_is = s.arranged ∙ ap₂ (λ (K I : List ℕ). sort_by (key_at K) I) keys-then ids-then;
+        ∙ keys_then;
+    order_is = s.arranged ∙ ap₂ (λ (K I : List ℕ). sort_by (key_at K) I) keys_then ids_then;
   }
 
 -- where the regions lie
@@ -103,20 +103,20 @@ module _ (m : ℕ) (keys : List ℕ) where
   in_order = sort_by (key_at keys) (count_from 0 (2 * m))
 
   -- there are 2m of them
-  pub order-length : length in_order ≡ 2 * m
-  order-length = length-sort_by (key_at keys) (count_from 0 (2 * m)) ∙ length_count 0 (2 * m)
+  pub order_length : length in_order ≡ 2 * m
+  order_length = length_sort_by (key_at keys) (count_from 0 (2 * m)) ∙ length_count 0 (2 * m)
 
   -- the weights rise in it
-  pub order-rising : Rising m keys in_order
-  order-rising = record {
-    low = λ q l. all-at (λ x. x < 2 * m) in_order
-        (all-sort_by (key_at keys) (λ x. x < 2 * m) (count_from 0 (2 * m)) (all_count (λ x. x < 2 * m) 0 (2 * m) (λ j u v. omega arith))) q 0
-        (omega (arith, order-length));
-    rises = λ p q h l. sort_by-at (key_at keys) (count_from 0 (2 * m)) p q 0 h (omega (arith, length_count 0 (2 * m)));
+  pub order_rising : Rising m keys in_order
+  order_rising = record {
+    low = λ q l. all_at (λ x. x < 2 * m) in_order
+        (all_sort_by (key_at keys) (λ x. x < 2 * m) (count_from 0 (2 * m)) (all_count (λ x. x < 2 * m) 0 (2 * m) (λ j u v. omega arith))) q 0
+        (omega (arith, order_length));
+    rises = λ p q h l. sort_by_at (key_at keys) (count_from 0 (2 * m)) p q 0 h (omega (arith, length_count 0 (2 * m)));
   }
 
   -- each end has a place
-  pub order-place : (c : ℕ) → c < 2 * m → (q : ℕ) × (q < 2 * m) × (get_or in_order q 0 ≡ c)
-  order-place c l =
-      let p = sort_by-place (key_at keys) (count_from 0 (2 * m)) c 0 (omega (arith, length_count 0 (2 * m))) in
+  pub order_place : (c : ℕ) → c < 2 * m → (q : ℕ) × (q < 2 * m) × (get_or in_order q 0 ≡ c)
+  order_place c l =
+      let p = sort_by_place (key_at keys) (count_from 0 (2 * m)) c 0 (omega (arith, length_count 0 (2 * m))) in
       (p.0, omega (arith, p.1, length_count 0 (2 * m)), p.2 ∙ count_at 0 (2 * m) c l ∙ omega arith)

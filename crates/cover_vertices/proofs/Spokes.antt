@@ -10,7 +10,7 @@ use Rattle.cover_trails.specs.Strings.{Ends}
 use Rattle.lists.proofs.Agree.{agree_same, agree-other}
 use Rattle.cover_trails.proofs.Hub.{spokes_to}
 use Rattle.cover_tours.specs.Halves.{near, unused, numbered}
-use Rattle.cover_tours.proofs.Halves.{near-hub, near-spoke}
+use Rattle.cover_tours.proofs.Halves.{near_hub, near_spoke}
 use Rattle.cover_vertices.specs.Ladder.{ladder}
 
 -- ─── the strings ─────────────────────────────────────────────────────────────
@@ -34,11 +34,11 @@ module _ (f : ℕ → ℕ) where
   unused-none e (suc n) = ap (λ (L : List Ends). (f (2 * e), f (2 * e + 1)) ∷ L) (unused-none (suc e) n)
 
   -- no more than there are flags
-  pub unused-few : (e : ℕ) (flags : List ℕ) → length (unused f e flags) ≤ length flags
+  pub unused_few : (e : ℕ) (flags : List ℕ) → length (unused f e flags) ≤ length flags
   unfolding unused
-  unused-few e [] = omega arith
-  unused-few e (zero ∷ flags) = omega (arith, unused-few (suc e) flags)
-  unused-few e (suc n ∷ flags) = omega (arith, unused-few (suc e) flags)
+  unused_few e [] = omega arith
+  unused_few e (zero ∷ flags) = omega (arith, unused_few (suc e) flags)
+  unused_few e (suc n ∷ flags) = omega (arith, unused_few (suc e) flags)
 
 -- ─── the spokes ──────────────────────────────────────────────────────────────
 
@@ -55,11 +55,11 @@ unused-spokes m verts v [] = refl
 unused-spokes m verts v (zero ∷ flags) =
     let q : suc (m + v) ≡ m + suc v = omega arith in
     ap₂ (λ (s : Ends) (L : List Ends). s ∷ L)
-    (λ j. (near-hub m verts (2 * (m + v)) (omega arith) (omega arith) j, own j))
+    (λ j. (near_hub m verts (2 * (m + v)) (omega arith) (omega arith) j, own j))
     (ap (λ (e : ℕ). unused (near m verts) e flags) q ∙ unused-spokes m verts (suc v) flags)
   where
     own : near m verts (2 * (m + v) + 1) ≡ v
-    own = near-spoke m verts (2 * (m + v) + 1) (omega arith) (λ e. omega arith) ∙ omega arith
+    own = near_spoke m verts (2 * (m + v) + 1) (omega arith) (λ e. omega arith) ∙ omega arith
 unused-spokes m verts v (suc n ∷ flags) =
     let q : suc (m + v) ≡ m + suc v = omega arith in
     ap (λ (e : ℕ). unused (near m verts) e flags) q ∙ unused-spokes m verts (suc v) flags

@@ -31,16 +31,16 @@ use Rattle.plain.specs.declared.PlainAnswer.TheVariants as plain
 use Rattle.access.specs.Access.{access_verdict, access_part}
 use Rattle.plain.specs.Plain.{plain_found, plain_of}
 use Rattle.access.proofs.Accessed.{access_good, access_word}
-use Rattle.plain.specs.Says.{Says, as-asked, as-turned, absent, Stands, Nowhere}
-use Rattle.plain.proofs.Found.{plain-own}
+use Rattle.plain.specs.Says.{Says, as_asked, as_turned, absent, Stands, Nowhere}
+use Rattle.plain.proofs.Found.{plain_own}
 use Rattle.index_minimizers.specs.Minimizer.{sizes_verdict, minimizer, minimizer_at}
 use Rattle.index_stretches.specs.Index.{Index, indexed}
 use Rattle.quick.specs.declared.QuickAnswer.{QuickAnswer}
 use Rattle.quick.specs.declared.QuickAnswer.TheVariants.{Found, Absent, Refused}
 use Rattle.quick.specs.Quick.{quick_found, ask_verdict, quick_verdict, quick_of}
-use Rattle.quick.proofs.Asked.{ask_good, row_below, other-below}
+use Rattle.quick.proofs.Asked.{ask_good, row_below, other_below}
 use Rattle.dictionary.specs.Agreement.{unnumbered, sided}
-use Rattle.dictionary.proofs.Found.{quick-plain, quick-says, never-ten}
+use Rattle.dictionary.proofs.Found.{quick_plain, quick_says, never_ten}
 
 module _ (c : Collection) (p : ℕ) (passes : Passes c) (sizes : sizes_verdict c.k p ≡ Good) where
   -- the index of the collection
@@ -62,39 +62,39 @@ module _ (c : Collection) (p : ℕ) (passes : Passes c) (sizes : sizes_verdict c
     unfolding ask_verdict
     asking = then_good _ sizes (then_good _ few_letters good)
 
-    asked-below : minimizer p (spell word) < 4 ^ p
-    asked-below = row_below (ask_good c.k p word (length c.letters) asking)
+    asked_below : minimizer p (spell word) < 4 ^ p
+    asked_below = row_below (ask_good c.k p word (length c.letters) asking)
 
-    turned-below : minimizer p (turn (spell word)) < 4 ^ p
-    turned-below = other-below (ask_good c.k p word (length c.letters) asking)
+    turned_below : minimizer p (turn (spell word)) < 4 ^ p
+    turned_below = other_below (ask_good c.k p word (length c.letters) asking)
 
-    quick-passes : quick_verdict c.k p word c.letters index ≡ Good
+    quick_passes : quick_verdict c.k p word c.letters index ≡ Good
     unfolding quick_verdict
-    quick-passes = then_good _ asking (never-ten (minimizer p) (4 ^ p) c.k c.letters c.ends judged.shape (spell word) asked-below turned-below)
+    quick_passes = then_good _ asking (never_ten (minimizer p) (4 ^ p) c.k c.letters c.ends judged.shape (spell word) asked_below turned_below)
 
-    quick-answers : quick_of c.k p word c.letters index ≡ quick_found (minimizer p) c.k c.letters index (spell word)
+    quick_answers : quick_of c.k p word c.letters index ≡ quick_found (minimizer p) c.k c.letters index (spell word)
     unfolding quick_of
-    quick-answers = sym (settled Refused refl quick-passes)
+    quick_answers = sym (settled Refused refl quick_passes)
 
     -- QUICK and PLAIN agree
-    pub quick-agrees : unnumbered (quick_of c.k p word c.letters index) ≡ plain_of c word
+    pub quick_agrees : unnumbered (quick_of c.k p word c.letters index) ≡ plain_of c word
     unfolding plain_of
-    quick-agrees =
-        ap unnumbered quick-answers
-        ∙ settled plain.Refused (quick-plain (minimizer p) (4 ^ p) c.k c.letters c.ends (spell word) asked-below turned-below)
+    quick_agrees =
+        ap unnumbered quick_answers
+        ∙ settled plain.Refused (quick_plain (minimizer p) (4 ^ p) c.k c.letters c.ends (spell word) asked_below turned_below)
         (then_good (word_verdict c.k word) passes good)
 
     -- it finds exactly the words that stand in the collection, as asked or turned, with their lowest handles
-    pub quick-finds : Says (spelling_of c) (spell word) (unnumbered (quick_of c.k p word c.letters index))
-    quick-finds =
-        subst (λ (answer : QuickAnswer). Says (spelling_of c) (spell word) (unnumbered answer)) (sym quick-answers)
-        (quick-says (minimizer p) (4 ^ p) c.k c.letters c.ends (spell word) asked-below turned-below)
+    pub quick_finds : Says (spelling_of c) (spell word) (unnumbered (quick_of c.k p word c.letters index))
+    quick_finds =
+        subst (λ (answer : QuickAnswer). Says (spelling_of c) (spell word) (unnumbered answer)) (sym quick_answers)
+        (quick_says (minimizer p) (4 ^ p) c.k c.letters c.ends (spell word) asked_below turned_below)
 
     -- found, the asked word stands at the handle, on the side that is told
-    pub found-stands : (handle : ℕ) (side : Side) (compared : ℕ) → quick_of c.k p word c.letters index ≡ Found handle side compared
+    pub found_stands : (handle : ℕ) (side : Side) (compared : ℕ) → quick_of c.k p word c.letters index ≡ Found handle side compared
         → Stands (spelling_of c) (sided side (spell word)) handle
     unfolding unnumbered
-    found-stands handle side compared e = go quick-finds (ap unnumbered e)
+    found_stands handle side compared e = go quick_finds (ap unnumbered e)
       where
         at : (h : ℕ) (s : Side) → Stands (spelling_of c) (sided s (spell word)) h → handle ≡ h → s ≡ side
             → Stands (spelling_of c) (sided side (spell word)) handle
@@ -104,30 +104,30 @@ module _ (c : Collection) (p : ℕ) (passes : Passes c) (sizes : sizes_verdict c
 
         go : {answer : PlainAnswer} → Says (spelling_of c) (spell word) answer → answer ≡ plain.Found handle side
             → Stands (spelling_of c) (sided side (spell word)) handle
-        go (as-asked h s) q = let n : handle ≡ h = cc in let m : Asked ≡ side = cc in at h Asked s.here n m
-        go (as-turned h none s) q = let n : handle ≡ h = cc in let m : Turned ≡ side = cc in at h Turned s.here n m
+        go (as_asked h s) q = let n : handle ≡ h = cc in let m : Asked ≡ side = cc in at h Asked s.here n m
+        go (as_turned h none s) q = let n : handle ≡ h = cc in let m : Turned ≡ side = cc in at h Turned s.here n m
         go (absent none none') q = refuted (cc)
 
     -- absent, neither stands anywhere
-    pub absent-nowhere : (compared : ℕ) → quick_of c.k p word c.letters index ≡ Absent compared
+    pub absent_nowhere : (compared : ℕ) → quick_of c.k p word c.letters index ≡ Absent compared
         → Nowhere (spelling_of c) (spell word) × Nowhere (spelling_of c) (turn (spell word))
     unfolding unnumbered
-    absent-nowhere compared e = go quick-finds (ap unnumbered e)
+    absent_nowhere compared e = go quick_finds (ap unnumbered e)
       where
         go : {answer : PlainAnswer} → Says (spelling_of c) (spell word) answer → answer ≡ plain.Absent
             → Nowhere (spelling_of c) (spell word) × Nowhere (spelling_of c) (turn (spell word))
-        go (as-asked h s) q = refuted (cc)
-        go (as-turned h none s) q = refuted (cc)
+        go (as_asked h s) q = refuted (cc)
+        go (as_turned h none s) q = refuted (cc)
         go (absent none none') q = (none, none')
 
     -- no word of k letters is refused
-    pub never-refused : (number place : ℕ) → quick_of c.k p word c.letters index ≡ Refused number place → ⊥
+    pub never_refused : (number place : ℕ) → quick_of c.k p word c.letters index ≡ Refused number place → ⊥
     unfolding unnumbered
-    never-refused number place e = go quick-finds (ap unnumbered e)
+    never_refused number place e = go quick_finds (ap unnumbered e)
       where
         go : {answer : PlainAnswer} → Says (spelling_of c) (spell word) answer → answer ≡ plain.Refused number place → ⊥
-        go (as-asked h l) q = refuted (cc)
-        go (as-turned h none l) q = refuted (cc)
+        go (as_asked h l) q = refuted (cc)
+        go (as_turned h none l) q = refuted (cc)
         go (absent none none') q = refuted (cc)
 
     -- what stands there on either side is found
@@ -138,32 +138,32 @@ module _ (c : Collection) (p : ℕ) (passes : Passes c) (sizes : sizes_verdict c
         go : (answer : QuickAnswer) → quick_of c.k p word c.letters index ≡ answer
             → (found : ℕ) × (side : Side) × (compared : ℕ) × (quick_of c.k p word c.letters index ≡ Found found side compared)
         go (Found found side compared) e = (found, side, compared, e)
-        go (Absent compared) e = let a = absent-nowhere compared e in absurd (⊎_elim (a.0 handle) (a.1 handle) s)
-        go (Refused number place) e = absurd (never-refused number place e)
+        go (Absent compared) e = let a = absent_nowhere compared e in absurd (⊎_elim (a.0 handle) (a.1 handle) s)
+        go (Refused number place) e = absurd (never_refused number place e)
 
   -- ─── what ACCESS hands back ────────────────────────────────────────────────
 
   module _ (handle : ℕ) (inside : access_verdict (spelling_of c) handle ≡ Good) where
-    part-is : take c.k (drop (position_of c.k c.ends handle) c.letters) ≡ access_part (spelling_of c) handle
+    part_is : take c.k (drop (position_of c.k c.ends handle) c.letters) ≡ access_part (spelling_of c) handle
     unfolding access_part
-    part-is = settled (λ number place. _) refl inside
+    part_is = settled (λ number place. _) refl inside
 
     -- it is a word that QUICK takes
-    pub access-passes : word_verdict c.k (access_part (spelling_of c) handle) ≡ Good
+    pub access_passes : word_verdict c.k (access_part (spelling_of c) handle) ≡ Good
     unfolding word_verdict
-    access-passes =
+    access_passes =
         let a = access_good (spelling_of c) handle inside in
         let long = length_at c.letters c.k (position_of c.k c.ends handle) (position_fits judged.shape handle a.low a.high) in
         let all = all_take (λ b. is_letter b ≡ true) c.k (drop (position_of c.k c.ends handle) c.letters)
         (all_drop (λ b. is_letter b ≡ true) (position_of c.k c.ends handle) c.letters judged.all_letters) in
-        subst (λ (word : List ℕ). choose (eqb (length word) c.k && every is_letter word) Good (Bad 9 0) ≡ Good) part-is
+        subst (λ (word : List ℕ). choose (eqb (length word) c.k && every is_letter word) Good (Bad 9 0) ≡ Good) part_is
         (ap (λ (t : Bool). choose t Good (Bad 9 0)) (and_both (eq-eqb _ c.k long) (all-every is_letter _ all)))
 
     -- with no repeated words, asking QUICK for it gives its handle
-    pub quick-own : Distinct (spelling_of c) → unnumbered (quick_of c.k p (access_part (spelling_of c) handle) c.letters index) ≡ plain.Found handle Asked
+    pub quick_own : Distinct (spelling_of c) → unnumbered (quick_of c.k p (access_part (spelling_of c) handle) c.letters index) ≡ plain.Found handle Asked
     unfolding plain_of
-    quick-own d =
+    quick_own d =
         let a = access_good (spelling_of c) handle inside in
-        quick-agrees (access_part (spelling_of c) handle) access-passes
-        ∙ (sym (settled plain.Refused refl (then_good _ passes access-passes))
-        ∙ (ap (plain_found (spelling_of c)) (access_word (spelling_of c) handle inside) ∙ plain-own (spelling_of c) d handle a.low a.high))
+        quick_agrees (access_part (spelling_of c) handle) access_passes
+        ∙ (sym (settled plain.Refused refl (then_good _ passes access_passes))
+        ∙ (ap (plain_found (spelling_of c)) (access_word (spelling_of c) handle inside) ∙ plain_own (spelling_of c) d handle a.low a.high))

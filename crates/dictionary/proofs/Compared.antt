@@ -33,7 +33,7 @@ module _ (test : ℕ → Bool) where
     pub split : xs ≡ passed ++ (here ∷ left)
     pub none_passed : None passed
     pub meets : test here.at ≡ true
-    pub is-handle : handle ≡ here.handle
+    pub is_handle : handle ≡ here.handle
     pub counted : compared ≡ c + length passed + 1
 
   -- how a walk ends
@@ -42,10 +42,10 @@ module _ (test : ℕ → Bool) where
     past : (compared : ℕ) → compared ≡ c + length xs → None xs → Walked c xs (Miss compared)
 
   -- a walk ends at the first k-mer that meets the test, or past them all
-  pub seek-walks : (c : ℕ) (xs : List Kmer) → Walked c xs (seek test c xs)
+  pub seek_walks : (c : ℕ) (xs : List Kmer) → Walked c xs (seek test c xs)
   unfolding seek
-  seek-walks c [] = past c (omega arith) tt
-  seek-walks c (x ∷ xs) = go (test x.at) refl (seek-walks (suc c) xs)
+  seek_walks c [] = past c (omega arith) tt
+  seek_walks c (x ∷ xs) = go (test x.at) refl (seek_walks (suc c) xs)
     where
       later : {m : Met} → test x.at ≡ false → Walked (suc c) xs m → Walked c (x ∷ xs) m
       later e (meeting handle compared w) =
@@ -57,7 +57,7 @@ module _ (test : ℕ → Bool) where
             split = ap (λ (l : List Kmer). x ∷ l) w.split;
             none_passed = (e, w.none_passed);
             meets = w.meets;
-            is-handle = w.is-handle;
+            is_handle = w.is_handle;
             counted = omega (arith, w.counted);
           })
       later e (past compared n none) = past compared (omega arith) (e, none)
@@ -66,7 +66,7 @@ module _ (test : ℕ → Bool) where
           → Walked c (x ∷ xs) (choose t (Hit x.handle (suc c)) (seek test (suc c) xs))
       go true e w =
           meeting x.handle (suc c)
-          (record { passed = []; here = x; left = xs; split = refl; none_passed = tt; meets = e; is-handle = refl; counted = omega arith })
+          (record { passed = []; here = x; left = xs; split = refl; none_passed = tt; meets = e; is_handle = refl; counted = omega arith })
       go false e w = later e w
 
 -- ─── both walks ──────────────────────────────────────────────────────────────
@@ -81,21 +81,21 @@ module _ (z : List ℕ → ℕ) (k : ℕ) (letters : List ℕ) (index : Index) (
 
   -- what each answer says of the walks
   pub data Compares : QuickAnswer → Type 0 where
-    as-asked : (handle compared : ℕ) → Meets (is_word k letters w) 0 asked_row handle compared → Compares (Found handle Asked compared)
-    as-turned : (handle compared : ℕ) → None (is_word k letters w) asked_row → Meets (is_word k letters (turn w)) (length asked_row) turned_row handle compared
+    as_asked : (handle compared : ℕ) → Meets (is_word k letters w) 0 asked_row handle compared → Compares (Found handle Asked compared)
+    as_turned : (handle compared : ℕ) → None (is_word k letters w) asked_row → Meets (is_word k letters (turn w)) (length asked_row) turned_row handle compared
         → Compares (Found handle Turned compared)
     absent : (compared : ℕ) → compared ≡ length asked_row + length turned_row → None (is_word k letters w) asked_row → None (is_word k letters (turn w)) turned_row
         → Compares (Absent compared)
 
   -- the number compared is exact
-  pub quick-compares : Compares (quick_found z k letters index w)
+  pub quick_compares : Compares (quick_found z k letters index w)
   unfolding quick_found met_or
-  quick-compares = first (seek-walks (is_word k letters w) 0 asked_row)
+  quick_compares = first (seek_walks (is_word k letters w) 0 asked_row)
     where
       second : (c : ℕ) → c ≡ length asked_row → None (is_word k letters w) asked_row → {m : Met} → Walked (is_word k letters (turn w)) c turned_row m
           → Compares (met_or Turned m Absent)
       second c e none (meeting handle compared v) =
-          as-turned handle compared none
+          as_turned handle compared none
           (record {
             passed = v.passed;
             here = v.here;
@@ -103,21 +103,21 @@ module _ (z : List ℕ → ℕ) (k : ℕ) (letters : List ℕ) (index : Index) (
             split = v.split;
             none_passed = v.none_passed;
             meets = v.meets;
-            is-handle = v.is-handle;
+            is_handle = v.is_handle;
             counted = omega (arith, v.counted);
           })
       second c e none (past compared n none') = absent compared (omega arith) none none'
 
       first : {m : Met} → Walked (is_word k letters w) 0 asked_row m
           → Compares (met_or Asked m (λ c. met_or Turned (seek (is_word k letters (turn w)) c turned_row) Absent))
-      first (meeting handle compared v) = as-asked handle compared v
-      first (past c n none) = second c (omega arith) none (seek-walks (is_word k letters (turn w)) c turned_row)
+      first (meeting handle compared v) = as_asked handle compared v
+      first (past c n none) = second c (omega arith) none (seek_walks (is_word k letters (turn w)) c turned_row)
 
   -- absent, all of both rows were compared
-  pub absent-compares-all : (compared : ℕ) → quick_found z k letters index w ≡ Absent compared → compared ≡ length asked_row + length turned_row
-  absent-compares-all compared e = go quick-compares e
+  pub absent_compares_all : (compared : ℕ) → quick_found z k letters index w ≡ Absent compared → compared ≡ length asked_row + length turned_row
+  absent_compares_all compared e = go quick_compares e
     where
       go : {answer : QuickAnswer} → Compares answer → answer ≡ Absent compared → compared ≡ length asked_row + length turned_row
-      go (as-asked handle n v) q = cc
-      go (as-turned handle n none v) q = cc
+      go (as_asked handle n v) q = cc
+      go (as_turned handle n none v) q = cc
       go (absent n e none none') q = let s : compared ≡ n = cc in s ∙ e

@@ -4,26 +4,26 @@ use mathlib.Core.List.{List}
 use Prim.Native.Nat.{ℕ, ◌+◌, ◌-◌, ◌/◌}
 use lib.IntN.{ℤ, pos, nat_abs}
 use lib.ListN.{length, get_or, take}
-use Rattle.lists.proofs.Storing.{take-fill}
+use Rattle.lists.proofs.Storing.{take_fill}
 use Rattle.lists.proofs.Refuted.{refuted}
 use Rattle.collection.specs.Collection.{Collection}
 use Rattle.collection.specs.Judge.{Passes, collection_verdict}
 use Rattle.collection.specs.Strings.{Str}
 use Rattle.collection.specs.EndWeights.{end_weights}
 use Rattle.collection.proofs.Verdicts.{both_good, done_by}
-use Rattle.sheet.proofs.Calls.{write-of-read}
+use Rattle.sheet.proofs.Calls.{write_of_read}
 use Rattle.cover_trails.specs.Groups.{least, even_groups, odd_weights}
 use Rattle.cover_trails.specs.Places.{SignedPermutation}
 use Rattle.cover.specs.declared.CoverAnswer.{CoverAnswer}
 use Rattle.cover.specs.declared.CoverAnswer.TheVariants as cover
 use Rattle.cover.specs.Cover.{Promise, cover_verdict}
-use Rattle.cover.proofs.Laws.{cover-fills}
+use Rattle.cover.proofs.Laws.{cover_fills}
 use Rattle.apply_strings.specs.Weighs.{none}
-use Rattle.apply_strings.proofs.Handles.{weight-kept, weight-from}
+use Rattle.apply_strings.proofs.Handles.{weight_kept, weight_from}
 use Rattle.apply_places.proofs.Permutation.{one_string}
-use Rattle.apply_strings.proofs.Reordered.{reordered-passes, reordered-strings, string-stands, string_from}
+use Rattle.apply_strings.proofs.Reordered.{reordered_passes, reordered-strings, string_stands, string_from}
 use Rattle.cover_fewest.specs.Fewest.{runs_at, least_runs}
-use Rattle.cover_fewest.proofs.Fewest.{fewest-runs, cover-fewest, none-zero}
+use Rattle.cover_fewest.proofs.Fewest.{fewest_runs, cover_fewest, none-zero}
 use Rattle.dictionary.specs.Demands.{DemandOne, Reordered, DemandTwo, DemandThree}
 use Rattle.dictionary.proofs.Determined.{one_outcome, kept}
 use Rattle.dictionary.proofs.Dictionary.{answers}
@@ -37,20 +37,20 @@ reordered c places passes perm =
     record {
       stands = λ i l.
           ap (λ (ss : List Str). get_or ss (nat_abs (get_or places i (pos 0)) - 1) none) (reordered-strings c places passes perm)
-          ∙ string-stands c places passes perm i l;
+          ∙ string_stands c places passes perm i l;
       one_place = one_string perm;
-      each-place = string_from c places passes perm;
-      weights-kept = weight-kept c places passes perm;
-      none-new = weight-from c places passes perm;
-      sound-kept = λ s.
+      each_place = string_from c places passes perm;
+      weights_kept = weight_kept c places passes perm;
+      none_new = weight_from c places passes perm;
+      sound_kept = λ s.
           record {
-            passes = reordered-passes c places passes perm;
+            passes = reordered_passes c places passes perm;
             distinct = reordered-distinct c places passes perm s.distinct;
           };
     }
 
 pub demand_two : DemandTwo
-demand_two = record { found = answers; reordering = reordered; same_bytes = write-of-read }
+demand_two = record { found = answers; reordering = reordered; same_bytes = write_of_read }
 
 covered : (c : Collection) (places : List ℤ) (work : List ℕ) (m paths : ℕ) (places' : List ℤ) (work' : List ℕ)
     → Promise c places work (cover.Covered m paths) places' work'
@@ -62,15 +62,15 @@ covered c places work m paths places' work' p =
     (cover.Covered m paths)
     (λ number place q. refuted (cc)) (sym p.answered) in
     let passes : Passes c = (both_good (collection_verdict c) _ good.0).0 in
-    let filled = cover-fills c places work p good.0 in
+    let filled = cover_fills c places work p good.0 in
     let q : cover.Covered (length c.ends) (least (end_weights c)) ≡ cover.Covered m paths = good.2 in
     let a : length c.ends ≡ m = cc in
     let b : least (end_weights c) ≡ paths = cc in
-    let e : filled.0 ≡ take m places' = sym (ap (take m) filled.1 ∙ take-fill filled.0 places m (filled.2.number ∙ a)) in (
+    let e : filled.0 ≡ take m places' = sym (ap (take m) filled.1 ∙ take_fill filled.0 places m (filled.2.number ∙ a)) in (
       subst (SignedPermutation (length c.ends)) e filled.2,
-      ap (runs_at c) (sym e) ∙ cover-fewest c passes filled.0 filled.3,
+      ap (runs_at c) (sym e) ∙ cover_fewest c passes filled.0 filled.3,
       sym b,
     )
 
 pub demand_three : DemandThree
-demand_three = record { fewest = fewest-runs; covered = covered; empty = none-zero }
+demand_three = record { fewest = fewest_runs; covered = covered; empty = none-zero }

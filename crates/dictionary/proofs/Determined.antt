@@ -27,7 +27,7 @@ use Rattle.repeats.specs.Check.{first_repeat, check_verdict, check_of}
 use Rattle.cover_trails.specs.Strings.{Ends}
 use Rattle.cover.specs.declared.CoverAnswer.TheVariants as cover
 use Rattle.cover.specs.Cover.{CoverOf, Promise, cover_verdict}
-use Rattle.cover.proofs.Laws.{cover-only}
+use Rattle.cover.proofs.Laws.{cover_only}
 use Rattle.apply.specs.declared.ApplyAnswer.{ApplyAnswer}
 use Rattle.apply.specs.declared.ApplyAnswer.TheVariants as apply
 use Rattle.apply.specs.Apply as applying
@@ -61,7 +61,7 @@ one_outcome =
       weight = λ weights_of_runs firsts_of_runs n handle a b e f. e ∙ sym f;
       weight_records = λ records n handle a b e f. e ∙ sym f;
       report = λ sheet text a b e f. e ∙ sym f;
-      cover = λ c places work a b places₁ places₂ work₁ work₂ p q. cover-only c places work p q;
+      cover = λ c places work a b places₁ places₂ work₁ work₂ p q. cover_only c places work p q;
     }
 
 -- ─── refusals ────────────────────────────────────────────────────────────────

@@ -36,7 +36,7 @@ use Rattle.quick.specs.declared.QuickAnswer.TheVariants.{Found, Absent, Refused}
 use Rattle.quick.specs.declared.WordAnswer.TheVariants.{Weighs}
 use Rattle.quick.specs.Weighed.{weighs, weighed_of}
 use Rattle.dictionary.specs.Agreement.{unnumbered, sided}
-use Rattle.dictionary.proofs.Agreed.{found-stands, absent-nowhere, never-refused, stands_found, quick-own}
+use Rattle.dictionary.proofs.Agreed.{found_stands, absent_nowhere, never_refused, stands_found, quick_own}
 use Rattle.dictionary.specs.Dictionary.{Sound, Answers}
 
 -- a judged word has letters only
@@ -61,9 +61,9 @@ module _ (c : Collection) (p : ℕ) (passes : Passes c) (sizes : sizes_verdict c
 
   module _ (word : List ℕ) (good : word_verdict c.k word ≡ Good) where
     -- two handles at which the word stands, on either side, are one
-    one-handle : Distinct (spelling_of c) → (s t : Side) (h j : ℕ) → Stands (spelling_of c) (sided s (spell word)) h
+    one_handle : Distinct (spelling_of c) → (s t : Side) (h j : ℕ) → Stands (spelling_of c) (sided s (spell word)) h
         → Stands (spelling_of c) (sided t (spell word)) j → h ≡ j
-    one-handle d s t h j a b =
+    one_handle d s t h j a b =
         omega (arith, d (h - 1) (j - 1) (omega (arith, a.low, a.high)) (omega (arith, b.low, b.high)) (alike s t a.word b.word), a.low, b.low)
       where
         back : (i : ℕ) → 1 ≤ i → word_of (spelling_of c) (i - 1 + 1) ≡ word_of (spelling_of c) i
@@ -102,16 +102,16 @@ answers c p sound sizes =
           let either : (x : Side) → Stands (spelling_of c) (sided x (spell word)) handle
           → Stands (spelling_of c) (spell word) handle ⊎ Stands (spelling_of c) (turn (spell word)) handle = by_side word handle in
           let f = stands_found c p passes sizes word good handle (either side s) in
-          let t = found-stands c p passes sizes word good f.0 f.1 f.2 f.3 in
-          let h = one-handle c p passes sizes word good sound.distinct f.1 side f.0 handle t s in
+          let t = found_stands c p passes sizes word good f.0 f.1 f.2 f.3 in
+          let h = one_handle c p passes sizes word good sound.distinct f.1 side f.0 handle t s in
           let e = f.3 ∙ ap (λ (i : ℕ). Found i f.1 f.2) h in
           (f.1, f.2, e, found_weighs c passes _ handle f.1 f.2 s.low (omega (arith, s.high, many c p passes sizes)) e);
-      found = found-stands c p passes sizes;
-      absent = λ word good compared e. absent-nowhere c p passes sizes word good compared e;
-      taken = never-refused c p passes sizes;
+      found = found_stands c p passes sizes;
+      absent = λ word good compared e. absent_nowhere c p passes sizes word good compared e;
+      taken = never_refused c p passes sizes;
       given_back = λ handle l m.
           let v = handle_good c p passes sizes handle l m in
-          (v, access_word (spelling_of c) handle v, found_as _ handle Asked (quick-own c p passes sizes handle v sound.distinct));
+          (v, access_word (spelling_of c) handle v, found_as _ handle Asked (quick_own c p passes sizes handle v sound.distinct));
     }
   where
     passes : Passes c

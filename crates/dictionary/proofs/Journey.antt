@@ -6,7 +6,7 @@ use Prim.Native.Nat.{ℕ, ◌+◌, ◌^◌}
 use lib.IntN.{ℤ}
 use lib.ListN.{length, take, length-map}
 use Rattle.lists.proofs.Every.{all_map}
-use Rattle.lists.proofs.Storing.{take-fill}
+use Rattle.lists.proofs.Storing.{take_fill}
 use Rattle.lists.proofs.Refuted.{refuted}
 use Rattle.words.specs.Word.{spell}
 use Rattle.collection.specs.Collection.{Collection, collection, spelling_of}
@@ -19,14 +19,14 @@ use Rattle.collection.proofs.Strings.{strings-back}
 use Rattle.collection.proofs.Verdicts.{both_good, done_by}
 use Rattle.sheet.specs.Sheet.{sheet_k, sheet_strings}
 use Rattle.sheet.proofs.Accepted.{accepted_holds}
-use Rattle.sheet.proofs.Calls.{ReadDone, read_done_lem, read-passes}
-use Rattle.repeats.proofs.Checked.{check-distinct}
+use Rattle.sheet.proofs.Calls.{ReadDone, read_done_lem, read_passes}
+use Rattle.repeats.proofs.Checked.{check_distinct}
 use Rattle.cover_trails.specs.Groups.{least}
 use Rattle.cover_trails.specs.Places.{SignedPermutation}
 use Rattle.cover.specs.declared.CoverAnswer.{CoverAnswer}
 use Rattle.cover.specs.declared.CoverAnswer.TheVariants as cover
 use Rattle.cover.specs.Cover.{Fewest, cover_verdict}
-use Rattle.cover.proofs.Laws.{cover-fills}
+use Rattle.cover.proofs.Laws.{cover_fills}
 use Rattle.apply.specs.declared.ApplyAnswer.TheVariants as apply
 use Rattle.apply.specs.Apply as applying
 use Rattle.apply_strings.specs.Reordered.{reordered}
@@ -36,17 +36,17 @@ use Rattle.apply_strings.specs.Weighs.{Weighs, WeighsAt}
 use Rattle.apply_places.specs.Places.{places_verdict}
 use Rattle.apply.proofs.Applying.{applied}
 use Rattle.apply_places.proofs.Permutation.{places_good}
-use Rattle.apply_strings.proofs.Handles.{weighs-handle, handle-weighs}
-use Rattle.apply_strings.proofs.Reordered.{reordered-sizes}
+use Rattle.apply_strings.proofs.Handles.{weighs_handle, handle_weighs}
+use Rattle.apply_strings.proofs.Reordered.{reordered_sizes}
 use Rattle.cover_fewest.specs.Fewest.{FewestRuns}
-use Rattle.cover_fewest.proofs.Fewest.{fewest-runs, cover-fewest}
+use Rattle.cover_fewest.proofs.Fewest.{fewest_runs, cover_fewest}
 use Rattle.runs.specs.declared.RunsAnswer.TheVariants as listing
 use Rattle.runs.specs.Calls as runs_calls
 use Rattle.runs.specs.Calls.{runs_of}
 use Rattle.runs.specs.Runs.{runs, weights_of_runs, firsts_of_runs, run_count}
 use Rattle.index.specs.declared.IndexAnswer.TheVariants as index
 use Rattle.index.specs.Indexing.{stretch_count, first_entries, index_with, index_verdict, index_of}
-use Rattle.index.proofs.Success.{index-told, index-success}
+use Rattle.index.proofs.Success.{index_told, index_success}
 use Rattle.index_minimizers.specs.Minimizer.{sizes_verdict}
 use Rattle.quick.specs.Quick.{quick_of}
 use Rattle.quick.specs.Weighed.{weighed_of}
@@ -66,7 +66,7 @@ use Rattle.dictionary.specs.Journey.{
   absent,
   EndToEnd,
 }
-use Rattle.dictionary.proofs.Said.{Said, reordered-says}
+use Rattle.dictionary.proofs.Said.{Said, reordered_says}
 
 -- ─── the calls in a row ──────────────────────────────────────────────────────
 
@@ -78,34 +78,34 @@ module _ {sheet : List ℕ} (r : Reading sheet) where
   done = read_done_lem sheet r.lent r.k r.N r.m r.n r.filled
 
   -- what READ gave passes, and its strings are those of the sheet
-  passes-read : Passes (collection_read r)
-  passes-read = read-passes sheet r.lent r.k r.N r.m r.n r.filled
+  passes_read : Passes (collection_read r)
+  passes_read = read_passes sheet r.lent r.k r.N r.m r.n r.filled
 
-  strings-read : strings (collection_read r) ≡ sheet_strings sheet
-  strings-read =
+  strings_read : strings (collection_read r) ≡ sheet_strings sheet
+  strings_read =
       (λ i. strings (collection (done.k_is i) (done.letters_are i) (done.ends_are i) (done.weights_are i)))
       ∙ strings-back (sheet_k sheet) (sheet_strings sheet) (all_map (λ s h. h.whole) (sheet_strings sheet) (accepted_holds sheet done.accepted))
 
   -- so what the collection says of a word is what the sheet says
-  read-says : (w : List ℕ) (weight : ℕ) → WeighsAt (collection_read r) w weight → Weighs (sheet_k sheet) (sheet_strings sheet) w weight
-  read-says w weight u =
+  read_says : (w : List ℕ) (weight : ℕ) → WeighsAt (collection_read r) w weight → Weighs (sheet_k sheet) (sheet_strings sheet) w weight
+  read_says w weight u =
       subst (λ (x : ℕ). Weighs x (sheet_strings sheet) w weight) done.k_is
-      (subst (λ (ss : List Str). Weighs r.k ss w weight) strings-read (weighs-handle (collection_read r) passes-read w weight u))
+      (subst (λ (ss : List Str). Weighs r.k ss w weight) strings_read (weighs_handle (collection_read r) passes_read w weight u))
 
-  says-read : (w : List ℕ) (weight : ℕ) → Weighs (sheet_k sheet) (sheet_strings sheet) w weight → WeighsAt (collection_read r) w weight
-  says-read w weight u =
-      handle-weighs (collection_read r) passes-read w weight
-      (subst (λ (ss : List Str). Weighs r.k ss w weight) (sym strings-read) (subst (λ (x : ℕ). Weighs x (sheet_strings sheet) w weight) (sym done.k_is) u))
+  says_read : (w : List ℕ) (weight : ℕ) → Weighs (sheet_k sheet) (sheet_strings sheet) w weight → WeighsAt (collection_read r) w weight
+  says_read w weight u =
+      handle_weighs (collection_read r) passes_read w weight
+      (subst (λ (ss : List Str). Weighs r.k ss w weight) (sym strings_read) (subst (λ (x : ℕ). Weighs x (sheet_strings sheet) w weight) (sym done.k_is) u))
 
 module _ {sheet : List ℕ} {r : Reading sheet} (o : Reordering r) where
-  distinct-read : Distinct (spelling_of (collection_read r))
-  distinct-read = (check-distinct (collection_read r) o.work₁ r.n o.checked).0.distinct
+  distinct_read : Distinct (spelling_of (collection_read r))
+  distinct_read = (check_distinct (collection_read r) o.work₁ r.n o.checked).0.distinct
 
   -- APPLY's two verdicts are good
-  apply-good : (tables_verdict (collection_read r) (rooms_of o.tables₁.new) (length o.tables₁.work) ≡ Good)
+  apply_good : (tables_verdict (collection_read r) (rooms_of o.tables₁.new) (length o.tables₁.work) ≡ Good)
       × (places_verdict (length (collection_read r).ends) (take r.m o.places) ≡ Good)
   unfolding apply_of placed_of
-  apply-good =
+  apply_good =
       let t = done_by (λ (x : applying.Outcome). x.answer) _ _ _ (apply.Filled r.N r.m r.n) (λ number place q. refuted (cc)) o.applied in
       let u = done_by (λ (x : applying.Outcome). x.answer) _ _ _ (apply.Filled r.N r.m r.n) (λ number place q. refuted (cc)) t.2 in
       (t.0, u.0)
@@ -114,42 +114,42 @@ module _ {sheet : List ℕ} {r : Reading sheet} (o : Reordering r) where
   placed = take r.m o.places
 
   permutation : SignedPermutation (length (collection_read r).ends) placed
-  permutation = places_good (length (collection_read r).ends) placed apply-good.1
+  permutation = places_good (length (collection_read r).ends) placed apply_good.1
 
   -- what it filled are the tables of the reordered strings
   abbrev strung : List Str
   strung = reordered (collection_read r) placed
 
   pub record Applied : Type 0 where
-    pub strings-many : r.m ≡ length (collection_read r).ends
-    pub collection-is : collection_applied o ≡ joined r.k strung
-    pub weights-many : r.n ≡ length (weights_in strung)
+    pub strings_many : r.m ≡ length (collection_read r).ends
+    pub collection_is : collection_applied o ≡ joined r.k strung
+    pub weights_many : r.n ≡ length (weights_in strung)
 
   filled : Applied
   filled =
-      let t = applied (collection_read r) placed o.tables₁ apply-good.0 apply-good.1 in
+      let t = applied (collection_read r) placed o.tables₁ apply_good.0 apply_good.1 in
       let q : apply.Filled (length (collection_read r).letters) (length (collection_read r).ends) (length (collection_read r).weights)
       ≡ apply.Filled r.N r.m r.n = sym t.0 ∙ o.applied in
       let a : length (collection_read r).letters ≡ r.N = cc in
       let b : length (collection_read r).ends ≡ r.m = cc in
       let c : length (collection_read r).weights ≡ r.n = cc in
       record {
-        strings-many = sym b;
-        collection-is = sym (λ i. collection_in r.k (a i) (b i) (c i) (apply_of (collection_read r) placed o.tables₁).after.new) ∙ t.1;
-        weights-many = sym c ∙ sym (reordered-sizes (collection_read r) placed (passes-read r) permutation).weights_number;
+        strings_many = sym b;
+        collection_is = sym (λ i. collection_in r.k (a i) (b i) (c i) (apply_of (collection_read r) placed o.tables₁).after.new) ∙ t.1;
+        weights_many = sym c ∙ sym (reordered_sizes (collection_read r) placed (passes_read r) permutation).weights_number;
       }
 
   -- the places are those that COVER found
-  covered-good : cover_verdict (collection_read r) o.places₀ o.work₂ ≡ Good
-  covered-good =
+  covered_good : cover_verdict (collection_read r) o.places₀ o.work₂ ≡ Good
+  covered_good =
       (done_by (λ (x : CoverAnswer). x) _ cover.Refused (cover.Covered (length (collection_read r).ends) (least (end_weights (collection_read r))))
       (cover.Covered r.m o.paths)
       (λ number place q. refuted (cc)) (sym o.covered.answered)).0
 
-  fewest-placed : Fewest (end_weights (collection_read r)) placed
-  fewest-placed =
-      let c = cover-fills (collection_read r) o.places₀ o.work₂ o.covered covered-good in
-      let e : placed ≡ c.0 = ap (take r.m) c.1 ∙ take-fill c.0 o.places₀ r.m (c.2.number ∙ sym filled.strings-many) in
+  fewest_placed : Fewest (end_weights (collection_read r)) placed
+  fewest_placed =
+      let c = cover_fills (collection_read r) o.places₀ o.work₂ o.covered covered_good in
+      let e : placed ≡ c.0 = ap (take r.m) c.1 ∙ take_fill c.0 o.places₀ r.m (c.2.number ∙ sym filled.strings_many) in
       subst (Fewest (end_weights (collection_read r))) (sym e) c.3
 
 module _ {sheet : List ℕ} {r : Reading sheet} {o : Reordering r} {p : ℕ} (x : Indexing o p) where
@@ -158,9 +158,9 @@ module _ {sheet : List ℕ} {r : Reading sheet} {o : Reordering r} {p : ℕ} (x 
 
   -- RUNS listed the runs of the new weights
   pub record Listed : Type 0 where
-    pub runs-many : x.runs ≡ run_count new.weights
+    pub runs_many : x.runs ≡ run_count new.weights
     pub weights_are : run_weights_listed x ≡ weights_of_runs new.weights
-    pub firsts-are : run_firsts_listed x ≡ firsts_of_runs new.weights
+    pub firsts_are : run_firsts_listed x ≡ firsts_of_runs new.weights
 
   listed : Listed
   unfolding runs_of
@@ -169,36 +169,36 @@ module _ {sheet : List ℕ} {r : Reading sheet} {o : Reordering r} {p : ℕ} (x 
       let q : listing.Filled (run_count new.weights) ≡ listing.Filled x.runs = t.2 in
       let n : run_count new.weights ≡ x.runs = cc in
       record {
-        runs-many = sym n;
+        runs_many = sym n;
         weights_are =
             ap (λ (y : runs_calls.Outcome). take x.runs y.weights_after) t.1
-            ∙ take-fill (weights_of_runs new.weights) x.run_weights₀ x.runs (length-map (runs new.weights) (λ e. e.0) ∙ n);
-        firsts-are = ap (λ (y : runs_calls.Outcome). take x.runs y.firsts_after) t.1
-            ∙ take-fill (firsts_of_runs new.weights) x.run_firsts₀ x.runs (length-map (runs new.weights) (λ e. e.1) ∙ n);
+            ∙ take_fill (weights_of_runs new.weights) x.run_weights₀ x.runs (length-map (runs new.weights) (λ e. e.0) ∙ n);
+        firsts_are = ap (λ (y : runs_calls.Outcome). take x.runs y.firsts_after) t.1
+            ∙ take_fill (firsts_of_runs new.weights) x.run_firsts₀ x.runs (length-map (runs new.weights) (λ e. e.1) ∙ n);
       }
 
   -- INDEX made the index of the new collection
   sizes_good : sizes_verdict r.k p ≡ Good
   unfolding index_verdict
-  sizes_good = (both_good (sizes_verdict r.k p) _ (index-told new p x.tables₀ x.indexed).0).0
+  sizes_good = (both_good (sizes_verdict r.k p) _ (index_told new p x.tables₀ x.indexed).0).0
 
   made : index_made x ≡ index_with (spelling_of new) p
   made =
-      let t = index-told new p x.tables₀ x.indexed in
-      let s = index-success new p x.tables₀ t.0 t.1 in
+      let t = index_told new p x.tables₀ x.indexed in
+      let s = index_success new p x.tables₀ t.0 t.1 in
       let q : index.Indexed (stretch_count (spelling_of new) p) (4 ^ p + 1) ≡ index.Indexed x.stretches x.starts = sym s.0 ∙ x.indexed in
       let a : stretch_count (spelling_of new) p ≡ x.stretches = cc in
       let b : 4 ^ p + 1 ≡ x.starts = cc in
       ap₂ (λ (m n : ℕ). first_entries m n (index_of new p x.tables₀).after) (sym a) (sym b) ∙ s.1
 
   -- the answer over the tables that were filled is the answer over the reordered collection
-  on-the-way : (asked : List ℕ) → weighed x asked ≡ weighed_over (joined r.k (strung o)) p asked
-  on-the-way asked =
+  on_the_way : (asked : List ℕ) → weighed x asked ≡ weighed_over (joined r.k (strung o)) p asked
+  on_the_way asked =
       let f = filled o in
-      let i = made ∙ ap (λ (x : Collection). index_with (spelling_of x) p) f.collection-is in
-      let a = listed.weights_are ∙ ap (λ (x : Collection). weights_of_runs x.weights) f.collection-is in
-      let b = listed.firsts-are ∙ ap (λ (x : Collection). firsts_of_runs x.weights) f.collection-is in
-      λ j. weighed_of (quick_of r.k p asked (f.collection-is j).letters (i j)) (a j) (b j) (f.weights-many j)
+      let i = made ∙ ap (λ (x : Collection). index_with (spelling_of x) p) f.collection_is in
+      let a = listed.weights_are ∙ ap (λ (x : Collection). weights_of_runs x.weights) f.collection_is in
+      let b = listed.firsts_are ∙ ap (λ (x : Collection). firsts_of_runs x.weights) f.collection_is in
+      λ j. weighed_of (quick_of r.k p asked (f.collection_is j).letters (i j)) (a j) (b j) (f.weights_many j)
 
 -- ─── the end ─────────────────────────────────────────────────────────────────
 
@@ -206,18 +206,18 @@ pub end_to_end : EndToEnd
 end_to_end =
     record {
       says = λ sheet p r o x asked good.
-          tell sheet r o x asked (reordered-says (collection_read r) p (placed o) (passes-read r) (permutation o) (distinct-read o) (sizes_good x) asked good);
+          tell sheet r o x asked (reordered_says (collection_read r) p (placed o) (passes_read r) (permutation o) (distinct_read o) (sizes_good x) asked good);
       shortest = λ sheet p r o x.
-          let e = (listed x).runs-many
-          ∙ (ap (λ (x : Collection). run_count x.weights) (filled o).collection-is
-          ∙ cover-fewest (collection_read r) (passes-read r) (placed o) (fewest-placed o)) in
-          subst (FewestRuns (collection_read r)) (sym e) (fewest-runs (collection_read r) (passes-read r));
+          let e = (listed x).runs_many
+          ∙ (ap (λ (x : Collection). run_count x.weights) (filled o).collection_is
+          ∙ cover_fewest (collection_read r) (passes_read r) (placed o) (fewest_placed o)) in
+          subst (FewestRuns (collection_read r)) (sym e) (fewest_runs (collection_read r) (passes_read r));
     }
   where
     tell : (sheet : List ℕ) (r : Reading sheet) (o : Reordering r) {p : ℕ} (x : Indexing o p) (asked : List ℕ)
         → Said (collection_read r) (spell asked) (weighed_over (joined r.k (strung o)) p asked)
         → Says sheet (spell asked) (weighed x asked)
     tell sheet r o x asked (inl t) =
-        subst (Says sheet (spell asked)) (sym (on-the-way x asked ∙ t.1)) (weighs t.0 (read-says r (spell asked) t.0 t.2))
+        subst (Says sheet (spell asked)) (sym (on_the_way x asked ∙ t.1)) (weighs t.0 (read_says r (spell asked) t.0 t.2))
     tell sheet r o x asked (inr t) =
-        subst (Says sheet (spell asked)) (sym (on-the-way x asked ∙ t.0)) (absent (λ weight u. t.1 weight (says-read r (spell asked) weight u)))
+        subst (Says sheet (spell asked)) (sym (on_the_way x asked ∙ t.0)) (absent (λ weight u. t.1 weight (says_read r (spell asked) weight u)))

@@ -12,7 +12,7 @@ use Rattle.lists.specs.Count.{sum}
 use Rattle.lists.specs.Every.{same}
 use Rattle.lists.proofs.Compare.{lt_or_le}
 use Rattle.lists.proofs.Every.{same_is, is_same}
-use Rattle.lists.proofs.Mapped.{map-at-below}
+use Rattle.lists.proofs.Mapped.{map_at_below}
 use Rattle.words.specs.Word.{Letters, word_at, turn}
 use Rattle.words.proofs.Turning.{turn-turn}
 use Rattle.collection.specs.Collection.{Collection, spelling_of}
@@ -20,12 +20,12 @@ use Rattle.collection.specs.Judge.{Passes}
 use Rattle.collection.specs.Kmers.{kmers, word_of, Distinct}
 use Rattle.collection.specs.Strings.{joined}
 use Rattle.collection.proofs.Judged.{collection_good}
-use Rattle.collection.proofs.Ready.{judged_ready, word-letters}
+use Rattle.collection.proofs.Ready.{judged_ready, word_letters}
 use Rattle.cover_trails.specs.Places.{SignedPermutation}
 use Rattle.apply_strings.specs.Reordered.{reordered}
 use Rattle.apply_strings.specs.Stands.{once, times_at}
-use Rattle.apply_strings.proofs.Reordered.{reordered-passes}
-use Rattle.apply_strings.proofs.Stands.{times-kept}
+use Rattle.apply_strings.proofs.Reordered.{reordered_passes}
+use Rattle.apply_strings.proofs.Stands.{times_kept}
 
 -- ─── sums of tests ───────────────────────────────────────────────────────────
 
@@ -111,14 +111,14 @@ module _ (c : Collection) (passes : Passes c) where
   size word = length-map (kmers c.k c.ends) (λ a. once word (word_at c.k c.letters a))
 
   count_at : (word : List ℕ) (i : ℕ) → i < n → get_or (counts word) i 0 ≡ once word (word_at c.k c.letters (get_or (kmers c.k c.ends) i 0))
-  count_at word i l = map-at-below (λ a. once word (word_at c.k c.letters a)) 0 0 (kmers c.k c.ends) i l
+  count_at word i l = map_at_below (λ a. once word (word_at c.k c.letters a)) 0 0 (kmers c.k c.ends) i l
 
   -- the word of the handle i + 1
-  word-at : (i : ℕ) → word_of (spelling_of c) (i + 1) ≡ word_at c.k c.letters (get_or (kmers c.k c.ends) i 0)
-  word-at i = let e : i + 1 - 1 ≡ i = omega arith in ap (λ (j : ℕ). word_at c.k c.letters (get_or (kmers c.k c.ends) j 0)) e
+  word_at_lem : (i : ℕ) → word_of (spelling_of c) (i + 1) ≡ word_at c.k c.letters (get_or (kmers c.k c.ends) i 0)
+  word_at_lem i = let e : i + 1 - 1 ≡ i = omega arith in ap (λ (j : ℕ). word_at c.k c.letters (get_or (kmers c.k c.ends) j 0)) e
 
   spelt : (i : ℕ) → Letters (word_at c.k c.letters (get_or (kmers c.k c.ends) i 0))
-  spelt i = word-letters (judged_ready (collection_good c passes)) (get_or (kmers c.k c.ends) i 0)
+  spelt i = word_letters (judged_ready (collection_good c passes)) (get_or (kmers c.k c.ends) i 0)
 
   -- two k-mers that are one word, read either way, are alike
   alike : (word : List ℕ) (i j : ℕ) → once word (word_at c.k c.letters (get_or (kmers c.k c.ends) i 0)) ≡ 1
@@ -134,10 +134,10 @@ module _ (c : Collection) (passes : Passes c) where
 
       go : (u ≡ word) ⊎ (turn u ≡ word) → (v ≡ word) ⊎ (turn v ≡ word)
           → (word_of (spelling_of c) (i + 1) ≡ word_of (spelling_of c) (j + 1)) ⊎ (word_of (spelling_of c) (i + 1) ≡ turn (word_of (spelling_of c) (j + 1)))
-      go (inl a) (inl b) = inl (word-at i ∙ (a ∙ (sym b ∙ sym (word-at j))))
-      go (inl a) (inr b) = inr (word-at i ∙ (a ∙ (sym b ∙ ap turn (sym (word-at j)))))
-      go (inr a) (inl b) = inr (word-at i ∙ (sym (turn-turn u (spelt i)) ∙ (ap turn (a ∙ sym b) ∙ ap turn (sym (word-at j)))))
-      go (inr a) (inr b) = inl (word-at i ∙ (sym (turn-turn u (spelt i)) ∙ (ap turn (a ∙ sym b) ∙ (turn-turn v (spelt j) ∙ sym (word-at j)))))
+      go (inl a) (inl b) = inl (word_at_lem i ∙ (a ∙ (sym b ∙ sym (word_at_lem j))))
+      go (inl a) (inr b) = inr (word_at_lem i ∙ (a ∙ (sym b ∙ ap turn (sym (word_at_lem j)))))
+      go (inr a) (inl b) = inr (word_at_lem i ∙ (sym (turn-turn u (spelt i)) ∙ (ap turn (a ∙ sym b) ∙ ap turn (sym (word_at_lem j)))))
+      go (inr a) (inr b) = inl (word_at_lem i ∙ (sym (turn-turn u (spelt i)) ∙ (ap turn (a ∙ sym b) ∙ (turn-turn v (spelt j) ∙ sym (word_at_lem j)))))
 
   -- with no repeated word, every word stands at most once
   pub distinct-once : Distinct (spelling_of c) → (word : List ℕ) → times_at (spelling_of c) word ≤ 1
@@ -159,12 +159,12 @@ module _ (c : Collection) (passes : Passes c) where
       word = word_of (spelling_of c) (j + 1)
 
       here : once word (word_at c.k c.letters (get_or (kmers c.k c.ends) j 0)) ≡ 1
-      here = once_is word _ (inl (sym (word-at j)))
+      here = once_is word _ (inl (sym (word_at_lem j)))
 
       turned : (word_of (spelling_of c) (i + 1) ≡ word) ⊎ (word_of (spelling_of c) (i + 1) ≡ turn word)
           → (word_at c.k c.letters (get_or (kmers c.k c.ends) i 0) ≡ word) ⊎ (turn (word_at c.k c.letters (get_or (kmers c.k c.ends) i 0)) ≡ word)
-      turned (inl q) = inl (sym (word-at i) ∙ q)
-      turned (inr q) = inr (ap turn (sym (word-at i) ∙ q) ∙ turn-turn word (subst Letters (sym (word-at j)) (spelt j)))
+      turned (inl q) = inl (sym (word_at_lem i) ∙ q)
+      turned (inr q) = inr (ap turn (sym (word_at_lem i) ∙ q) ∙ turn-turn word (subst Letters (sym (word_at_lem j)) (spelt j)))
 
       there : once word (word_at c.k c.letters (get_or (kmers c.k c.ends) i 0)) ≡ 1
       there = once_is word _ (turned e)
@@ -180,5 +180,5 @@ module _ (c : Collection) (passes : Passes c) where
 pub reordered-distinct : (c : Collection) (places : List ℤ) → Passes c → SignedPermutation (length c.ends) places → Distinct (spelling_of c)
     → Distinct (spelling_of (joined c.k (reordered c places)))
 reordered-distinct c places passes perm d =
-    once-distinct _ (reordered-passes c places passes perm)
-    (λ word. omega (arith, times-kept word c places passes perm, distinct-once c passes d word))
+    once-distinct _ (reordered_passes c places passes perm)
+    (λ word. omega (arith, times_kept word c places passes perm, distinct-once c passes d word))

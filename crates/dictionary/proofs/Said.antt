@@ -17,13 +17,13 @@ use Rattle.collection.specs.Judge.{Passes, word_verdict}
 use Rattle.collection.specs.Kmers.{position_of, word_of, weight_of, Distinct}
 use Rattle.collection.specs.Strings.{joined}
 use Rattle.collection.proofs.Judged.{collection_good}
-use Rattle.collection.proofs.Ready.{judged_ready, word-letters}
+use Rattle.collection.proofs.Ready.{judged_ready, word_letters}
 use Rattle.plain.specs.Says.{Stands}
 use Rattle.cover_trails.specs.Places.{SignedPermutation}
 use Rattle.apply_strings.specs.Reordered.{reordered}
 use Rattle.apply_strings.specs.Weighs.{WeighsAt}
-use Rattle.apply_strings.proofs.Handles.{weight-kept, weight-from}
-use Rattle.apply_strings.proofs.Reordered.{reordered-passes}
+use Rattle.apply_strings.proofs.Handles.{weight_kept, weight_from}
+use Rattle.apply_strings.proofs.Reordered.{reordered_passes}
 use Rattle.runs.specs.Runs.{weights_of_runs, firsts_of_runs}
 use Rattle.index.specs.Indexing.{index_with}
 use Rattle.index_minimizers.specs.Minimizer.{sizes_verdict}
@@ -57,23 +57,23 @@ module _ (c : Collection) (p : ℕ) (places : List ℤ) (passes : Passes c) (per
   new = joined c.k (reordered c places)
 
   passes' : Passes new
-  passes' = reordered-passes c places passes perm
+  passes' = reordered_passes c places passes perm
 
   a : Answers new p
   a = answers new p (record { passes = passes'; distinct = reordered-distinct c places passes perm distinct }) sizes
 
   -- QUICK and WEIGHT over the reordered collection answer what the collection says
-  pub reordered-says : Said c (spell asked) (weighed new p asked)
+  pub reordered_says : Said c (spell asked) (weighed new p asked)
   unfolding weighed_of
-  reordered-says = go (quick_of c.k p asked new.letters (index_with (spelling_of new) p)) refl
+  reordered_says = go (quick_of c.k p asked new.letters (index_with (spelling_of new) p)) refl
     where
       back : (weight : ℕ) → WeighsAt new (spell asked) weight → WeighsAt c (spell asked) weight
-      back weight = weight-from c places passes perm (spell asked) weight
+      back weight = weight_from c places passes perm (spell asked) weight
 
       none : (compared : ℕ) → quick_of c.k p asked new.letters (index_with (spelling_of new) p) ≡ Absent compared → (weight : ℕ) → WeighsAt c (spell asked) weight
           → ⊥
       none compared e weight u =
-          let t = weight-kept c places passes perm (spell asked) weight u in
+          let t = weight_kept c places passes perm (spell asked) weight u in
           let n = a.absent asked good compared e in
           either n t
         where
@@ -85,7 +85,7 @@ module _ (c : Collection) (p : ℕ) (places : List ℤ) (passes : Passes c) (per
                 low =
                     l;
                 high = m;
-                word = sym (turn-turn (word_of (spelling_of new) h) (word-letters (judged_ready (collection_good new passes')) (position_of c.k new.ends h)))
+                word = sym (turn-turn (word_of (spelling_of new) h) (word_letters (judged_ready (collection_good new passes')) (position_of c.k new.ends h)))
                     ∙ ap turn q;
               })
 

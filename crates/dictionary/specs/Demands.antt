@@ -40,10 +40,10 @@ module _ (c : Collection) (places : List ℤ) where
     pub stands : (i : ℕ) → i < length c.ends
         → get_or (strings applied) (nat_abs (get_or places i (pos 0)) - 1) none ≡ turned_by turn_str (get_or places i (pos 0)) (get_or (strings c) i none)
     pub one_place : (i j : ℕ) → i < length c.ends → j < length c.ends → nat_abs (get_or places i (pos 0)) ≡ nat_abs (get_or places j (pos 0)) → i ≡ j
-    pub each-place : (j : ℕ) → j < length c.ends → (i : ℕ) × (i < length c.ends) × (nat_abs (get_or places i (pos 0)) ≡ suc j)
-    pub weights-kept : (word : List ℕ) (weight : ℕ) → WeighsAt c word weight → WeighsAt applied word weight
-    pub none-new : (word : List ℕ) (weight : ℕ) → WeighsAt applied word weight → WeighsAt c word weight
-    pub sound-kept : Sound c → Sound applied
+    pub each_place : (j : ℕ) → j < length c.ends → (i : ℕ) × (i < length c.ends) × (nat_abs (get_or places i (pos 0)) ≡ suc j)
+    pub weights_kept : (word : List ℕ) (weight : ℕ) → WeighsAt c word weight → WeighsAt applied word weight
+    pub none_new : (word : List ℕ) (weight : ℕ) → WeighsAt applied word weight → WeighsAt c word weight
+    pub sound_kept : Sound c → Sound applied
 
 -- 2: a word is found exactly if it or its reverse complement stands there, with its own handle and weight; each handle gives back its word. Reordering keeps
 -- each string once. An accepted sheet, read and written, is the same bytes.

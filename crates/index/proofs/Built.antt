@@ -12,8 +12,8 @@ use Rattle.lists.specs.Pick.{up_to}
 use Rattle.lists.specs.Regions.{part, Only}
 use Rattle.lists.proofs.Mapped.{map-all}
 use Rattle.lists.proofs.Picks.{length-up_to}
-use Rattle.lists.proofs.Regions.{part-is, among-trans}
-use Rattle.lists.proofs.Storing.{put-start, length-fill, take-fill, drop-fill, fill-again}
+use Rattle.lists.proofs.Regions.{part_is, among_trans}
+use Rattle.lists.proofs.Storing.{put_start, length_fill, take_fill, drop_fill, fill_again}
 use Rattle.repeats.proofs.Arranged.{few_kmers}
 use Rattle.index_minimizers.specs.Minimizer.{minimizer_at}
 use Rattle.index_stretches.specs.Index.{built}
@@ -39,8 +39,8 @@ module _ {spelt : Spelling} {p : ℕ} {n m : ℕ} (t : Lent) (j : Judged spelt p
   few = omega (arith, j.counted, j.each, stretches_few (minimizer_at spelt.k p spelt.letters) spelt.k spelt.ends)
 
   -- the part of work that takes the minimizers
-  pub lent-size : length (take n t.work) ≡ n
-  lent-size = length-take-le n t.work (omega (arith, j.work_room))
+  pub lent_size : length (take n t.work) ≡ n
+  lent_size = length-take-le n t.work (omega (arith, j.work_room))
 
   -- all stretches fit the tables and that part
   pub room4 : Room4 0 (length ss) t.firsts t.positions t.numbers (take n t.work)
@@ -49,7 +49,7 @@ module _ {spelt : Spelling} {p : ℕ} {n m : ℕ} (t : Lent) (j : Judged spelt p
         firsts_room = omega (arith, j.counted, j.firsts_room);
         positions_room = omega (arith, j.counted, j.positions_room);
         numbers_room = omega (arith, j.counted, j.numbers_room);
-        keys_room = omega (arith, j.counted, few, lent-size);
+        keys_room = omega (arith, j.counted, few, lent_size);
       }
 
   small : All (λ s. key s < 4 ^ p) ss
@@ -62,90 +62,90 @@ module _ {spelt : Spelling} {p : ℕ} {n m : ℕ} (t : Lent) (j : Judged spelt p
     abbrev work : List ℕ
     work = keys ++ drop n t.work
 
-    keys-fill : keys ≡ fill (map key ss) (take n t.work)
-    keys-fill = c.keys_held ∙ put-start (map key ss) (take n t.work)
+    keys_fill : keys ≡ fill (map key ss) (take n t.work)
+    keys_fill = c.keys_held ∙ put_start (map key ss) (take n t.work)
 
-    keys-number : length (map key ss) ≡ m
-    keys-number = length-map ss key ∙ sym j.counted
+    keys_number : length (map key ss) ≡ m
+    keys_number = length-map ss key ∙ sym j.counted
 
-    keys-size : length keys ≡ n
-    keys-size = ap length keys-fill ∙ (length-fill (map key ss) (take n t.work) (omega (arith, keys-number, few, lent-size)) ∙ lent-size)
+    keys_size : length keys ≡ n
+    keys_size = ap length keys_fill ∙ (length_fill (map key ss) (take n t.work) (omega (arith, keys_number, few, lent_size)) ∙ lent_size)
 
-    cut-keys : part 0 m work ≡ map key ss
-    cut-keys =
-        part-is 0 m work
-        ∙ (take-append-le m keys (drop n t.work) (omega (arith, keys-size, few))
-        ∙ (ap (take m) keys-fill ∙ take-fill (map key ss) (take n t.work) m keys-number))
+    cut_keys : part 0 m work ≡ map key ss
+    cut_keys =
+        part_is 0 m work
+        ∙ (take-append-le m keys (drop n t.work) (omega (arith, keys_size, few))
+        ∙ (ap (take m) keys_fill ∙ take_fill (map key ss) (take n t.work) m keys_number))
 
-    cut-only : Only 0 n t.work work
-    cut-only =
-        subst (λ (i : ℕ). Only 0 i t.work work) keys-size
-        (subst (Only 0 (length keys) t.work) (ap (λ (i : ℕ). keys ++ drop i t.work) keys-size)
-        (fill_only keys t.work (omega (arith, keys-size, j.work_room))))
+    cut_only : Only 0 n t.work work
+    cut_only =
+        subst (λ (i : ℕ). Only 0 i t.work work) keys_size
+        (subst (Only 0 (length keys) t.work) (ap (λ (i : ℕ). keys ++ drop i t.work) keys_size)
+        (fill_only keys t.work (omega (arith, keys_size, j.work_room))))
 
     -- the tables are fit for the order
-    pub cut-orderable : Orderable p n m (length work) (length t.before)
-    cut-orderable =
+    pub cut_orderable : Orderable p n m (length work) (length t.before)
+    cut_orderable =
         record {
           p_high = j.p_high;
           few = few;
           n_high = omega (arith, j.each, few_kmers j.ready);
-          work_room = omega (arith, cut-only.size, j.work_room);
+          work_room = omega (arith, cut_only.size, j.work_room);
           starts_room = j.before_room;
         }
 
     -- each minimizer is the code of p letters
     pub cut_low : All (λ x. x < 4 ^ p) (part 0 m work)
-    cut_low = subst (All (λ x. x < 4 ^ p)) (sym cut-keys) (map-all (λ x. x < 4 ^ p) key ss small)
+    cut_low = subst (All (λ x. x < 4 ^ p)) (sym cut_keys) (map-all (λ x. x < 4 ^ p) key ss small)
 
     -- a table that holds the stretches in the order of their handles
     module _ (g : Stretch → ℕ) (old cut : List ℕ) (e : cut ≡ put 0 (map g ss) old) where
-      cut-fill : cut ≡ fill (map g ss) old
-      cut-fill = e ∙ put-start (map g ss) old
+      cut_fill : cut ≡ fill (map g ss) old
+      cut_fill = e ∙ put_start (map g ss) old
 
       size : length (map g ss) ≡ m
       size = length-map ss g ∙ sym j.counted
 
-      cut-size : m ≤ length old → m ≤ length cut
-      cut-size h = omega (arith, ap length cut-fill, length-fill (map g ss) old (omega (arith, size)))
+      cut_size : m ≤ length old → m ≤ length cut
+      cut_size h = omega (arith, ap length cut_fill, length_fill (map g ss) old (omega (arith, size)))
 
       -- in the order of the minimizers it holds what the index says
-      cut-ordered : in_order (part 0 m work) m (4 ^ p) cut ≡ fill (map g (up_to key (4 ^ p) ss)) old
-      cut-ordered =
-          (λ i. fill (gathered (places_by (cut-keys i) (j.counted i) (4 ^ p)) (taken i)) cut)
+      cut_ordered : in_order (part 0 m work) m (4 ^ p) cut ≡ fill (map g (up_to key (4 ^ p) ss)) old
+      cut_ordered =
+          (λ i. fill (gathered (places_by (cut_keys i) (j.counted i) (4 ^ p)) (taken i)) cut)
           ∙ (ap (λ (l : List ℕ). fill l cut) (gathered-places key (4 ^ p) g ss)
-          ∙ fill-again (map g (up_to key (4 ^ p) ss)) old cut m (length-map (up_to key (4 ^ p) ss) g ∙ (length-up_to key (4 ^ p) ss small ∙ sym j.counted))
-          (ap (drop m) cut-fill ∙ drop-fill (map g ss) old m size))
+          ∙ fill_again (map g (up_to key (4 ^ p) ss)) old cut m (length-map (up_to key (4 ^ p) ss) g ∙ (length-up_to key (4 ^ p) ss small ∙ sym j.counted))
+          (ap (drop m) cut_fill ∙ drop_fill (map g ss) old m size))
         where
           taken : take m cut ≡ map g ss
-          taken = ap (take m) cut-fill ∙ take-fill (map g ss) old m size
+          taken = ap (take m) cut_fill ∙ take_fill (map g ss) old m size
 
     -- the three tables keep their room
-    pub cut-room : Room3 m firsts positions numbers
-    cut-room =
+    pub cut_room : Room3 m firsts positions numbers
+    cut_room =
         record {
-          firsts_room = cut-size (λ s. s.first) t.firsts firsts c.firsts_held j.firsts_room;
-          positions_room = cut-size (λ s. s.at) t.positions positions c.positions_held j.positions_room;
-          numbers_room = cut-size (λ s. s.number) t.numbers numbers c.numbers_held j.numbers_room;
+          firsts_room = cut_size (λ s. s.first) t.firsts firsts c.firsts_held j.firsts_room;
+          positions_room = cut_size (λ s. s.at) t.positions positions c.positions_held j.positions_room;
+          numbers_room = cut_size (λ s. s.number) t.numbers numbers c.numbers_held j.numbers_room;
         }
 
     -- ─── and ordered ─────────────────────────────────────────────────────────
 
     starts : starts_by (part 0 m work) m (4 ^ p) ≡ map (λ i. length (up_to key i ss)) (count_from 0 (4 ^ p + 1))
     starts =
-        ap₂ (λ (l : List ℕ) (i : ℕ). starts_by l i (4 ^ p)) cut-keys j.counted
+        ap₂ (λ (l : List ℕ) (i : ℕ). starts_by l i (4 ^ p)) cut_keys j.counted
         ∙ (λ i. map (λ d. length-places key d ss i) (count_from 0 (4 ^ p + 1)))
 
     -- the ordered tables are the index
-    pub index-built : {work' before' firsts' positions' numbers' : List ℕ}
+    pub index_built : {work' before' firsts' positions' numbers' : List ℕ}
         → Arranged (part 0 m work) p n m work work' t.before before' firsts firsts' positions positions' numbers numbers'
         → Held (index_with spelt p) n t (lent firsts' positions' numbers' before' work')
     unfolding built
-    index-built {work'} a =
+    index_built {work'} a =
         record {
-          firsts_held = a.firsts_ordered ∙ cut-ordered (λ s. s.first) t.firsts firsts c.firsts_held;
-          positions_held = a.positions_ordered ∙ cut-ordered (λ s. s.at) t.positions positions c.positions_held;
-          numbers_held = a.numbers_ordered ∙ cut-ordered (λ s. s.number) t.numbers numbers c.numbers_held;
+          firsts_held = a.firsts_ordered ∙ cut_ordered (λ s. s.first) t.firsts firsts c.firsts_held;
+          positions_held = a.positions_ordered ∙ cut_ordered (λ s. s.at) t.positions positions c.positions_held;
+          numbers_held = a.numbers_ordered ∙ cut_ordered (λ s. s.number) t.numbers numbers c.numbers_held;
           before_held = a.starts ∙ ap (λ (l : List ℕ). fill l t.before) starts;
-          rest = among-trans _ t.work work work' (wider n 0 n t.work work (omega arith) cut-only) a.rest;
+          rest = among_trans _ t.work work work' (wider n 0 n t.work work (omega arith) cut_only) a.rest;
         }

@@ -11,8 +11,8 @@ use Rattle.lists.specs.Choose.{choose}
 use Rattle.lists.specs.Fill.{fill}
 use Rattle.lists.specs.Regions.{Only}
 use Rattle.lists.proofs.Every.{and_left, and_right}
-use Rattle.lists.proofs.Regions.{among-trans}
-use Rattle.lists.proofs.Zeroed.{only-fill}
+use Rattle.lists.proofs.Regions.{among_trans}
+use Rattle.lists.proofs.Zeroed.{only_fill}
 use Rattle.lists.proofs.Refuted.{refuted}
 use Rattle.collection.specs.Collection.{Spelling, Collection, spelling_of}
 use Rattle.collection.specs.declared.Verdict.{Verdict}
@@ -38,15 +38,15 @@ module _ (c : Collection) (p : ℕ) where
   kmer_number = kmers_in (spelling_of c)
 
   -- 2, of k and p
-  pub sizes-refused : {number place : ℕ} → sizes_verdict c.k p ≡ Bad number place → (t : Lent) → Refused number place ≡ foreseen c p t
+  pub sizes_refused : {number place : ℕ} → sizes_verdict c.k p ≡ Bad number place → (t : Lent) → Refused number place ≡ foreseen c p t
   unfolding foreseen index_verdict
-  sizes-refused e t = refused Refused _ (then_bad _ e)
+  sizes_refused e t = refused Refused _ (then_bad _ e)
 
   module _ (sizes : sizes_verdict c.k p ≡ Good) where
     -- 2 to 6, of the collection
-    pub collection-refused : {number place : ℕ} → collection_verdict c ≡ Bad number place → (t : Lent) → Refused number place ≡ foreseen c p t
+    pub collection_refused : {number place : ℕ} → collection_verdict c ≡ Bad number place → (t : Lent) → Refused number place ≡ foreseen c p t
     unfolding foreseen index_verdict
-    collection-refused e t = refused Refused _ (then_good _ sizes (then_bad _ e))
+    collection_refused e t = refused Refused _ (then_good _ sizes (then_bad _ e))
 
     module _ (passes : Passes c) {count starts : ℕ} (counted : count ≡ stretch_count (spelling_of c) p) (all : starts ≡ 4 ^ p + 1)
         (firsts positions numbers before work : ℕ) where
@@ -73,14 +73,14 @@ module _ (c : Collection) (p : ℕ) where
       verdict t s = then_good _ sizes (then_good _ passes (rooms t s))
 
       -- enough room: the answer that is foreseen
-      pub room-enough : room ≡ true → (t : Lent) → Sized t firsts positions numbers before work → Indexed count starts ≡ foreseen c p t
+      pub room_enough : room ≡ true → (t : Lent) → Sized t firsts positions numbers before work → Indexed count starts ≡ foreseen c p t
       unfolding foreseen
-      room-enough h t s = settled Refused (ap₂ Indexed counted all) (verdict t s ∙ ap (λ (b : Bool). choose b Good (Bad 1 0)) h)
+      room_enough h t s = settled Refused (ap₂ Indexed counted all) (verdict t s ∙ ap (λ (b : Bool). choose b Good (Bad 1 0)) h)
 
       -- 1
-      pub room-refused : room ≡ false → (t : Lent) → Sized t firsts positions numbers before work → Refused 1 0 ≡ foreseen c p t
+      pub room_refused : room ≡ false → (t : Lent) → Sized t firsts positions numbers before work → Refused 1 0 ≡ foreseen c p t
       unfolding foreseen
-      room-refused h t s = refused Refused _ (verdict t s ∙ ap (λ (b : Bool). choose b Good (Bad 1 0)) h)
+      room_refused h t s = refused Refused _ (verdict t s ∙ ap (λ (b : Bool). choose b Good (Bad 1 0)) h)
 
   -- where the verdict is good there are n weights
   weights-counted : (t : Lent) → index_verdict c p t ≡ Good → length c.weights ≡ kmer_number
@@ -88,9 +88,9 @@ module _ (c : Collection) (p : ℕ) where
   weights-counted t h = (collection_good c (both_good (collection_verdict c) _ (both_good (sizes_verdict c.k p) _ h).1).0).counted
 
   -- the parts of a good verdict
-  pub index-good : (t : Lent) → index_verdict c p t ≡ Good → Judged (spelling_of c) p (length c.weights) (stretch_count (spelling_of c) p) t
+  pub index_good : (t : Lent) → index_verdict c p t ≡ Good → Judged (spelling_of c) p (length c.weights) (stretch_count (spelling_of c) p) t
   unfolding index_verdict rooms_verdict
-  index-good t h =
+  index_good t h =
       let a = both_good (sizes_verdict c.k p) _ h in
       let b = both_good (collection_verdict c) _ a.1 in
       let s = sizes_good c.k p a.0 in
@@ -119,20 +119,20 @@ module _ (c : Collection) (p : ℕ) where
 module _ {spelt : Spelling} {p : ℕ} {n m : ℕ} (t : Lent) (j : Judged spelt p n m t) where
   -- work is zeroed, whatever was written into its first 4n entries
   zeroed : {u z : List ℕ} → Only 0 (4 * n) t.work u → z ≡ fill (replicate (4 * n) 0) u → z ≡ cleared n t.work
-  zeroed {u} only e = e ∙ only-fill (4 * n) (replicate (4 * n) 0) t.work u (length-replicate (4 * n) 0) j.work_room only
+  zeroed {u} only e = e ∙ only_fill (4 * n) (replicate (4 * n) 0) t.work u (length-replicate (4 * n) 0) j.work_room only
 
   module _ {repeat : ℕ} {u : List ℕ} (search : (repeat ≡ first_repeat spelt) × Only 0 (4 * n) t.work u) where
     -- 7
-    pub repeat-refused : {z : List ℕ} → (repeat ≡ 0 → ⊥) → z ≡ fill (replicate (4 * n) 0) u
+    pub repeat_refused : {z : List ℕ} → (repeat ≡ 0 → ⊥) → z ≡ fill (replicate (4 * n) 0) u
         → outcome (Refused 7 repeat) (lent t.firsts t.positions t.numbers t.before z) ≡ judged_of spelt p n t
     unfolding judged_of
-    repeat-refused h e =
+    repeat_refused h e =
         ap (λ (w : List ℕ). outcome (Refused 7 repeat) (lent t.firsts t.positions t.numbers t.before w)) (zeroed search.1 e)
         ∙ refused _ _ (ap (at_place 7) (sym search.0) ∙ sym (place_some 7 repeat h))
 
     -- the search leaves the tables fit
-    pub judged-still : Judged spelt p n m (lent t.firsts t.positions t.numbers t.before u)
-    judged-still =
+    pub judged_still : Judged spelt p n m (lent t.firsts t.positions t.numbers t.before u)
+    judged_still =
         record {
           ready = j.ready;
           p_low = j.p_low;
@@ -149,17 +149,17 @@ module _ {spelt : Spelling} {p : ℕ} {n m : ℕ} (t : Lent) (j : Judged spelt p
 
     module _ {t' : Lent} (h : Held (index_with spelt p) n (lent t.firsts t.positions t.numbers t.before u) t') where
       -- no word repeats: the index is made, and work zeroed
-      pub index-made : {z : List ℕ} {starts : ℕ} → repeat ≡ 0 → z ≡ fill (replicate (4 * n) 0) t'.work → starts ≡ 4 ^ p + 1
+      pub index_made_lem : {z : List ℕ} {starts : ℕ} → repeat ≡ 0 → z ≡ fill (replicate (4 * n) 0) t'.work → starts ≡ 4 ^ p + 1
           → outcome (Indexed m starts) (lent t'.firsts t'.positions t'.numbers t'.before z) ≡ judged_of spelt p n t
       unfolding judged_of
-      index-made none e s =
-          let w = zeroed (among-trans _ t.work u t'.work search.1 h.rest) e in
+      index_made_lem none e s =
+          let w = zeroed (among_trans _ t.work u t'.work search.1 h.rest) e in
           settled _ (λ i. outcome (Indexed (j.counted i) (s i)) (lent (h.firsts_held i) (h.positions_held i) (h.numbers_held i) (h.before_held i) (w i)))
           (sym (place_none 7 (sym search.0 ∙ none)))
 
       -- work keeps its size
-      pub work-still : 4 * n ≤ length t'.work
-      work-still = omega (arith, j.work_room, search.1.size, h.rest.size)
+      pub work_still : 4 * n ≤ length t'.work
+      work_still = omega (arith, j.work_room, search.1.size, h.rest.size)
 
 -- ─── the whole call ──────────────────────────────────────────────────────────
 
@@ -180,9 +180,9 @@ told_good (Bad number place) m starts e f = refuted (cc)
 
 module _ (c : Collection) (p : ℕ) (t : Lent) {answer : IndexAnswer} (e : answer ≡ foreseen c p t) where
   -- a foreseen refusal is the answer, and nothing is written
-  pub index-refused : {number place : ℕ} → answer ≡ Refused number place → outcome answer t ≡ index_of c p t
+  pub index_refused : {number place : ℕ} → answer ≡ Refused number place → outcome answer t ≡ index_of c p t
   unfolding foreseen index_of
-  index-refused f = told_refused (index_verdict c p t) (stretch_count (spelling_of c) p) (4 ^ p + 1) t _ e f
+  index_refused f = told_refused (index_verdict c p t) (stretch_count (spelling_of c) p) (4 ^ p + 1) t _ e f
 
   module _ {m starts : ℕ} (f : answer ≡ Indexed m starts) where
     good : (index_verdict c p t ≡ Good) × (m ≡ stretch_count (spelling_of c) p)
@@ -190,10 +190,10 @@ module _ (c : Collection) (p : ℕ) (t : Lent) {answer : IndexAnswer} (e : answe
     good = told_good (index_verdict c p t) (stretch_count (spelling_of c) p) (4 ^ p + 1) e f
 
     -- a foreseen index: 2 to 6 and 1 refuse nothing
-    pub foreseen-judged : Judged (spelling_of c) p (length c.weights) m t
-    foreseen-judged = subst (λ (i : ℕ). Judged (spelling_of c) p (length c.weights) i t) (sym good.1) (index-good c p t good.0)
+    pub foreseen_judged : Judged (spelling_of c) p (length c.weights) m t
+    foreseen_judged = subst (λ (i : ℕ). Judged (spelling_of c) p (length c.weights) i t) (sym good.1) (index_good c p t good.0)
 
     -- and the rest of the call decides
-    pub index-goes-on : {done : Outcome} → done ≡ judged_of (spelling_of c) p (length c.weights) t → done ≡ index_of c p t
+    pub index_goes_on : {done : Outcome} → done ≡ judged_of (spelling_of c) p (length c.weights) t → done ≡ index_of c p t
     unfolding judged_of index_of
-    index-goes-on d = settled _ (d ∙ ap (λ (n : ℕ). judged_of (spelling_of c) p n t) (weights-counted c p t good.0)) good.0
+    index_goes_on d = settled _ (d ∙ ap (λ (n : ℕ). judged_of (spelling_of c) p n t) (weights-counted c p t good.0)) good.0

@@ -8,7 +8,7 @@ use Rattle.lists.specs.Fill.{fill}
 use Rattle.lists.specs.Pick.{up_to}
 use Rattle.lists.proofs.Count.{length_count}
 use Rattle.lists.proofs.Picks.{length-up_to}
-use Rattle.lists.proofs.Storing.{take-fill}
+use Rattle.lists.proofs.Storing.{take_fill}
 use Rattle.lists.proofs.Refuted.{refuted}
 use Rattle.collection.specs.Collection.{Collection, spelling_of}
 use Rattle.collection.specs.declared.Verdict.TheVariants.{Good}
@@ -22,13 +22,13 @@ use Rattle.index_stretches.specs.Stretches.{Stretch, stretches}
 use Rattle.index_cutting.proofs.Keys.{keys_small}
 use Rattle.index.specs.declared.IndexAnswer.TheVariants.{Indexed, Refused}
 use Rattle.index.specs.Indexing.{Lent, stretch_count, index_verdict, Outcome, outcome, untouched, holding, first_entries, index_with, index_of}
-use Rattle.index.proofs.Indexed.{index-good}
+use Rattle.index.proofs.Indexed.{index_good}
 
 module _ (c : Collection) (p : ℕ) (t : Lent) where
   -- an index is made only where nothing is refused
-  pub index-told : {m starts : ℕ} → (index_of c p t).answer ≡ Indexed m starts → (index_verdict c p t ≡ Good) × (first_repeat (spelling_of c) ≡ 0)
+  pub index_told : {m starts : ℕ} → (index_of c p t).answer ≡ Indexed m starts → (index_verdict c p t ≡ Good) × (first_repeat (spelling_of c) ≡ 0)
   unfolding index_of
-  index-told {m} {starts} e =
+  index_told {m} {starts} e =
       let a = done_by (λ (o : Outcome). o.answer) (index_verdict c p t) _ _ (Indexed m starts) (λ number place q. refuted (cc)) e in
       let b = done_by (λ (o : Outcome). o.answer) (at_place 7 (first_repeat (spelling_of c))) _ _ (Indexed m starts) (λ number place q. refuted (cc)) a.2 in
       (a.0, place_good 7 _ b.0)
@@ -43,8 +43,8 @@ module _ (c : Collection) (p : ℕ) (t : Lent) where
     -- the table of one number of each stretch has as many entries as there are stretches
     taken : (g : Stretch → ℕ) (old : List ℕ) → take (length ss) (fill (map g arranged_by) old) ≡ map g arranged_by
     taken g old =
-        let j = index-good c p t good in
-        take-fill (map g arranged_by) old (length ss)
+        let j = index_good c p t good in
+        take_fill (map g arranged_by) old (length ss)
         (length-map arranged_by g ∙ length-up_to (λ s. minimizer_at c.k p c.letters s.at) (4 ^ p) ss (keys_small (spelling_of c) p j.ready j.p_fits))
 
     held : (n : ℕ) → first_entries (stretch_count (spelling_of c) p) (4 ^ p + 1) (holding (index_with (spelling_of c) p) n t) ≡ index_with (spelling_of c) p
@@ -54,16 +54,16 @@ module _ (c : Collection) (p : ℕ) (t : Lent) where
         let positions = taken (λ s. s.at) t.positions in
         let numbers = taken (λ s. s.number) t.numbers in
         let starts : ℕ → ℕ = λ i. length (up_to (λ s. minimizer_at c.k p c.letters s.at) i ss) in
-        let before = take-fill (map starts (count_from 0 (4 ^ p + 1))) t.before (4 ^ p + 1)
+        let before = take_fill (map starts (count_from 0 (4 ^ p + 1))) t.before (4 ^ p + 1)
         (length-map (count_from 0 (4 ^ p + 1)) starts ∙ length_count 0 (4 ^ p + 1)) in
         λ i. tables (firsts i) (positions i) (numbers i) (before i)
 
     -- where nothing is refused, the answer says how many entries are filled, and these are the index
-    pub index-success : first_repeat (spelling_of c) ≡ 0
+    pub index_success : first_repeat (spelling_of c) ≡ 0
         → ((index_of c p t).answer ≡ Indexed (stretch_count (spelling_of c) p) (4 ^ p + 1))
         × (first_entries (stretch_count (spelling_of c) p) (4 ^ p + 1) (index_of c p t).after ≡ index_with (spelling_of c) p)
     unfolding index_of
-    index-success none =
+    index_success none =
         let n : ℕ = kmers_in (spelling_of c) in
         let done : Outcome = outcome (Indexed (stretch_count (spelling_of c) p) (4 ^ p + 1)) (holding (index_with (spelling_of c) p) n t) in
         let o = settled (λ number place. outcome (Refused number place) t)

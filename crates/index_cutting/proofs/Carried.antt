@@ -16,7 +16,7 @@ use Rattle.words.specs.Word.{code, word_at}
 use Rattle.alphabet.proofs.Letters.{bits_lt}
 use Rattle.words.proofs.Spelled.{spell_bits}
 use Rattle.words.proofs.Rolling.{length_word, letters_word}
-use Rattle.words.proofs.Along.{Rolls, word-here, word_on}
+use Rattle.words.proofs.Along.{Rolls, word_here, word_on}
 use Rattle.index_minimizers.specs.Least.{least}
 use Rattle.index_minimizers.specs.Minimizer.{minimizer_at}
 use Rattle.index_minimizers.proofs.Sizes.{words_few}
@@ -35,18 +35,18 @@ carried_small {k} {p} {a} {c} s l =
 
 -- what `roll` and `slide` ask of the code, the minimizer and the next letter's byte b
 module _ {k p : ℕ} {letters : List ℕ} (a c v x b : ℕ) (s : Carried k p letters a c v) (k_high : k ≤ most_k) (e : x ≡ two_bits b) where
-  pub roll-fits : (k ≤ most_k) × (c < 4 ^ most_k) × (x < 4)
-  roll-fits = (k_high, s.rolls.small, omega (arith, bits_lt b))
+  pub roll_fits : (k ≤ most_k) × (c < 4 ^ most_k) × (x < 4)
+  roll_fits = (k_high, s.rolls.small, omega (arith, bits_lt b))
 
-  pub slide-fits : (d : ℕ) → p ≤ k → d ≡ rolled k c x → (k - p + p ≤ most_k) × (v ≡ least p (k - p) c) × (x < 4) × (d ≡ rolled (k - p + p) c x)
-  slide-fits d l f =
+  pub slide_fits : (d : ℕ) → p ≤ k → d ≡ rolled k c x → (k - p + p ≤ most_k) × (v ≡ least p (k - p) c) × (x < 4) × (d ≡ rolled (k - p + p) c x)
+  slide_fits d l f =
       let q : k ≡ k - p + p = omega arith in
       (omega arith, s.is_least, omega (arith, bits_lt b), f ∙ ap (λ (m : ℕ). rolled m c x) q)
 
 module _ (k p : ℕ) (letters : List ℕ) (fits : p ≤ k) (good : All (λ b. is_letter b ≡ true) letters) where
   -- a minimizer is the code of p letters
-  pub minimizer-below : (a : ℕ) → a + k ≤ length letters → minimizer_at k p letters a < 4 ^ p
-  minimizer-below a l = minimizer_lt p (word_at k letters a) (letters_word k letters a good) (omega (arith, length_word k letters a l))
+  pub minimizer_below : (a : ℕ) → a + k ≤ length letters → minimizer_at k p letters a < 4 ^ p
+  minimizer_below a l = minimizer_lt p (word_at k letters a) (letters_word k letters a good) (omega (arith, length_word k letters a l))
 
   module _ (k_low : 1 ≤ k) (k_high : k ≤ most_k) where
     -- the least piece of a k-mer's code is its minimizer, and the pass goes on
@@ -61,9 +61,9 @@ module _ (k p : ℕ) (letters : List ℕ) (fits : p ≤ k) (good : All (λ b. is
         )
 
     -- the first k-mer of a string
-    pub carried-begin : (a c v : ℕ) → a + k ≤ length letters → c ≡ code (map two_bits (take (a + k - a) (drop a letters))) → v ≡ least p (k - p) c
+    pub carried_begin : (a c v : ℕ) → a + k ≤ length letters → c ≡ code (map two_bits (take (a + k - a) (drop a letters))) → v ≡ least p (k - p) c
         → (v ≡ minimizer_at k p letters (a + 0)) × Carried k p letters (a + 1) c v
-    carried-begin a c v l e f =
+    carried_begin a c v l e f =
         let q : a + k - a ≡ k = omega arith in
         carried_from a 0 c v (omega arith)
         (e
@@ -77,4 +77,4 @@ module _ (k p : ℕ) (letters : List ℕ) (fits : p ≤ k) (good : All (λ b. is
         → d ≡ rolled k c x → w ≡ least p (k - p) d → (w ≡ minimizer_at k p letters (a + i)) × Carried k p letters (a + (i + 1)) d w
     carried_on a i c v d x w l s e f g =
         let q : a + i + (k - 1) ≡ a + (k - 1) + i = omega arith in
-        carried_from a i d w l (f ∙ word-here k letters k_low k_high good a i c x l s.rolls (e ∙ ap (λ (m : ℕ). two_bits (get_or letters m 0)) q)) g
+        carried_from a i d w l (f ∙ word_here k letters k_low k_high good a i c x l s.rolls (e ∙ ap (λ (m : ℕ). two_bits (get_or letters m 0)) q)) g

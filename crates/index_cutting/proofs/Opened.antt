@@ -13,13 +13,13 @@ use Rattle.index_stretches.specs.Stretches.{Stretch, stretch, open_from, of_stri
 -- ─── one k-mer after the other ───────────────────────────────────────────────
 
 module _ (q : ℕ → ℕ) (h a n left : ℕ) where
-  open-same : q (a + n) ≡ q a → open_from q h a n (suc left) ≡ open_from q h a (suc n) left
+  open_same : q (a + n) ≡ q a → open_from q h a n (suc left) ≡ open_from q h a (suc n) left
   unfolding open_from
-  open-same e = rw (eq-eqb (q (a + n)) (q a) e)
+  open_same e = rw (eq-eqb (q (a + n)) (q a) e)
 
-  open-other : (q (a + n) ≡ q a → ⊥) → open_from q h a n (suc left) ≡ stretch h a n ∷ open_from q (h + n) (a + n) 1 left
+  open_other : (q (a + n) ≡ q a → ⊥) → open_from q h a n (suc left) ≡ stretch h a n ∷ open_from q (h + n) (a + n) 1 left
   unfolding open_from
-  open-other e = rw (ne_eqb (q (a + n)) (q a) e)
+  open_other e = rw (ne_eqb (q (a + n)) (q a) e)
 
 module _ (q : ℕ → ℕ) (h a n : ℕ) where
   -- the stretches to come of a string of n k-mers, the open one first: it began with k-mer s (from 0), and i k-mers have been looked at
@@ -27,9 +27,9 @@ module _ (q : ℕ → ℕ) (h a n : ℕ) where
   Open s i = open_from q (h + s) (a + s) (i - s) (n - i)
 
   -- the string's first k-mer has been looked at
-  pub open-start : 1 ≤ n → of_string q h a n ≡ Open 0 1
+  pub open_start : 1 ≤ n → of_string q h a n ≡ Open 0 1
   unfolding of_string
-  open-start l =
+  open_start l =
       let e : n ≡ suc (n - 1) = omega arith in
       ap (of_string q h a) e ∙ ap₂ (λ (x y : ℕ). open_from q x y 1 (n - 1)) (sym (add-zero h)) (sym (add-zero a))
 
@@ -38,28 +38,28 @@ module _ (q : ℕ → ℕ) (h a n : ℕ) where
     here = omega arith
 
     -- the next k-mer has the minimizer of the open stretch
-    pub open-on : i < n → q (a + i) ≡ q (a + s) → Open s i ≡ Open s (i + 1)
-    open-on g e =
+    pub open_on : i < n → q (a + i) ≡ q (a + s) → Open s i ≡ Open s (i + 1)
+    open_on g e =
         let x : n - i ≡ suc (n - (i + 1)) = omega arith in
         let y : suc (i - s) ≡ i + 1 - s = omega arith in
         ap (open_from q (h + s) (a + s) (i - s)) x
-        ∙ (open-same q (h + s) (a + s) (i - s) (n - (i + 1)) (ap q here ∙ e) ∙ ap (λ (j : ℕ). open_from q (h + s) (a + s) j (n - (i + 1))) y)
+        ∙ (open_same q (h + s) (a + s) (i - s) (n - (i + 1)) (ap q here ∙ e) ∙ ap (λ (j : ℕ). open_from q (h + s) (a + s) j (n - (i + 1))) y)
 
     -- it has another, and begins a stretch
-    pub open-cut : i < n → (q (a + i) ≡ q (a + s) → ⊥) → Open s i ≡ stretch (h + s) (a + s) (i - s) ∷ Open i (i + 1)
-    open-cut g e =
+    pub open_cut : i < n → (q (a + i) ≡ q (a + s) → ⊥) → Open s i ≡ stretch (h + s) (a + s) (i - s) ∷ Open i (i + 1)
+    open_cut g e =
         let x : n - i ≡ suc (n - (i + 1)) = omega arith in
         let y : h + s + (i - s) ≡ h + i = omega arith in
         let z : 1 ≡ i + 1 - i = omega arith in
         ap (open_from q (h + s) (a + s) (i - s)) x
-        ∙ (open-other q (h + s) (a + s) (i - s) (n - (i + 1)) (λ r. e (sym (ap q here) ∙ r))
+        ∙ (open_other q (h + s) (a + s) (i - s) (n - (i + 1)) (λ r. e (sym (ap q here) ∙ r))
         ∙ ap (λ (ss : List Stretch). stretch (h + s) (a + s) (i - s) ∷ ss)
         (ap₂ (λ (u v : ℕ). open_from q u v 1 (n - (i + 1))) y here ∙ ap (λ (j : ℕ). open_from q (h + i) (a + i) j (n - (i + 1))) z))
 
   -- no k-mer is left: the open stretch is the last
-  pub open-last : (s i : ℕ) → i ≡ n → Open s i ≡ stretch (h + s) (a + s) (n - s) ∷ []
+  pub open_last : (s i : ℕ) → i ≡ n → Open s i ≡ stretch (h + s) (a + s) (n - s) ∷ []
   unfolding open_from
-  open-last s i e =
+  open_last s i e =
       let z : n - i ≡ 0 = omega arith in
       ap₂ (open_from q (h + s) (a + s)) (ap (λ (j : ℕ). j - s) e) z
 
@@ -67,13 +67,13 @@ module _ (q : ℕ → ℕ) (h a n : ℕ) where
 
 module _ (q : ℕ → ℕ) (k h before : ℕ) (ends : List ℕ) (i : ℕ) where
   -- the stretches from string i (from 0) on: those of this string, then the rest
-  pub stretches-next : i < length ends
+  pub stretches_next : i < length ends
       → stretches_from q k h before (drop i ends)
       ≡ of_string q h before (within k before (get_or ends i 0)) ++ stretches_from q k (h + within k before (get_or ends i 0)) (get_or ends i 0) (drop (i + 1) ends)
   unfolding stretches_from
-  stretches-next l = ap (stretches_from q k h before) (drop_next ends i 0 l)
+  stretches_next l = ap (stretches_from q k h before) (drop_next ends i 0 l)
 
   -- no string is left
-  pub stretches-end : length ends ≤ i → stretches_from q k h before (drop i ends) ≡ []
+  pub stretches_end : length ends ≤ i → stretches_from q k h before (drop i ends) ≡ []
   unfolding stretches_from
-  stretches-end l = ap (stretches_from q k h before) (drop_of_length-le ends l)
+  stretches_end l = ap (stretches_from q k h before) (drop_of_length-le ends l)

@@ -77,8 +77,8 @@ least_more p (suc n) c x h = omega (arith, least_more p n c x h, ap (λ (y : ℕ
 
 -- v is the least piece of c, and d is c rolled on by the letter x
 module _ (p n v c d x : ℕ) (is : v ≡ least p n c) (h : x < 4) (next : d ≡ rolled (n + p) c x) where
-  last-new : d % 4 ^ p ≡ (c * 4 + x) % 4 ^ p
-  last-new =
+  last_new : d % 4 ^ p ≡ (c * 4 + x) % 4 ^ p
+  last_new =
       let q : n + p ≡ n + (p + 0) = omega arith in
       ap (λ (y : ℕ). y % 4 ^ p) (next ∙ ap (λ (k : ℕ). rolled k c x) q)
       ∙ (sym (last_piece p (rolled (n + (p + 0)) c x)) ∙ (piece_mod p 0 n (c * 4 + x) ∙ last_piece p (c * 4 + x)))
@@ -90,19 +90,19 @@ module _ (p n v c d x : ℕ) (is : v ≡ least p n c) (h : x < 4) (next : d ≡ 
       let s : n ≡ suc (n - 1) = omega arith in
       ap (least p n) (next ∙ ap (λ (k : ℕ). rolled k c x) q)
       ∙ (least-mod p n 0 (c * 4 + x)
-      ∙ (ap (λ (k : ℕ). least p k (c * 4 + x)) s ∙ (least_more p (n - 1) c x h ∙ ap (λ (y : ℕ). min y (least p (n - 1) c)) (sym last-new))))
+      ∙ (ap (λ (k : ℕ). least p k (c * 4 + x)) s ∙ (least_more p (n - 1) c x h ∙ ap (λ (y : ℕ). min y (least p (n - 1) c)) (sym last_new))))
 
   -- a new piece that is no larger is the least
-  pub new-least : d % 4 ^ p ≤ v → d % 4 ^ p ≡ least p n d
-  new-least l = go (dec_lt 0 n)
+  pub new_least : d % 4 ^ p ≤ v → d % 4 ^ p ≡ least p n d
+  new_least l = go (dec_lt 0 n)
     where
       go : Dec (0 < n) → d % 4 ^ p ≡ least p n d
       go (yes g) = omega (arith, least-rolled g, is, least_step p n c g)
       go (no g) = let q : n ≡ 0 = omega arith in sym (least_end p d) ∙ ap (λ (k : ℕ). least p k d) (sym q)
 
   -- where the new piece is larger and the first piece of c was not the least, the least stays
-  pub old-least : v < d % 4 ^ p → (c / 4 ^ n % 4 ^ p ≡ v → ⊥) → v ≡ least p n d
-  old-least l g = go (dec_lt 0 n)
+  pub old_least : v < d % 4 ^ p → (c / 4 ^ n % 4 ^ p ≡ v → ⊥) → v ≡ least p n d
+  old_least l g = go (dec_lt 0 n)
     where
       go : Dec (0 < n) → v ≡ least p n d
       go (yes k) = omega (arith, least-rolled k, is, least_step p n c k)

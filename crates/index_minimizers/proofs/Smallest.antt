@@ -6,7 +6,7 @@ use native.Mathlib.Nat.{mod-lt, mod-eq_of_lt}
 use native.Mathlib.Omega.{arith}
 use lib.ListN.{length, take, get_or}
 use lib.Seq.{take_all, take-suc, length-take-le}
-use Rattle.lists.proofs.Every.{all_take, all-at}
+use Rattle.lists.proofs.Every.{all_take, all_at}
 use Rattle.words.specs.Word.{Letters, code}
 use Rattle.words.proofs.Codes.{code_lt, code-snoc}
 use Rattle.words.proofs.Rolling.{tail_code}
@@ -26,7 +26,7 @@ front-code p (suc n) w h l =
     ap (λ (m : ℕ). code (take m w) / 4 ^ suc n) q
     ∙ (ap (λ (v : List ℕ). code v / 4 ^ suc n) (take-suc w (n + p) 0 (omega arith))
     ∙ (ap (λ (m : ℕ). m / 4 ^ suc n) (code-snoc (take (n + p) w) x)
-    ∙ (letter_behind n (code (take (n + p) w)) x (all-at (λ y. y < 4) w h (n + p) 0 (omega arith)) ∙ front-code p n w h (omega arith))))
+    ∙ (letter_behind n (code (take (n + p) w)) x (all_at (λ y. y < 4) w h (n + p) 0 (omega arith)) ∙ front-code p n w h (omega arith))))
 
 -- the code of the first p of n + p letters
 first_piece : (p n : ℕ) (w : List ℕ) → Letters w → length w ≡ n + p → code w / 4 ^ n % 4 ^ p ≡ code (take p w)

@@ -20,28 +20,28 @@ module _ (q : ℕ → ℕ) where
   Maximal [] = Unit {0}
   Maximal (s ∷ ss) = Ends s ss × Maximal ss
 
-  open-ends : (s : Stretch) (h a n left : ℕ) → a ≡ s.at + s.number → (q a ≡ q s.at → ⊥) → Ends s (open_from q h a n left)
+  open_ends : (s : Stretch) (h a n left : ℕ) → a ≡ s.at + s.number → (q a ≡ q s.at → ⊥) → Ends s (open_from q h a n left)
   unfolding open_from
-  open-ends s h a n zero e d = (e, d)
-  open-ends s h a n (suc left) e d = go (eqb (q (a + n)) (q a)) (open-ends s h a (suc n) left e d)
+  open_ends s h a n zero e d = (e, d)
+  open_ends s h a n (suc left) e d = go (eqb (q (a + n)) (q a)) (open_ends s h a (suc n) left e d)
     where
       go : (t : Bool) → Ends s (open_from q h a (suc n) left)
           → Ends s (choose t (open_from q h a (suc n) left) (stretch h a n ∷ open_from q (h + n) (a + n) 1 left))
       go true more = more
       go false more = (e, d)
 
-  open-maximal : (h a n left : ℕ) → Maximal (open_from q h a n left)
+  open_maximal : (h a n left : ℕ) → Maximal (open_from q h a n left)
   unfolding open_from
-  open-maximal h a n zero = (tt, tt)
-  open-maximal h a n (suc left) = go (eqb (q (a + n)) (q a)) refl (open-maximal h a (suc n) left) (open-maximal (h + n) (a + n) 1 left)
+  open_maximal h a n zero = (tt, tt)
+  open_maximal h a n (suc left) = go (eqb (q (a + n)) (q a)) refl (open_maximal h a (suc n) left) (open_maximal (h + n) (a + n) 1 left)
     where
       go : (t : Bool) → eqb (q (a + n)) (q a) ≡ t → Maximal (open_from q h a (suc n) left) → Maximal (open_from q (h + n) (a + n) 1 left)
           → Maximal (choose t (open_from q h a (suc n) left) (stretch h a n ∷ open_from q (h + n) (a + n) 1 left))
       go true e more next = more
-      go false e more next = (open-ends (stretch h a n) (h + n) (a + n) 1 left refl (eqb-false (q (a + n)) (q a) e), next)
+      go false e more next = (open_ends (stretch h a n) (h + n) (a + n) 1 left refl (eqb-false (q (a + n)) (q a) e), next)
 
   -- the stretches of a string cannot go on
-  pub string-maximal : (h a n : ℕ) → Maximal (of_string q h a n)
+  pub string_maximal : (h a n : ℕ) → Maximal (of_string q h a n)
   unfolding of_string
-  string-maximal h a zero = tt
-  string-maximal h a (suc n) = open-maximal h a 1 n
+  string_maximal h a zero = tt
+  string_maximal h a (suc n) = open_maximal h a 1 n

@@ -8,12 +8,12 @@ use lib.ListN.{length, get_or}
 use Rattle.lists.specs.Every.{All}
 use Rattle.lists.specs.Pick.{pick, up_to}
 use Rattle.lists.proofs.Compare.{eq_or_ne}
-use Rattle.lists.proofs.Picks.{pick-nil, pick-here, pick_other, up_to-zero, up_to-suc, up_to-nil, up_to-high, pick-up_to}
+use Rattle.lists.proofs.Picks.{pick_nil, pick_here, pick_other, up_to-zero, up_to-suc, up_to-nil, up_to_high, pick_up_to}
 use Rattle.collection.specs.Kmers.{kmers, position_of}
 use Rattle.index_stretches.specs.Index.{arranged}
 use Rattle.index_stretches.specs.Stretches.{Kmer, numbered, Stretch, walk, stretches}
 use Rattle.index_stretches.proofs.Even.{Even, stretches_even}
-use Rattle.index_stretches.proofs.Rows.{walk-pick}
+use Rattle.index_stretches.proofs.Rows.{walk_pick}
 use Rattle.index_stretches.proofs.Walks.{walk-append, walk-stretches}
 
 -- the arranged stretches walk the k-mers arranged alike
@@ -24,7 +24,7 @@ walk-arranged q (suc d) ss u =
     let f : Stretch → ℕ = λ s. q s.at in
     ap walk (up_to-suc f d ss)
     ∙ (walk-append (up_to f d ss) (pick f d ss)
-    ∙ (ap₂ (λ (l m : List Kmer). l ++ m) (walk-arranged q d ss u) (walk-pick q d ss u) ∙ sym (up_to-suc (λ (x : Kmer). q x.at) d (walk ss))))
+    ∙ (ap₂ (λ (l m : List Kmer). l ++ m) (walk-arranged q d ss u) (walk_pick q d ss u) ∙ sym (up_to-suc (λ (x : Kmer). q x.at) d (walk ss))))
 
 -- all k-mers of the tables, from the first stretch to the last
 arranged_walks : (q : ℕ → ℕ) (d k : ℕ) (ends : List ℕ) → walk (arranged q d (stretches q k ends)) ≡ up_to (λ x. q x.at) d (numbered 1 (kmers k ends))
@@ -34,7 +34,7 @@ arranged_walks q d k ends = walk-arranged q d (stretches q k ends) (stretches_ev
 
 numbered-above : (h v : ℕ) (xs : List ℕ) → v < h → pick (λ x. x.handle) v (numbered h xs) ≡ []
 unfolding numbered
-numbered-above h v [] l = pick-nil (λ (x : Kmer). x.handle) v
+numbered-above h v [] l = pick_nil (λ (x : Kmer). x.handle) v
 numbered-above h v (a ∷ xs) l =
     pick_other (λ (x : Kmer). x.handle) v (record { handle = h; at = a }) (numbered (suc h) xs) (λ e. omega arith) ∙ numbered-above (suc h) v xs (omega arith)
 
@@ -43,7 +43,7 @@ unfolding numbered
 numbered-once h i [] l = absurd (omega arith)
 numbered-once h zero (a ∷ xs) l =
     let e : h ≡ h + 0 = omega arith in
-    pick-here (λ (x : Kmer). x.handle) (h + 0) (record { handle = h; at = a }) (numbered (suc h) xs) e
+    pick_here (λ (x : Kmer). x.handle) (h + 0) (record { handle = h; at = a }) (numbered (suc h) xs) e
     ∙ ap₂ (λ (n : ℕ) (l : List Kmer). record { handle = n; at = a } ∷ l) e (numbered-above (suc h) (h + 0) xs (omega arith))
 numbered-once h (suc i) (a ∷ xs) l =
     let e : h + suc i ≡ suc h + i = omega arith in
@@ -54,8 +54,8 @@ numbered-once h (suc i) (a ∷ xs) l =
 up_to_one : (f : Kmer → ℕ) (d : ℕ) (x : Kmer) → f x < d → up_to f d (x ∷ []) ≡ x ∷ []
 up_to_one f zero x l = absurd (omega arith)
 up_to_one f (suc d) x l =
-    ⊎_elim (λ (e : f x ≡ d). rw (up_to-suc f d (x ∷ []), up_to-high f d x [] (omega arith), up_to-nil f d, pick-here f d x [] e, pick-nil f d))
-    (λ (n : f x ≡ d → ⊥). rw (up_to-suc f d (x ∷ []), up_to_one f d x (omega arith), pick_other f d x [] n, pick-nil f d))
+    ⊎_elim (λ (e : f x ≡ d). rw (up_to-suc f d (x ∷ []), up_to_high f d x [] (omega arith), up_to-nil f d, pick_here f d x [] e, pick_nil f d))
+    (λ (n : f x ≡ d → ⊥). rw (up_to-suc f d (x ∷ []), up_to_one f d x (omega arith), pick_other f d x [] n, pick_nil f d))
     (eq_or_ne (f x) d)
 
 -- of all k-mers of the tables, exactly one has the handle: the handle's own
@@ -65,7 +65,7 @@ stands_once q d k ends handle l h v =
     let e : 1 + (handle - 1) ≡ handle = omega arith in
     let one = numbered-once 1 (handle - 1) (kmers k ends) (omega arith) in
     ap (pick (λ x. x.handle) handle) (arranged_walks q d k ends)
-    ∙ (pick-up_to (λ (x : Kmer). x.handle) (λ (x : Kmer). q x.at) handle d (numbered 1 (kmers k ends))
+    ∙ (pick_up_to (λ (x : Kmer). x.handle) (λ (x : Kmer). q x.at) handle d (numbered 1 (kmers k ends))
     ∙ (ap (up_to (λ x. q x.at) d)
     (subst (λ (n : ℕ). pick (λ x. x.handle) n (numbered 1 (kmers k ends)) ≡ record { handle = n; at = position_of k ends handle } ∷ []) e one)
     ∙ up_to_one (λ x. q x.at) d (record { handle = handle; at = position_of k ends handle }) v))

@@ -44,7 +44,7 @@ open_from q h a n zero = stretch h a n ∷ []
 open_from q h a n (suc left) = choose (eqb (q (a + n)) (q a)) (open_from q h a (suc n) left) (stretch h a n ∷ open_from q (h + n) (a + n) 1 left)
 
 -- The stretches of a string of n k-mers, the first of which has handle h and stands at position a. Each is of one minimizer (`stretches_even`), and none can go
--- on (`string-maximal`).
+-- on (`string_maximal`).
 unfoldable pub of_string : (ℕ → ℕ) → ℕ → ℕ → ℕ → List Stretch
 of_string q h a zero = []
 of_string q h a (suc n) = open_from q h a 1 n

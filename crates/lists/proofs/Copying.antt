@@ -17,12 +17,12 @@ copy_start xs old h = record { storing = begin old xs h }
 module _ {A : Type 0} {xs old table : List A} {i : ℕ} (s : Copying xs old table i) where
   module _ (d : A) (l : i < length xs) where
     -- the next entry has its place
-    pub copy-inside : i < length table
-    copy-inside = inside (restated (drop_next xs i d l) s.storing)
+    pub copy_inside : i < length table
+    copy_inside = inside (restated (drop_next xs i d l) s.storing)
 
     -- and is copied
-    pub copy-next : Copying xs old (set table i (get_or xs i d)) (i + 1)
-    copy-next = record { storing = store (restated (drop_next xs i d l) s.storing) }
+    pub copy_next : Copying xs old (set table i (get_or xs i d)) (i + 1)
+    copy_next = record { storing = store (restated (drop_next xs i d l) s.storing) }
 
   -- all are
   pub copied : length xs ≤ i → table ≡ fill xs old

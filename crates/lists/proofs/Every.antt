@@ -53,10 +53,10 @@ module _ {A : Type 0} (P : A → Type 0) where
   all_right (x ∷ xs) ys h = all_right xs ys h.1
 
   -- what holds of all holds at each place
-  pub all-at : (xs : List A) → All P xs → (i : ℕ) (d : A) → i < length xs → P (get_or xs i d)
-  all-at [] h i d l = absurd (not-suc-le-zero l)
-  all-at (x ∷ xs) h zero d l = h.0
-  all-at (x ∷ xs) h (suc i) d l = all-at xs h.1 i d (le_of_suc-le-suc l)
+  pub all_at : (xs : List A) → All P xs → (i : ℕ) (d : A) → i < length xs → P (get_or xs i d)
+  all_at [] h i d l = absurd (not-suc-le-zero l)
+  all_at (x ∷ xs) h zero d l = h.0
+  all_at (x ∷ xs) h (suc i) d l = all_at xs h.1 i d (le_of_suc-le-suc l)
 
   -- what holds at each place holds of all
   pub at_all : (d : A) (xs : List A) → ((i : ℕ) → i < length xs → P (get_or xs i d)) → All P xs
@@ -97,14 +97,14 @@ pub record Tested {A : Type 0} (test : A → Bool) (xs : List A) (good : Bool) (
 
 module _ {A : Type 0} (test : A → Bool) (xs : List A) where
   -- none is tested yet
-  pub tested-none : Tested test xs true 0
-  tested-none = record { inside = omega arith; whole = refl }
+  pub tested_none : Tested test xs true 0
+  tested_none = record { inside = omega arith; whole = refl }
 
 module _ {A : Type 0} {test : A → Bool} {xs : List A} {good : Bool} {i : ℕ} (s : Tested test xs good i) where
   -- one more is
-  pub tested-next : (d : A) → i < length xs → {t : Bool} → t ≡ test (get_or xs i d) → Tested test xs (good && t) (i + 1)
+  pub tested_next : (d : A) → i < length xs → {t : Bool} → t ≡ test (get_or xs i d) → Tested test xs (good && t) (i + 1)
   unfolding every
-  tested-next d l e =
+  tested_next d l e =
       record {
         inside = omega arith;
         whole =
@@ -114,9 +114,9 @@ module _ {A : Type 0} {test : A → Bool} {xs : List A} {good : Bool} {i : ℕ} 
       }
 
   -- all are
-  pub tested-all : length xs ≤ i → good ≡ every test xs
+  pub tested_all : length xs ≤ i → good ≡ every test xs
   unfolding every
-  tested-all l = sym (s.whole ∙ (ap (λ (ys : List A). good && every test ys) (drop_of_length-le xs l) ∙ and_true good))
+  tested_all l = sym (s.whole ∙ (ap (λ (ys : List A). good && every test ys) (drop_of_length-le xs l) ∙ and_true good))
 
 -- ─── equal lists of numbers ──────────────────────────────────────────────────
 

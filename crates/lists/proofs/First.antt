@@ -17,25 +17,25 @@ module _ {A : Type 0} (test : A → Bool) where
   -- ─── as a loop goes over the list ──────────────────────────────────────────
 
   module _ (xs : List A) (i : ℕ) (d : A) (h : i < length xs) where
-    pub first-here : test (get_or xs i d) ≡ true → first_from test i (drop i xs) ≡ i + 1
+    pub first_here : test (get_or xs i d) ≡ true → first_from test i (drop i xs) ≡ i + 1
     unfolding first_from
-    first-here e = rw (drop-cons xs i d, e, add-one)
+    first_here e = rw (drop-cons xs i d, e, add-one)
 
     pub first_next : test (get_or xs i d) ≡ false → first_from test i (drop i xs) ≡ first_from test (i + 1) (drop (i + 1) xs)
     unfolding first_from
     first_next e = rw (drop-cons xs i d, e, add-one)
 
-  pub first-end : (xs : List A) (i : ℕ) → length xs ≤ i → first_from test i (drop i xs) ≡ 0
+  pub first_end : (xs : List A) (i : ℕ) → length xs ≤ i → first_from test i (drop i xs) ≡ 0
   unfolding first_from
-  first-end xs i h = rw (drop_of_length-le xs h)
+  first_end xs i h = rw (drop_of_length-le xs h)
 
   -- ─── one element more behind ───────────────────────────────────────────────
 
-  first-snoc-from : (i : ℕ) (xs : List A) (x : A)
+  first_snoc_from : (i : ℕ) (xs : List A) (x : A)
       → first_from test i (xs ++ (x ∷ [])) ≡ choose (eqb (first_from test i xs) 0) (choose (test x) (suc (i + length xs)) 0) (first_from test i xs)
   unfolding first_from
-  first-snoc-from i [] x = let q : suc i ≡ suc (i + 0) = omega arith in ap (λ (n : ℕ). choose (test x) n 0) q
-  first-snoc-from i (y ∷ xs) x = go (test y) (first-snoc-from (suc i) xs x)
+  first_snoc_from i [] x = let q : suc i ≡ suc (i + 0) = omega arith in ap (λ (n : ℕ). choose (test x) n 0) q
+  first_snoc_from i (y ∷ xs) x = go (test y) (first_snoc_from (suc i) xs x)
     where
       go : (t : Bool)
           → first_from test (suc i) (xs ++ (x ∷ []))
@@ -49,16 +49,16 @@ module _ {A : Type 0} (test : A → Bool) where
           ih ∙ ap (λ (n : ℕ). choose (eqb (first_from test (suc i) xs) 0) (choose (test x) n 0) (first_from test (suc i) xs)) q
 
   -- where none of xs meets the test, x is the first if it does
-  pub first-snoc-none : (xs : List A) (x : A) → first_that test xs ≡ 0 → first_that test (xs ++ (x ∷ [])) ≡ choose (test x) (length xs + 1) 0
-  first-snoc-none xs x e =
+  pub first_snoc-none : (xs : List A) (x : A) → first_that test xs ≡ 0 → first_that test (xs ++ (x ∷ [])) ≡ choose (test x) (length xs + 1) 0
+  first_snoc-none xs x e =
       let q : suc (0 + length xs) ≡ length xs + 1 = omega arith in
-      first-snoc-from 0 xs x
+      first_snoc_from 0 xs x
       ∙ (ap (λ (b : Bool). choose b (choose (test x) (suc (0 + length xs)) 0) (first_that test xs)) (eq-eqb (first_that test xs) 0 e)
       ∙ ap (λ (n : ℕ). choose (test x) n 0) q)
 
   -- an element that does not meet the test changes nothing
-  pub first-snoc-other : (xs : List A) (x : A) → test x ≡ false → first_that test (xs ++ (x ∷ [])) ≡ first_that test xs
-  first-snoc-other xs x e = first-snoc-from 0 xs x ∙ go (first_that test xs)
+  pub first_snoc-other : (xs : List A) (x : A) → test x ≡ false → first_that test (xs ++ (x ∷ [])) ≡ first_that test xs
+  first_snoc-other xs x e = first_snoc_from 0 xs x ∙ go (first_that test xs)
     where
       go : (n : ℕ) → choose (eqb n 0) (choose (test x) (suc (0 + length xs)) 0) n ≡ n
       go zero = ap (λ (b : Bool). choose b (suc (0 + length xs)) 0) e
@@ -66,10 +66,10 @@ module _ {A : Type 0} (test : A → Bool) where
 
   -- ─── what it tells ─────────────────────────────────────────────────────────
 
-  first-none-from : (i : ℕ) (xs : List A) → first_from test i xs ≡ 0 → All (λ x. test x ≡ false) xs
+  first_none_from : (i : ℕ) (xs : List A) → first_from test i xs ≡ 0 → All (λ x. test x ≡ false) xs
   unfolding first_from
-  first-none-from i [] e = tt
-  first-none-from i (x ∷ xs) e = go (test x) refl e (first-none-from (suc i) xs)
+  first_none_from i [] e = tt
+  first_none_from i (x ∷ xs) e = go (test x) refl e (first_none_from (suc i) xs)
     where
       go : (t : Bool) → test x ≡ t → choose t (suc i) (first_from test (suc i) xs) ≡ 0 → (first_from test (suc i) xs ≡ 0 → All (λ x. test x ≡ false) xs)
           → All (λ x. test x ≡ false) (x ∷ xs)
@@ -77,16 +77,16 @@ module _ {A : Type 0} (test : A → Bool) where
       go false q r ih = (q, ih r)
 
   -- 0 says that no element meets the test
-  pub first-none : (xs : List A) → first_that test xs ≡ 0 → All (λ x. test x ≡ false) xs
-  first-none = first-none-from 0
+  pub first_none : (xs : List A) → first_that test xs ≡ 0 → All (λ x. test x ≡ false) xs
+  first_none = first_none_from 0
 
-  none-first-from : (i : ℕ) (xs : List A) → All (λ x. test x ≡ false) xs → first_from test i xs ≡ 0
+  none_first_from : (i : ℕ) (xs : List A) → All (λ x. test x ≡ false) xs → first_from test i xs ≡ 0
   unfolding first_from
-  none-first-from i [] a = refl
-  none-first-from i (x ∷ xs) a = rw a.0 (none-first-from (suc i) xs a.1)
+  none_first_from i [] a = refl
+  none_first_from i (x ∷ xs) a = rw a.0 (none_first_from (suc i) xs a.1)
 
   pub none_first : (xs : List A) → All (λ x. test x ≡ false) xs → first_that test xs ≡ 0
-  none_first = none-first-from 0
+  none_first = none_first_from 0
 
   -- what is found at place p, where i elements stood before: it is in range, meets the test, and none before it does
   pub record FoundFrom (i : ℕ) (xs : List A) (p : ℕ) : Type 0 where
@@ -95,10 +95,10 @@ module _ {A : Type 0} (test : A → Bool) where
     pub meets : (d : A) → test (get_or xs (p - suc i) d) ≡ true
     pub none_before : (d : A) (j : ℕ) → i + j + 1 < p → test (get_or xs j d) ≡ false
 
-  pub first-found-from : (i : ℕ) (xs : List A) (p : ℕ) → first_from test i xs ≡ suc p → FoundFrom i xs (suc p)
+  pub first_found_from : (i : ℕ) (xs : List A) (p : ℕ) → first_from test i xs ≡ suc p → FoundFrom i xs (suc p)
   unfolding first_from
-  first-found-from i [] p e = absurd (omega arith)
-  first-found-from i (x ∷ xs) p e = go (test x) refl e (first-found-from (suc i) xs p)
+  first_found_from i [] p e = absurd (omega arith)
+  first_found_from i (x ∷ xs) p e = go (test x) refl e (first_found_from (suc i) xs p)
     where
       go : (t : Bool) → test x ≡ t → choose t (suc i) (first_from test (suc i) xs) ≡ suc p → (first_from test (suc i) xs ≡ suc p → FoundFrom (suc i) xs (suc p))
           → FoundFrom i (x ∷ xs) (suc p)

@@ -7,18 +7,18 @@ use lib.ListN.{length, get_or}
 use Rattle.lists.specs.Count.{count_from}
 use Rattle.lists.specs.Every.{All}
 use Rattle.lists.specs.Pairs.{Pairs}
-use Rattle.lists.proofs.Every.{all-at, all_map}
+use Rattle.lists.proofs.Every.{all_at, all_map}
 
 module _ {A : Type 0} where
-  pub pairs-at : (R : A → A → Type 0) (xs : List A) → Pairs R xs → (i j : ℕ) (d : A) → i < j → j < length xs → R (get_or xs i d) (get_or xs j d)
-  pairs-at R [] h i j d l k = absurd (not-suc-le-zero k)
-  pairs-at R (x ∷ xs) h i zero d l k = absurd (not-suc-le-zero l)
-  pairs-at R (x ∷ xs) h zero (suc j) d l k = all-at (R x) xs h.0 j d (omega arith)
-  pairs-at R (x ∷ xs) h (suc i) (suc j) d l k = pairs-at R xs h.1 i j d (omega arith) (omega arith)
+  pub pairs_at : (R : A → A → Type 0) (xs : List A) → Pairs R xs → (i j : ℕ) (d : A) → i < j → j < length xs → R (get_or xs i d) (get_or xs j d)
+  pairs_at R [] h i j d l k = absurd (not-suc-le-zero k)
+  pairs_at R (x ∷ xs) h i zero d l k = absurd (not-suc-le-zero l)
+  pairs_at R (x ∷ xs) h zero (suc j) d l k = all_at (R x) xs h.0 j d (omega arith)
+  pairs_at R (x ∷ xs) h (suc i) (suc j) d l k = pairs_at R xs h.1 i j d (omega arith) (omega arith)
 
-  pub pairs-map : {R S : A → A → Type 0} → ((x y : A) → R x y → S x y) → (xs : List A) → Pairs R xs → Pairs S xs
-  pairs-map f [] h = tt
-  pairs-map f (x ∷ xs) h = (all_map (f x) xs h.0, pairs-map f xs h.1)
+  pub pairs_map : {R S : A → A → Type 0} → ((x y : A) → R x y → S x y) → (xs : List A) → Pairs R xs → Pairs S xs
+  pairs_map f [] h = tt
+  pairs_map f (x ∷ xs) h = (all_map (f x) xs h.0, pairs_map f xs h.1)
 
 -- numbers in a row rise
 pub count_rises : (i n : ℕ) → Pairs (λ x y. x < y) (count_from i n)

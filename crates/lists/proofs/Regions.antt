@@ -57,9 +57,9 @@ module _ {A : Type 0} where
 
   -- ─── what a region holds ───────────────────────────────────────────────────
 
-  pub part-is : (b n : ℕ) (w : List A) → part b n w ≡ take n (drop b w)
+  pub part_is : (b n : ℕ) (w : List A) → part b n w ≡ take n (drop b w)
   unfolding part
-  part-is b n w = refl
+  part_is b n w = refl
 
   -- the part that `&w[b..b + n]` lends
   pub part-lent : (b n : ℕ) (w : List A) → take (b + n - b) (drop b w) ≡ part b n w
@@ -98,8 +98,8 @@ module _ {A : Type 0} where
   part-take b n e w h = take-take e n (drop b w) h
 
   -- a region of a region
-  pub part-mid : (b n a k : ℕ) (w : List A) → a + k ≤ n → b + n ≤ length w → take k (drop a (part b n w)) ≡ part (b + a) k w
-  part-mid b n a k w h g =
+  pub part_mid : (b n a k : ℕ) (w : List A) → a + k ≤ n → b + n ≤ length w → take k (drop a (part b n w)) ≡ part (b + a) k w
+  part_mid b n a k w h g =
       ext (take k (drop a (part b n w))) (part (b + a) k w) (ll ∙ sym (part_length (b + a) k w (omega arith)))
       (λ i d l.
       let q : i < k = omega (arith, ll) in
@@ -114,7 +114,7 @@ module _ {A : Type 0} where
   pub part-drop : (b n e : ℕ) (w : List A) → e ≤ n → b + n ≤ length w → drop e (part b n w) ≡ part (b + e) (n - e) w
   part-drop b n e w h g =
       sym (take_all (n - e) (drop e (part b n w)) (simp length-drop (omega (arith, part_length b n w g))))
-      ∙ part-mid b n e (n - e) w (omega arith) g
+      ∙ part_mid b n e (n - e) w (omega arith) g
 
   -- ─── a store in a region, and outside of it ────────────────────────────────
 
@@ -124,52 +124,52 @@ module _ {A : Type 0} where
   part-set b n w i x h = rw (drop-set-add b w i x) (take-set-lt n (drop b w) i x h)
 
   -- one entry more behind a part
-  pub part-grows : (w : List A) (b n : ℕ) (x : A) → b + n < length w → part b (suc n) (set w (b + n) x) ≡ part b n w ++ (x ∷ [])
+  pub part_grows : (w : List A) (b n : ℕ) (x : A) → b + n < length w → part b (suc n) (set w (b + n) x) ≡ part b n w ++ (x ∷ [])
   unfolding part
-  part-grows w b n x l = rw (drop-set-add b w n x) (take-suc-set (drop b w) n x (simp length-drop (omega arith)))
+  part_grows w b n x l = rw (drop-set-add b w n x) (take-suc-set (drop b w) n x (simp length-drop (omega arith)))
 
   -- an entry stored outside it
-  pub part-set-off : (b n : ℕ) (w : List A) (i : ℕ) (x : A) → (i < b) ⊎ (b + n ≤ i) → part b n (set w i x) ≡ part b n w
+  pub part-set_off : (b n : ℕ) (w : List A) (i : ℕ) (x : A) → (i < b) ⊎ (b + n ≤ i) → part b n (set w i x) ≡ part b n w
   unfolding part
-  part-set-off b n w i x (inl l) = rw (drop-set-lt b w i x l)
-  part-set-off b n w i x (inr l) =
+  part-set_off b n w i x (inl l) = rw (drop-set-lt b w i x l)
+  part-set_off b n w i x (inr l) =
       let q : i ≡ b + (i - b) = omega arith in
       rw q (rw (drop-set-add b w (i - b) x) (take-set-le n (drop b w) (i - b) x (omega arith)))
 
   -- a store in one region leaves another
   pub part-set-other : (a n b m : ℕ) (w : List A) (i : ℕ) (x : A) → Apart a n b m → i < m → part a n (set w (b + i) x) ≡ part a n w
   part-set-other a n b m w i x d h =
-      part-set-off a n w (b + i) x (⊎_elim (λ (l : a + n ≤ b). inr (omega arith)) (λ (l : b + m ≤ a). inl (omega arith)) d)
+      part-set_off a n w (b + i) x (⊎_elim (λ (l : a + n ≤ b). inr (omega arith)) (λ (l : b + m ≤ a). inl (omega arith)) d)
 
   -- ─── tables that differ in some regions only ───────────────────────────────
 
   module _ (rs : List (ℕ × ℕ)) where
-    pub among-refl : (w : List A) → Among rs w w
-    among-refl w = record { size = refl; rest = λ i d o. refl }
+    pub among_refl : (w : List A) → Among rs w w
+    among_refl w = record { size = refl; rest = λ i d o. refl }
 
-    pub among-trans : (u v w : List A) → Among rs u v → Among rs v w → Among rs u w
-    among-trans u v w p q = record { size = q.size ∙ p.size; rest = λ i d o. q.rest i d o ∙ p.rest i d o }
+    pub among_trans : (u v w : List A) → Among rs u v → Among rs v w → Among rs u w
+    among_trans u v w p q = record { size = q.size ∙ p.size; rest = λ i d o. q.rest i d o ∙ p.rest i d o }
 
     -- one store more, in one of the regions
-    pub among-set : (w v : List A) (j : ℕ) (x : A) → Among rs w v → (Off rs j → ⊥) → Among rs w (set v j x)
-    among-set w v j x p h =
+    pub among_set : (w v : List A) (j : ℕ) (x : A) → Among rs w v → (Off rs j → ⊥) → Among rs w (set v j x)
+    among_set w v j x p h =
         record {
           size = length-set v j x ∙ p.size;
           rest = λ i d o. get_or-set_other v j i x d (λ e. h (subst (λ (k : ℕ). Off rs k) e o)) ∙ p.rest i d o;
         }
 
     -- more regions, or wider ones
-    pub among-wider : (ts : List (ℕ × ℕ)) (w v : List A) → Among rs w v → ((i : ℕ) → Off ts i → Off rs i) → Among ts w v
-    among-wider ts w v p h = record { size = p.size; rest = λ i d o. p.rest i d (h i o) }
+    pub among_wider : (ts : List (ℕ × ℕ)) (w v : List A) → Among rs w v → ((i : ℕ) → Off ts i → Off rs i) → Among ts w v
+    among_wider ts w v p h = record { size = p.size; rest = λ i d o. p.rest i d (h i o) }
 
     -- a region that is clear of them is as it was: each entry, and the whole
-    pub among-at : (a n : ℕ) (w v : List A) → Among rs w v → Clear rs a n → (i : ℕ) (d : A) → i < n → get_or v (a + i) d ≡ get_or (part a n w) i d
-    among-at a n w v p c i d h = p.rest (a + i) d (clear_off rs a n i c h) ∙ sym (part_at a n w i d h)
+    pub among_at : (a n : ℕ) (w v : List A) → Among rs w v → Clear rs a n → (i : ℕ) (d : A) → i < n → get_or v (a + i) d ≡ get_or (part a n w) i d
+    among_at a n w v p c i d h = p.rest (a + i) d (clear_off rs a n i c h) ∙ sym (part_at a n w i d h)
 
-    pub among-part : (a n : ℕ) (w v : List A) → Among rs w v → Clear rs a n → a + n ≤ length w → part a n v ≡ part a n w
-    among-part a n w v p c h =
+    pub among_part : (a n : ℕ) (w v : List A) → Among rs w v → Clear rs a n → a + n ≤ length w → part a n v ≡ part a n w
+    among_part a n w v p c h =
         ext (part a n v) (part a n w) (lv ∙ sym (part_length a n w h))
-        (λ i d l. let k : i < n = omega (arith, lv) in part_at a n v i d k ∙ among-at a n w v p c i d k)
+        (λ i d l. let k : i < n = omega (arith, lv) in part_at a n v i d k ∙ among_at a n w v p c i d k)
       where
         lv : length (part a n v) ≡ n
         lv = part_length a n v (omega (arith, p.size))
@@ -177,15 +177,15 @@ module _ {A : Type 0} where
   -- one region
   module _ (b n : ℕ) (w v : List A) (p : Only b n w v) where
     pub only_set : (i : ℕ) (x : A) → i < n → Only b n w (set v (b + i) x)
-    only_set i x h = among-set ((b, n) ∷ []) w v (b + i) x p (hit b n [] i h)
+    only_set i x h = among_set ((b, n) ∷ []) w v (b + i) x p (hit b n [] i h)
 
     -- a region apart from the one that was written holds what it held, entry by entry
     pub only_at : (a m : ℕ) → Apart a m b n → (i : ℕ) (d : A) → i < m → get_or v (a + i) d ≡ get_or (part a m w) i d
-    only_at a m c = among-at ((b, n) ∷ []) a m w v p (c, tt)
+    only_at a m c = among_at ((b, n) ∷ []) a m w v p (c, tt)
 
     -- and as a whole
     pub only_part : (a m : ℕ) → Apart a m b n → a + m ≤ length w → part a m v ≡ part a m w
-    only_part a m c = among-part ((b, n) ∷ []) a m w v p (c, tt)
+    only_part a m c = among_part ((b, n) ∷ []) a m w v p (c, tt)
 
   -- ─── a part that was lent, `&mut w[b..b + n]`, is back with the entries ys ──
 
@@ -197,8 +197,8 @@ module _ {A : Type 0} where
         ∙ take_at ys (post_of b (b + n - b) w) n e
 
     -- a part that was lent for writing is all that changes
-    pub lent-only : Only b n w (put_mid b (b + n - b) w ys)
-    lent-only =
+    pub lent_only : Only b n w (put_mid b (b + n - b) w ys)
+    lent_only =
         record {
           size = same_len_mid b (b + n - b) w ys (e ∙ sym (mid_len b (b + n) w h ∙ q));
           rest = λ i d o. ⊎_elim (below i d) (above i d) o.0;

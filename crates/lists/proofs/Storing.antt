@@ -14,11 +14,11 @@ pub drop_next : {A : Type 0} (xs : List A) (i : ℕ) (d : A) → i < length xs �
 drop_next xs i d h = rw add-one (drop-cons xs i d h)
 
 module _ {A : Type 0} where
-  pub put-start : (xs old : List A) → put 0 xs old ≡ fill xs old
-  put-start xs old = rw zero-add refl
+  pub put_start : (xs old : List A) → put 0 xs old ≡ fill xs old
+  put_start xs old = rw zero-add refl
 
-  put-none : (at : ℕ) (old : List A) → put at [] old ≡ old
-  put-none at old = rw add-zero (take-append-drop at old)
+  put_none : (at : ℕ) (old : List A) → put at [] old ≡ old
+  put_none at old = rw add-zero (take-append-drop at old)
 
   -- one entry stored and the rest from there on
   pub put_next : (at : ℕ) (old xs : List A) (x : A) → at < length old → put (at + 1) xs (set old at x) ≡ put at (x ∷ xs) old
@@ -26,23 +26,23 @@ module _ {A : Type 0} where
       let l : at < suc at + length xs = omega arith in
       rw (add-one, take-suc-set, drop-set-lt, suc-add, add-suc) (append_assoc (take at old) (x ∷ []) (xs ++ drop (suc (at + length xs)) old))
 
-  pub length-fill : (xs old : List A) → length xs ≤ length old → length (fill xs old) ≡ length old
-  length-fill xs old h = simp (length-append, length-drop) (omega arith)
+  pub length_fill : (xs old : List A) → length xs ≤ length old → length (fill xs old) ≡ length old
+  length_fill xs old h = simp (length-append, length-drop) (omega arith)
 
-  pub take-fill : (xs old : List A) (n : ℕ) → length xs ≡ n → take n (fill xs old) ≡ xs
-  take-fill xs old n e = take_at xs (drop (length xs) old) n e
+  pub take_fill : (xs old : List A) (n : ℕ) → length xs ≡ n → take n (fill xs old) ≡ xs
+  take_fill xs old n e = take_at xs (drop (length xs) old) n e
 
-  pub drop-fill : (xs old : List A) (n : ℕ) → length xs ≡ n → drop n (fill xs old) ≡ drop n old
-  drop-fill xs old n e = drop_at xs (drop (length xs) old) n e ∙ ap (λ (m : ℕ). drop m old) e
+  pub drop_fill : (xs old : List A) (n : ℕ) → length xs ≡ n → drop n (fill xs old) ≡ drop n old
+  drop_fill xs old n e = drop_at xs (drop (length xs) old) n e ∙ ap (λ (m : ℕ). drop m old) e
 
   -- filled, changed in its first entries and filled again is filled once
-  pub fill-again : (xs old between : List A) (n : ℕ) → length xs ≡ n → drop n between ≡ drop n old → fill xs between ≡ fill xs old
-  fill-again xs old between n e q = ap (λ (l : List A). xs ++ l) (ap (λ (m : ℕ). drop m between) e ∙ (q ∙ ap (λ (m : ℕ). drop m old) (sym e)))
+  pub fill_again : (xs old between : List A) (n : ℕ) → length xs ≡ n → drop n between ≡ drop n old → fill xs between ≡ fill xs old
+  fill_again xs old between n e q = ap (λ (l : List A). xs ++ l) (ap (λ (m : ℕ). drop m between) e ∙ (q ∙ ap (λ (m : ℕ). drop m old) (sym e)))
 
   -- a part from `at` to the end was lent and filled: what that makes of the whole
-  pub put-lent : (at : ℕ) (xs old : List A) {part : List A} → part ≡ fill xs (take (length old - at) (drop at old))
+  pub put_lent : (at : ℕ) (xs old : List A) {part : List A} → part ≡ fill xs (take (length old - at) (drop at old))
       → take at old ++ (part ++ drop (length old - at) (drop at old)) ≡ put at xs old
-  put-lent at xs old q =
+  put_lent at xs old q =
       let l : length (drop at old) ≤ length old - at = rw length-drop (omega arith) in
       rw (q, take_all (length old - at) (drop at old) l, drop_of_length-le (drop at old) l, append-nil, drop-drop)
 
@@ -53,12 +53,12 @@ module _ {A : Type 0} where
     pub ends : put at rest table ≡ target
 
   -- a loop that stores xs from `at` on
-  pub begin-at : (at : ℕ) (table xs : List A) → at + length xs ≤ length table → Storing (length table) table (put at xs table) xs at
-  begin-at at table xs h = record { size_kept = refl; room = h; ends = refl }
+  pub begin_at : (at : ℕ) (table xs : List A) → at + length xs ≤ length table → Storing (length table) table (put at xs table) xs at
+  begin_at at table xs h = record { size_kept = refl; room = h; ends = refl }
 
   -- a loop that fills the first entries
   pub begin : (table xs : List A) → length xs ≤ length table → Storing (length table) table (fill xs table) xs 0
-  begin table xs h = record { size_kept = refl; room = omega arith; ends = put-start xs table }
+  begin table xs h = record { size_kept = refl; room = omega arith; ends = put_start xs table }
 
   pub inside : {size at : ℕ} {x : A} {table target rest : List A} → Storing size table target (x ∷ rest) at → at < length table
   inside s = omega (arith, s.room)
@@ -71,8 +71,8 @@ module _ {A : Type 0} where
         ends = put_next at table rest x (inside s) ∙ s.ends;
       }
 
-  put-append : (at : ℕ) (xs rest table : List A) → at + length xs ≤ length table → put (at + length xs) rest (put at xs table) ≡ put at (xs ++ rest) table
-  put-append at xs rest table h =
+  put_append : (at : ℕ) (xs rest table : List A) → at + length xs ≤ length table → put (at + length xs) rest (put at xs table) ≡ put at (xs ++ rest) table
+  put_append at xs rest table h =
       let front : List A = take at table ++ xs in
       let back : List A = drop (at + length xs) table in
       let n : length front ≡ at + length xs = length-append (take at table) xs ∙ (omega (arith, length-take-le at table (omega arith))) in
@@ -105,7 +105,7 @@ module _ {A : Type 0} where
       record {
         size_kept = kept ∙ s.size_kept;
         room = omega (arith, s.room);
-        ends = put-append at xs rest table (omega (arith, s.room)) ∙ s.ends;
+        ends = put_append at xs rest table (omega (arith, s.room)) ∙ s.ends;
       }
 
   -- what is still to be stored, said another way
@@ -114,4 +114,4 @@ module _ {A : Type 0} where
 
   -- where nothing is left to store, the table is the target
   pub stored : {size at : ℕ} {table target : List A} → Storing size table target [] at → table ≡ target
-  stored {at = at} {table = table} s = sym (put-none at table) ∙ s.ends
+  stored {at = at} {table = table} s = sym (put_none at table) ∙ s.ends

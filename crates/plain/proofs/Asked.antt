@@ -22,8 +22,8 @@ use Rattle.collection.specs.Ready.{Ready}
 use Rattle.plain.specs.Plain.{lowest, found_or, plain_found}
 use Rattle.plain.specs.Scan.{scan_from}
 use Rattle.collection.proofs.Kmers.{kmers_fit}
-use Rattle.collection.proofs.Ready.{word-length, word-letters}
-use Rattle.plain.proofs.Scans.{answered, scan-lowest}
+use Rattle.collection.proofs.Ready.{word_length, word_letters}
+use Rattle.plain.proofs.Scans.{answered, scan_lowest}
 use Rattle.words.proofs.Codes.{code_test}
 use Rattle.lists.proofs.First.{first_agrees}
 
@@ -34,23 +34,23 @@ module _ {t : Spelling} (r : Ready t) where
   unfolding lowest
   lowest-code w c n g e =
       first_agrees (λ a. eqb (code (word_at t.k t.letters a)) c) (λ a. same (word_at t.k t.letters a) w) 0 (kmers t.k t.ends)
-      (all_map (λ a h. code_test (word_at t.k t.letters a) w c (word-length r a (omega (arith, h, r.ends_last)) ∙ sym n) (word-letters r a) g e)
+      (all_map (λ a h. code_test (word_at t.k t.letters a) w c (word_length r a (omega (arith, h, r.ends_last)) ∙ sym n) (word_letters r a) g e)
       (kmers t.k t.ends) (kmers_fit t.k 0 0 t.ends r.ends_long.long))
 
   module _ (word : List ℕ) (n : length word ≡ t.k) (g : every is_letter word ≡ true) where
     -- the pass with the codes of the asked word and of its reverse complement gives PLAIN's answer
-    pub pass-answers : (asked turned : ℕ) → asked ≡ code (map two_bits word) → turned ≡ turned_code t.k asked
+    pub pass_answers : (asked turned : ℕ) → asked ≡ code (map two_bits word) → turned ≡ turned_code t.k asked
         → answered (λ a. eqb (code (word_at t.k t.letters a)) asked) (λ a. eqb (code (word_at t.k t.letters a)) turned)
         (scan_from (λ a. eqb (code (word_at t.k t.letters a)) asked) (λ a. eqb (code (word_at t.k t.letters a)) turned) 0 0 (kmers t.k t.ends))
         ≡ plain_found t (spell word)
     unfolding plain_found
-    pass-answers asked turned Asked-is turned_is =
+    pass_answers asked turned Asked-is turned_is =
         let h : All (λ b. is_letter b ≡ true) word = every-all is_letter word g in
         let w : List ℕ = spell word in
         let l : length w ≡ t.k = length-map word letter ∙ n in
         let s : Letters w = spell-letters word h in
         let c : asked ≡ code w = Asked-is ∙ ap code (spell_bits word h) in
         let d : turned ≡ code (turn w) = turned_is ∙ (ap₂ turned_code (sym l) c ∙ turned-code w s) in
-        scan-lowest (λ a. eqb (code (word_at t.k t.letters a)) asked) (λ a. eqb (code (word_at t.k t.letters a)) turned) (kmers t.k t.ends)
+        scan_lowest (λ a. eqb (code (word_at t.k t.letters a)) asked) (λ a. eqb (code (word_at t.k t.letters a)) turned) (kmers t.k t.ends)
         ∙ ap₂ (λ (p q : ℕ). found_or Asked p (found_or Turned q Absent)) (lowest-code w asked l s c)
         (lowest-code (turn w) turned (length-turn w ∙ l) (letters-turn w s) d)

@@ -7,8 +7,8 @@ use Prim.Native.Nat.{ℕ, zero, suc, ◌+◌, ◌-◌, ◌≤◌}
 use native.Mathlib.Omega.{arith}
 use lib.ListN.{length}
 use Rattle.lists.specs.Every.{same}
-use Rattle.lists.proofs.Every.{same_is, is_same, all-at}
-use Rattle.lists.proofs.First.{first-found-from, first-none}
+use Rattle.lists.proofs.Every.{same_is, is_same, all_at}
+use Rattle.lists.proofs.First.{first_found_from, first_none}
 use Rattle.words.specs.Word.{word_at, turn}
 use Rattle.collection.specs.Collection.{Spelling}
 use Rattle.collection.specs.declared.Side.TheVariants.{Asked, Turned}
@@ -16,13 +16,13 @@ use Rattle.collection.specs.Kmers.{kmers, word_of, Distinct}
 use Rattle.plain.specs.declared.PlainAnswer.{PlainAnswer}
 use Rattle.plain.specs.declared.PlainAnswer.TheVariants.{Found, Absent}
 use Rattle.plain.specs.Plain.{lowest, found_or, plain_found}
-use Rattle.plain.specs.Says.{Stands, Nowhere, Lowest, Says, as-asked, as-turned, absent}
+use Rattle.plain.specs.Says.{Stands, Nowhere, Lowest, Says, as_asked, as_turned, absent}
 
 module _ (t : Spelling) where
-  lowest-found : (w : List ℕ) (h : ℕ) → lowest t w ≡ suc h → Lowest t w (suc h)
+  lowest_found : (w : List ℕ) (h : ℕ) → lowest t w ≡ suc h → Lowest t w (suc h)
   unfolding lowest
-  lowest-found w h e =
-      let f = first-found-from (λ a. same (word_at t.k t.letters a) w) 0 (kmers t.k t.ends) h e in
+  lowest_found w h e =
+      let f = first_found_from (λ a. same (word_at t.k t.letters a) w) 0 (kmers t.k t.ends) h e in
       record {
         here = record { low = omega arith; high = omega (arith, f.high); word = same_is (word_of t (suc h)) w (f.meets 0) };
         none_below = λ other l s. true≢false (sym (is_same s.word) ∙ f.none_before 0 (other - 1) (omega (arith, s.low)));
@@ -33,28 +33,28 @@ module _ (t : Spelling) where
   lowest-none w e handle s =
       true≢false
       (sym (is_same s.word)
-      ∙ all-at (λ a. same (word_at t.k t.letters a) w ≡ mathlib.Core.Bool.false) (kmers t.k t.ends)
-      (first-none (λ a. same (word_at t.k t.letters a) w) (kmers t.k t.ends) e) (handle - 1) 0 (omega (arith, s.low, s.high)))
+      ∙ all_at (λ a. same (word_at t.k t.letters a) w ≡ mathlib.Core.Bool.false) (kmers t.k t.ends)
+      (first_none (λ a. same (word_at t.k t.letters a) w) (kmers t.k t.ends) e) (handle - 1) 0 (omega (arith, s.low, s.high)))
 
   -- PLAIN's answer says what is so
-  pub plain-says : (w : List ℕ) → Says t w (plain_found t w)
+  pub plain_says : (w : List ℕ) → Says t w (plain_found t w)
   unfolding plain_found found_or
-  plain-says w = go (lowest t w) refl (lowest t (turn w)) refl
+  plain_says w = go (lowest t w) refl (lowest t (turn w)) refl
     where
       go : (a : ℕ) → lowest t w ≡ a → (b : ℕ) → lowest t (turn w) ≡ b → Says t w (found_or Asked a (found_or Turned b Absent))
       go zero e zero f = absent (lowest-none w e) (lowest-none (turn w) f)
-      go zero e (suc b) f = as-turned (suc b) (lowest-none w e) (lowest-found (turn w) b f)
-      go (suc a) e b f = as-asked (suc a) (lowest-found w a e)
+      go zero e (suc b) f = as_turned (suc b) (lowest-none w e) (lowest_found (turn w) b f)
+      go (suc a) e b f = as_asked (suc a) (lowest_found w a e)
 
   -- with no repeated words, asking for the word of a handle gives that handle
-  pub plain-own : Distinct t → (handle : ℕ) → 1 ≤ handle → handle ≤ length (kmers t.k t.ends) → plain_found t (word_of t handle) ≡ Found handle Asked
-  plain-own d handle l h = go (plain-says (word_of t handle))
+  pub plain_own : Distinct t → (handle : ℕ) → 1 ≤ handle → handle ≤ length (kmers t.k t.ends) → plain_found t (word_of t handle) ≡ Found handle Asked
+  plain_own d handle l h = go (plain_says (word_of t handle))
     where
       own : Stands t (word_of t handle) handle
       own = record { low = l; high = h; word = refl }
 
       go : {answer : PlainAnswer} → Says t (word_of t handle) answer → answer ≡ Found handle Asked
-      go (as-asked other s) =
+      go (as_asked other s) =
           let w = s.here in
           let p : suc (other - 1) ≡ other = omega (arith, w.low) in
           let q : suc (handle - 1) ≡ handle = omega arith in
@@ -63,5 +63,5 @@ module _ (t : Spelling) where
           let e : other - 1 ≡ handle - 1 =
           d (other - 1) (handle - 1) (omega (arith, w.low, w.high)) (omega arith) (inl (ap (word_of t) a ∙ (w.word ∙ ap (word_of t) (sym b)))) in
           ap (λ (n : ℕ). Found n Asked) (sym a ∙ (ap (λ (n : ℕ). n + 1) e ∙ b))
-      go (as-turned other none s) = absurd (none handle own)
+      go (as_turned other none s) = absurd (none handle own)
       go (absent none none') = absurd (none handle own)

@@ -25,25 +25,25 @@ module _ (is_asked is_turned : ℕ → Bool) where
   -- ─── one k-mer further ─────────────────────────────────────────────────────
 
   module _ (h turned a : ℕ) (rest : List ℕ) where
-    scan-asked : is_asked a ≡ true → scan_from is_asked is_turned h turned (a ∷ rest) ≡ At (suc h)
+    scan_asked : is_asked a ≡ true → scan_from is_asked is_turned h turned (a ∷ rest) ≡ At (suc h)
     unfolding scan_from
-    scan-asked e = rw e
+    scan_asked e = rw e
 
-    scan-other : is_asked a ≡ false
+    scan_other : is_asked a ≡ false
         → scan_from is_asked is_turned h turned (a ∷ rest) ≡ scan_from is_asked is_turned (suc h) (choose (eqb turned 0 && is_turned a) (suc h) turned) rest
     unfolding scan_from
-    scan-other e = rw e
+    scan_other e = rw e
 
-  pub scan-none : (h turned : ℕ) → scan_from is_asked is_turned h turned [] ≡ NotAsked turned
+  pub scan_none : (h turned : ℕ) → scan_from is_asked is_turned h turned [] ≡ NotAsked turned
   unfolding scan_from
-  scan-none h turned = refl
+  scan_none h turned = refl
 
   -- as a loop goes over `number` k-mers from position `at` on, where `passed` have passed before and i of these
   module _ (passed turned at number i : ℕ) (l : i < number) where
     pub string-asked : is_asked (at + i) ≡ true → scan_from is_asked is_turned (passed + i) turned (count_from (at + i) (number - i)) ≡ At (passed + (i + 1))
     string-asked e =
         let q : suc (passed + i) ≡ passed + (i + 1) = omega arith in
-        ap (scan_from is_asked is_turned (passed + i) turned) (count_next at number i l) ∙ (scan-asked (passed + i) turned (at + i) _ e ∙ ap At q)
+        ap (scan_from is_asked is_turned (passed + i) turned) (count_next at number i l) ∙ (scan_asked (passed + i) turned (at + i) _ e ∙ ap At q)
 
     -- another word: the pass goes on, and remembers the first turned one
     pub string-other : is_asked (at + i) ≡ false → (here : Bool) → here ≡ is_turned (at + i) → (turned' : ℕ)
@@ -53,7 +53,7 @@ module _ (is_asked is_turned : ℕ → Bool) where
     string-other e here b turned' t =
         let q : suc (passed + i) ≡ passed + (i + 1) = omega arith in
         ap (scan_from is_asked is_turned (passed + i) turned) (count_next at number i l)
-        ∙ (scan-other (passed + i) turned (at + i) _ e
+        ∙ (scan_other (passed + i) turned (at + i) _ e
         ∙ (ap (λ (n : ℕ). scan_from is_asked is_turned n (choose (eqb turned 0 && is_turned (at + i)) n turned) (count_from (at + (i + 1)) (number - (i + 1)))) q
         ∙ ap (λ (n : ℕ). scan_from is_asked is_turned (passed + (i + 1)) n (count_from (at + (i + 1)) (number - (i + 1))))
         (sym (t ∙ ap (λ (s : Bool). choose (eqb turned 0 && s) (passed + (i + 1)) turned) b))))
@@ -64,34 +64,34 @@ module _ (is_asked is_turned : ℕ → Bool) where
   string-start passed turned at number = ap₂ (λ (n : ℕ) (l : List ℕ). scan_from is_asked is_turned n turned l) (sym (add-zero passed)) (count_start at number)
 
   -- after its last
-  pub string-end : (passed turned at number i : ℕ) → number ≤ i
+  pub string_end : (passed turned at number i : ℕ) → number ≤ i
       → scan_from is_asked is_turned (passed + i) turned (count_from (at + i) (number - i)) ≡ NotAsked turned
-  string-end passed turned at number i l = ap (scan_from is_asked is_turned (passed + i) turned) (count_end at number i l) ∙ scan-none (passed + i) turned
+  string_end passed turned at number i l = ap (scan_from is_asked is_turned (passed + i) turned) (count_end at number i l) ∙ scan_none (passed + i) turned
 
   -- ─── one string after the other ────────────────────────────────────────────
 
   -- what is found in the first k-mers is found
-  pub scan-found : (h turned handle : ℕ) (xs ys : List ℕ) → scan_from is_asked is_turned h turned xs ≡ At handle
+  pub scan_found : (h turned handle : ℕ) (xs ys : List ℕ) → scan_from is_asked is_turned h turned xs ≡ At handle
       → scan_from is_asked is_turned h turned (xs ++ ys) ≡ At handle
-  scan-found h turned handle [] ys e = refuted (cc (scan-none h turned))
-  scan-found h turned handle (x ∷ xs) ys e = go (is_asked x) refl (scan-found (suc h) (choose (eqb turned 0 && is_turned x) (suc h) turned) handle xs ys)
+  scan_found h turned handle [] ys e = refuted (cc (scan_none h turned))
+  scan_found h turned handle (x ∷ xs) ys e = go (is_asked x) refl (scan_found (suc h) (choose (eqb turned 0 && is_turned x) (suc h) turned) handle xs ys)
     where
       go : (t : Bool) → is_asked x ≡ t
           → (scan_from is_asked is_turned (suc h) (choose (eqb turned 0 && is_turned x) (suc h) turned) xs ≡ At handle
           → scan_from is_asked is_turned (suc h) (choose (eqb turned 0 && is_turned x) (suc h) turned) (xs ++ ys) ≡ At handle)
           → scan_from is_asked is_turned h turned ((x ∷ xs) ++ ys) ≡ At handle
-      go true q ih = scan-asked h turned x (xs ++ ys) q ∙ (sym (scan-asked h turned x xs q) ∙ e)
-      go false q ih = scan-other h turned x (xs ++ ys) q ∙ ih (sym (scan-other h turned x xs q) ∙ e)
+      go true q ih = scan_asked h turned x (xs ++ ys) q ∙ (sym (scan_asked h turned x xs q) ∙ e)
+      go false q ih = scan_other h turned x (xs ++ ys) q ∙ ih (sym (scan_other h turned x xs q) ∙ e)
 
   -- what is not found there is looked for in the rest
-  scan-on : (h turned turned' : ℕ) (xs ys : List ℕ) → scan_from is_asked is_turned h turned xs ≡ NotAsked turned'
+  scan_on : (h turned turned' : ℕ) (xs ys : List ℕ) → scan_from is_asked is_turned h turned xs ≡ NotAsked turned'
       → scan_from is_asked is_turned h turned (xs ++ ys) ≡ scan_from is_asked is_turned (h + length xs) turned' ys
-  scan-on h turned turned' [] ys e = ap₂ (λ (n t : ℕ). scan_from is_asked is_turned n t ys) (sym (add-zero h)) (ap place (sym (scan-none h turned) ∙ e))
+  scan_on h turned turned' [] ys e = ap₂ (λ (n t : ℕ). scan_from is_asked is_turned n t ys) (sym (add-zero h)) (ap place (sym (scan_none h turned) ∙ e))
     where
       place : Seen → ℕ
       place (At n) = n
       place (NotAsked n) = n
-  scan-on h turned turned' (x ∷ xs) ys e = go (is_asked x) refl (scan-on (suc h) (choose (eqb turned 0 && is_turned x) (suc h) turned) turned' xs ys)
+  scan_on h turned turned' (x ∷ xs) ys e = go (is_asked x) refl (scan_on (suc h) (choose (eqb turned 0 && is_turned x) (suc h) turned) turned' xs ys)
     where
       count : Seen → ℕ
       count (At n) = 1
@@ -102,16 +102,16 @@ module _ (is_asked is_turned : ℕ → Bool) where
           → scan_from is_asked is_turned (suc h) (choose (eqb turned 0 && is_turned x) (suc h) turned) (xs ++ ys)
           ≡ scan_from is_asked is_turned (suc h + length xs) turned' ys)
           → scan_from is_asked is_turned h turned ((x ∷ xs) ++ ys) ≡ scan_from is_asked is_turned (h + suc (length xs)) turned' ys
-      go true q ih = absurd (let z : ◌≡◌ {A = ℕ} 1 0 = ap count (sym (scan-asked h turned x xs q) ∙ e) in let w : ⊥ = omega arith in w)
+      go true q ih = absurd (let z : ◌≡◌ {A = ℕ} 1 0 = ap count (sym (scan_asked h turned x xs q) ∙ e) in let w : ⊥ = omega arith in w)
       go false q ih =
           let n : suc h + length xs ≡ h + suc (length xs) = omega arith in
-          scan-other h turned x (xs ++ ys) q ∙ (ih (sym (scan-other h turned x xs q) ∙ e) ∙ ap (λ (m : ℕ). scan_from is_asked is_turned m turned' ys) n)
+          scan_other h turned x (xs ++ ys) q ∙ (ih (sym (scan_other h turned x xs q) ∙ e) ∙ ap (λ (m : ℕ). scan_from is_asked is_turned m turned' ys) n)
 
   -- the same after `number` k-mers from position `at` on
-  pub scan-row-on : (h turned turned' at number : ℕ) (ys : List ℕ) → scan_from is_asked is_turned h turned (count_from at number) ≡ NotAsked turned'
+  pub scan_row_on : (h turned turned' at number : ℕ) (ys : List ℕ) → scan_from is_asked is_turned h turned (count_from at number) ≡ NotAsked turned'
       → scan_from is_asked is_turned h turned (count_from at number ++ ys) ≡ scan_from is_asked is_turned (h + number) turned' ys
-  scan-row-on h turned turned' at number ys e =
-      scan-on h turned turned' (count_from at number) ys e ∙ ap (λ (n : ℕ). scan_from is_asked is_turned (h + n) turned' ys) (length_count at number)
+  scan_row_on h turned turned' at number ys e =
+      scan_on h turned turned' (count_from at number) ys e ∙ ap (λ (n : ℕ). scan_from is_asked is_turned (h + n) turned' ys) (length_count at number)
 
   -- ─── what the pass finds ───────────────────────────────────────────────────
 
@@ -123,16 +123,16 @@ module _ (is_asked is_turned : ℕ → Bool) where
   answered (At handle) = Found handle Asked
   answered (NotAsked turned) = found_or Turned turned Absent
 
-  scan-first : (h turned : ℕ) (xs : List ℕ)
+  scan_first : (h turned : ℕ) (xs : List ℕ)
       → answered (scan_from is_asked is_turned h turned xs)
       ≡ found_or Asked (first_from is_asked h xs) (found_or Turned (or_else turned (first_from is_turned h xs)) Absent)
   unfolding scan_from first_from found_or answered or_else
-  scan-first h turned [] = go turned
+  scan_first h turned [] = go turned
     where
       go : (t : ℕ) → found_or Turned t Absent ≡ found_or Turned (choose (eqb t 0) 0 t) Absent
       go zero = refl
       go (suc t) = rw (ne_eqb (suc t) 0 (λ q. omega arith))
-  scan-first h turned (x ∷ xs) = go (is_asked x) (is_turned x) (λ t. scan-first (suc h) t xs)
+  scan_first h turned (x ∷ xs) = go (is_asked x) (is_turned x) (λ t. scan_first (suc h) t xs)
     where
       settle-turned : (b : Bool) (t : ℕ)
           → or_else (choose (eqb t 0 && b) (suc h) t) (first_from is_turned (suc h) xs) ≡ or_else t (choose b (suc h) (first_from is_turned (suc h) xs))
@@ -156,10 +156,10 @@ module _ (is_asked is_turned : ℕ → Bool) where
           ∙ ap (λ (n : ℕ). found_or Asked (first_from is_asked (suc h) xs) (found_or Turned n Absent)) (settle-turned b turned)
 
   -- the whole pass: the lowest handle as asked, else turned
-  pub scan-lowest : (xs : List ℕ)
+  pub scan_lowest : (xs : List ℕ)
       → answered (scan_from is_asked is_turned 0 0 xs) ≡ found_or Asked (first_that is_asked xs) (found_or Turned (first_that is_turned xs) Absent)
   unfolding or_else
-  scan-lowest xs = scan-first 0 0 xs
+  scan_lowest xs = scan_first 0 0 xs
 
 -- what the pass tells, as an answer
 pub answered_at : (is_asked is_turned : ℕ → Bool) (handle : ℕ) → answered is_asked is_turned (At handle) ≡ Found handle Asked

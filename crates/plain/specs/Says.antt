@@ -26,6 +26,6 @@ module _ (t : Spelling) where
 
   -- what each answer to the word w says
   pub data Says (w : List ℕ) : PlainAnswer → Type 0 where
-    as-asked : (handle : ℕ) → Lowest w handle → Says w (Found handle Asked)
-    as-turned : (handle : ℕ) → Nowhere w → Lowest (turn w) handle → Says w (Found handle Turned)
+    as_asked : (handle : ℕ) → Lowest w handle → Says w (Found handle Asked)
+    as_turned : (handle : ℕ) → Nowhere w → Lowest (turn w) handle → Says w (Found handle Turned)
     absent : Nowhere w → Nowhere (turn w) → Says w Absent

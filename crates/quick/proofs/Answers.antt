@@ -17,24 +17,24 @@ use Rattle.quick.specs.Asking.{turned_of, asked_of}
 module _ (k : ℕ) (letters : List ℕ) (index : Index) (q : Question) where
   -- the second walk
   module _ (c : ℕ) where
-    pub turned-hit : (m : Met) (handle compared : ℕ) → m ≡ seek (is_word k letters (spelled k q.turned)) c (walk (row_of index q.other))
+    pub turned_hit : (m : Met) (handle compared : ℕ) → m ≡ seek (is_word k letters (spelled k q.turned)) c (walk (row_of index q.other))
         → m ≡ Hit handle compared
         → Found handle Turned compared ≡ turned_of k letters index q c
     unfolding turned_of met_or
-    turned-hit m handle compared e f = ap (λ (x : Met). met_or Turned x Absent) (sym f ∙ e)
+    turned_hit m handle compared e f = ap (λ (x : Met). met_or Turned x Absent) (sym f ∙ e)
 
-    pub turned-miss : (m : Met) (compared : ℕ) → m ≡ seek (is_word k letters (spelled k q.turned)) c (walk (row_of index q.other)) → m ≡ Miss compared
+    pub turned_miss : (m : Met) (compared : ℕ) → m ≡ seek (is_word k letters (spelled k q.turned)) c (walk (row_of index q.other)) → m ≡ Miss compared
         → Absent compared ≡ turned_of k letters index q c
     unfolding turned_of met_or
-    turned-miss m compared e f = ap (λ (x : Met). met_or Turned x Absent) (sym f ∙ e)
+    turned_miss m compared e f = ap (λ (x : Met). met_or Turned x Absent) (sym f ∙ e)
 
   -- the first
-  pub asked-hit : (m : Met) (handle compared : ℕ) → m ≡ seek (is_word k letters (spelled k q.asked)) 0 (walk (row_of index q.row)) → m ≡ Hit handle compared
+  pub asked_hit : (m : Met) (handle compared : ℕ) → m ≡ seek (is_word k letters (spelled k q.asked)) 0 (walk (row_of index q.row)) → m ≡ Hit handle compared
       → Found handle Asked compared ≡ asked_of k letters index q
   unfolding asked_of met_or
-  asked-hit m handle compared e f = ap (λ (x : Met). met_or Asked x (turned_of k letters index q)) (sym f ∙ e)
+  asked_hit m handle compared e f = ap (λ (x : Met). met_or Asked x (turned_of k letters index q)) (sym f ∙ e)
 
-  pub asked-miss : (m : Met) (compared : ℕ) → m ≡ seek (is_word k letters (spelled k q.asked)) 0 (walk (row_of index q.row)) → m ≡ Miss compared
+  pub asked_miss : (m : Met) (compared : ℕ) → m ≡ seek (is_word k letters (spelled k q.asked)) 0 (walk (row_of index q.row)) → m ≡ Miss compared
       → turned_of k letters index q compared ≡ asked_of k letters index q
   unfolding asked_of met_or
-  asked-miss m compared e f = ap (λ (x : Met). met_or Asked x (turned_of k letters index q)) (sym f ∙ e)
+  asked_miss m compared e f = ap (λ (x : Met). met_or Asked x (turned_of k letters index q)) (sym f ∙ e)

@@ -63,19 +63,19 @@ module _ {k p : ℕ} (word : List ℕ) (fits : p ≤ k) (long : length word ≡ 
   size : length w ≡ k
   size = length-map word letter ∙ long
 
-  size-turned : length (turn w) ≡ k
-  size-turned = length-turn w ∙ size
+  size_turned : length (turn w) ≡ k
+  size_turned = length-turn w ∙ size
 
   -- what the machine finds for a word is its question
-  pub question-is : (asked turned row other : ℕ) → asked ≡ code (map two_bits word) → turned ≡ turned_code k asked → row ≡ least p (k - p) asked
+  pub question_is : (asked turned row other : ℕ) → asked ≡ code (map two_bits word) → turned ≡ turned_code k asked → row ≡ least p (k - p) asked
       → other ≡ least p (k - p) turned
       → question asked turned row other ≡ question_of p w
-  question-is asked turned row other e f g h =
+  question_is asked turned row other e f g h =
       let c : asked ≡ code w = e ∙ ap code (spell_bits word (every-all is_letter word (letters))) in
       let d : turned ≡ code (turn w) = f ∙ (ap₂ turned_code (sym size) c ∙ turned-code w spelt) in
       let r : row ≡ minimizer p w = g ∙ (ap₂ (λ (n x : ℕ). least p (n - p) x) (sym size) c ∙ least-minimizer p w spelt (omega (arith, size, fits))) in
       let o : other ≡ minimizer p (turn w) =
-      h ∙ (ap₂ (λ (n x : ℕ). least p (n - p) x) (sym size-turned) d ∙ least-minimizer p (turn w) (letters-turn w spelt) (omega (arith, size-turned, fits))) in
+      h ∙ (ap₂ (λ (n x : ℕ). least p (n - p) x) (sym size_turned) d ∙ least-minimizer p (turn w) (letters-turn w spelt) (omega (arith, size_turned, fits))) in
       ap₂ (λ (x y : ℕ). question x y row other) c d
       ∙ ap₂ (λ (x y : ℕ). question (code w) (code (turn w)) x y) r o
 
@@ -89,15 +89,15 @@ module _ {k p : ℕ} {word : List ℕ} {N : ℕ} (a : Asking k p word N) where
   many : length asks ≡ k
   many = size word a.sizes.p_fits a.long a.letters
 
-  many-turned : length (turn asks) ≡ k
-  many-turned = size-turned word a.sizes.p_fits a.long a.letters
+  many_turned : length (turn asks) ≡ k
+  many_turned = size_turned word a.sizes.p_fits a.long a.letters
 
   -- both rows are among those of the index
   pub row_below : minimizer p asks < 4 ^ p
   row_below = minimizer_lt p asks good (omega (arith, many, a.sizes.p_fits))
 
-  pub other-below : minimizer p (turn asks) < 4 ^ p
-  other-below = minimizer_lt p (turn asks) (letters-turn asks good) (omega (arith, many-turned, a.sizes.p_fits))
+  pub other_below : minimizer p (turn asks) < 4 ^ p
+  other_below = minimizer_lt p (turn asks) (letters-turn asks good) (omega (arith, many_turned, a.sizes.p_fits))
 
   -- the question can be asked
   pub askable : (letters : List ℕ) → length letters ≡ N → Askable k letters (question_of p asks)
@@ -107,16 +107,16 @@ module _ {k p : ℕ} {word : List ℕ} {N : ℕ} (a : Asking k p word N) where
         k_high = a.sizes.k_high;
         few_letters = omega (arith, n, a.few);
         asked_small = subst (λ (n : ℕ). code asks < 4 ^ n) many (code_lt asks good);
-        turned_small = subst (λ (n : ℕ). code (turn asks) < 4 ^ n) many-turned (code_lt (turn asks) (letters-turn asks good));
+        turned_small = subst (λ (n : ℕ). code (turn asks) < 4 ^ n) many_turned (code_lt (turn asks) (letters-turn asks good));
       }
 
   -- to ask by codes is to ask by words
-  pub asked-quick : (letters : List ℕ) (index : Index) → asked_of k letters index (question_of p asks) ≡ quick_found (minimizer p) k letters index asks
+  pub asked_quick : (letters : List ℕ) (index : Index) → asked_of k letters index (question_of p asks) ≡ quick_found (minimizer p) k letters index asks
   unfolding asked_of turned_of quick_found
-  asked-quick letters index =
+  asked_quick letters index =
       let s : spelled k (code asks) ≡ asks = ap (λ (n : ℕ). spelled n (code asks)) (sym many) ∙ spelled-code asks good in
       let t : spelled k (code (turn asks)) ≡ turn asks =
-      ap (λ (n : ℕ). spelled n (code (turn asks))) (sym many-turned) ∙ spelled-code (turn asks) (letters-turn asks good) in
+      ap (λ (n : ℕ). spelled n (code (turn asks))) (sym many_turned) ∙ spelled-code (turn asks) (letters-turn asks good) in
       ap₂
       (λ (u v : List ℕ).
       met_or Asked (seek (is_word k letters u) 0 (walk (row_of index (minimizer p asks))))
@@ -152,16 +152,16 @@ rows_good d k N t row other l m e =
 
 -- the tests in their order: the tables, the first row, and then the second decides
 module _ (d k N : ℕ) (t : Index) (row other : ℕ) where
-  pub tables-wrong : tables_fit d t ≡ false → Bad 10 0 ≡ rows_verdict d k N t row other
+  pub tables_wrong : tables_fit d t ≡ false → Bad 10 0 ≡ rows_verdict d k N t row other
   unfolding rows_verdict
-  tables-wrong e = sym (ap (λ (b : Bool). choose (b && (row_fits k N t row && row_fits k N t other)) Good (Bad 10 0)) e)
+  tables_wrong e = sym (ap (λ (b : Bool). choose (b && (row_fits k N t row && row_fits k N t other)) Good (Bad 10 0)) e)
 
-  pub row-wrong : tables_fit d t ≡ true → row_fits k N t row ≡ false → Bad 10 0 ≡ rows_verdict d k N t row other
+  pub row_wrong : tables_fit d t ≡ true → row_fits k N t row ≡ false → Bad 10 0 ≡ rows_verdict d k N t row other
   unfolding rows_verdict
-  row-wrong e f = sym (ap₂ (λ (a b : Bool). choose (a && (b && row_fits k N t other)) Good (Bad 10 0)) e f)
+  row_wrong e f = sym (ap₂ (λ (a b : Bool). choose (a && (b && row_fits k N t other)) Good (Bad 10 0)) e f)
 
-  pub other-decides : (b : Bool) → tables_fit d t ≡ true → row_fits k N t row ≡ true → row_fits k N t other ≡ b
+  pub other_decides : (b : Bool) → tables_fit d t ≡ true → row_fits k N t row ≡ true → row_fits k N t other ≡ b
       → choose b Good (Bad 10 0) ≡ rows_verdict d k N t row other
   unfolding rows_verdict
-  other-decides b e f g =
+  other_decides b e f g =
       sym (ap₂ (λ (x y : Bool). choose (x && (y && row_fits k N t other)) Good (Bad 10 0)) e f ∙ ap (λ (x : Bool). choose x Good (Bad 10 0)) g)

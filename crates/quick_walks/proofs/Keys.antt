@@ -12,7 +12,7 @@ use lib.Dec.{ltb}
 use lib.ListN.{length, get_or, take, drop, set, length-map, get_or-append}
 use lib.Seq.{get_or-take, get_or-drop, get_or_at, get_or-set_same, get_or-set_other}
 use Rattle.lists.proofs.Every.{same_is}
-use Rattle.lists.proofs.Mapped.{map-at-below}
+use Rattle.lists.proofs.Mapped.{map_at_below}
 use Rattle.alphabet.specs.Letter.{letter, is_letter, capital}
 use Rattle.alphabet.proofs.Letters.{capital-letter}
 use Rattle.words.specs.Word.{Letters, spell}
@@ -51,9 +51,9 @@ stands_found h letters at n r finds i l e = finds i l (stands_meets h letters (a
 
 module _ (places key letters : List ℕ) where
   -- a pass over positions that looks at one more
-  pub finds-more : (at i : ℕ) (any here : Bool) → Finds places key letters at i any → (Meets places key letters (at + i) → here ≡ true)
+  pub finds_more : (at i : ℕ) (any here : Bool) → Finds places key letters at i any → (Meets places key letters (at + i) → here ≡ true)
       → Finds places key letters at (i + 1) (any || here)
-  finds-more at i any here all one =
+  finds_more at i any here all one =
       below_more (λ j. Meets places key letters (at + j) → (any || here) ≡ true) i (λ j l m. before any (all j l m)) (λ m. behind any (one m))
     where
       before : (s : Bool) → s ≡ true → (s || here) ≡ true
@@ -69,8 +69,8 @@ module _ (places key letters : List ℕ) where
   Nowhere at i = (j : ℕ) → j < i → Meets places key letters (at + j) → ⊥
 
   -- a pass over positions that looks at n more
-  pub nowhere-more : (at i n : ℕ) (r : Bool) → Nowhere at i → Finds places key letters (at + i) n r → r ≡ false → Nowhere at (i + n)
-  nowhere-more at i n r none finds e j l m = go (ltb j i) refl
+  pub nowhere_more : (at i n : ℕ) (r : Bool) → Nowhere at i → Finds places key letters (at + i) n r → r ≡ false → Nowhere at (i + n)
+  nowhere_more at i n r none finds e j l m = go (ltb j i) refl
     where
       go : (b : Bool) → ltb j i ≡ b → ⊥
       go true q = none j (ltb-true j i q) m
@@ -138,4 +138,4 @@ spelled_at (suc k) c i l = ⊎_elim last (λ b. inner b (spelled_at k (c / 4) i 
 -- the letter at place i
 pub capital_at : (k c i : ℕ) → i < k → get_or (map capital (spelled k c)) i 0 ≡ capital (c / 4 ^ (k - 1 - i) % 4)
 capital_at k c i l =
-    map-at-below capital 0 0 (spelled k c) i (subst (λ (m : ℕ). i < m) (sym (length-spelled k c)) l) ∙ ap capital (spelled_at k c i l)
+    map_at_below capital 0 0 (spelled k c) i (subst (λ (m : ℕ). i < m) (sym (length-spelled k c)) l) ∙ ap capital (spelled_at k c i l)

@@ -21,9 +21,9 @@ module _ (t : Index) where
       let q : e - i ≡ suc (e - (i + 1)) = omega arith in
       ap (entries t i) q ∙ ap (λ (n : ℕ). entry t i ∷ entries t n (e - (i + 1))) (sym (add-one i))
 
-  row-end : (i e : ℕ) → e ≤ i → entries t i (e - i) ≡ []
+  row_end : (i e : ℕ) → e ≤ i → entries t i (e - i) ≡ []
   unfolding entries
-  row-end i e l = let q : e - i ≡ 0 = omega arith in ap (entries t i) q
+  row_end i e l = let q : e - i ≡ 0 = omega arith in ap (entries t i) q
 
   -- ─── a row that fits ───────────────────────────────────────────────────────
 
@@ -34,9 +34,9 @@ module _ (t : Index) where
     pub each : every (stretch_fits k N) (entries t b (e - b)) ≡ true
 
   -- the row of a minimizer that fits
-  pub row-good : (k N v : ℕ) → row_fits k N t v ≡ true → Fits k N (start t v) (start t (v + 1))
+  pub row_good : (k N v : ℕ) → row_fits k N t v ≡ true → Fits k N (start t v) (start t (v + 1))
   unfolding row_fits row_of
-  row-good k N v e =
+  row_good k N v e =
       let rest = and_right (leb (start t v) (start t (suc v))) _ e in
       subst (λ (n : ℕ). Fits k N (start t v) (start t n)) (sym (add-one v)) (record {
         order = leb-true (start t v) (start t (suc v)) (and_left (leb (start t v) (start t (suc v))) _ e);
@@ -45,18 +45,18 @@ module _ (t : Index) where
       })
 
   -- a row that starts behind its end or ends behind the tables does not fit
-  pub row-wrong : (k N v : ℕ) → ((start t v ≤ start t (v + 1)) → (start t (v + 1) ≤ length t.firsts) → ⊥) → false ≡ row_fits k N t v
-  row-wrong k N v h = go (row_fits k N t v) refl
+  pub row_wrong : (k N v : ℕ) → ((start t v ≤ start t (v + 1)) → (start t (v + 1) ≤ length t.firsts) → ⊥) → false ≡ row_fits k N t v
+  row_wrong k N v h = go (row_fits k N t v) refl
     where
       go : (b : Bool) → row_fits k N t v ≡ b → false ≡ b
-      go true p = let f = row-good k N v p in absurd (h f.order f.inside)
+      go true p = let f = row_good k N v p in absurd (h f.order f.inside)
       go false p = refl
 
   -- one in its place fits exactly if each of its stretches does
-  pub row-each : (k N v : ℕ) → start t v ≤ start t (v + 1) → start t (v + 1) ≤ length t.firsts
+  pub row_each : (k N v : ℕ) → start t v ≤ start t (v + 1) → start t (v + 1) ≤ length t.firsts
       → row_fits k N t v ≡ every (stretch_fits k N) (entries t (start t v) (start t (v + 1) - start t v))
   unfolding row_fits row_of
-  row-each k N v p q =
+  row_each k N v p q =
       let n : suc v ≡ v + 1 = omega arith in
       let each : ℕ → Bool = λ m. every (stretch_fits k N) (entries t (start t v) (start t m - start t v)) in
       ap (λ (m : ℕ). leb (start t v) (start t m) && (leb (start t m) (length t.firsts) && each m)) n
@@ -64,9 +64,9 @@ module _ (t : Index) where
       ∙ ap (λ (b : Bool). b && each (v + 1)) (le-leb (start t (v + 1)) (length t.firsts) q))
 
   -- the walk of a row
-  pub row-walk : (v : ℕ) → walk (row_of t v) ≡ walk (entries t (start t v) (start t (v + 1) - start t v))
+  pub row_walk : (v : ℕ) → walk (row_of t v) ≡ walk (entries t (start t v) (start t (v + 1) - start t v))
   unfolding row_of
-  row-walk v = let n : suc v ≡ v + 1 = omega arith in ap (λ (m : ℕ). walk (entries t (start t v) (start t m - start t v))) n
+  row_walk v = let n : suc v ≡ v + 1 = omega arith in ap (λ (m : ℕ). walk (entries t (start t v) (start t m - start t v))) n
 
   module _ (k N i e : ℕ) (l : i < e) where
     -- the pass that tests each stretch of a row
@@ -80,29 +80,29 @@ module _ (t : Index) where
         ∙ (ap (λ (b : Bool). good && (b && tail)) (sym h) ∙ and_assoc good here tail))
 
     -- in a row that fits, the next stretch does
-    pub fit-here : every (stretch_fits k N) (entries t i (e - i)) ≡ true → stretch_fits k N (entry t i) ≡ true
+    pub fit_here : every (stretch_fits k N) (entries t i (e - i)) ≡ true → stretch_fits k N (entry t i) ≡ true
     unfolding every
-    fit-here h = and_left (stretch_fits k N (entry t i)) _ (sym (ap (every (stretch_fits k N)) (row_next i e l)) ∙ h)
+    fit_here h = and_left (stretch_fits k N (entry t i)) _ (sym (ap (every (stretch_fits k N)) (row_next i e l)) ∙ h)
 
     -- and so do those behind it
-    pub fit-rest : every (stretch_fits k N) (entries t i (e - i)) ≡ true → every (stretch_fits k N) (entries t (i + 1) (e - (i + 1))) ≡ true
+    pub fit_rest : every (stretch_fits k N) (entries t i (e - i)) ≡ true → every (stretch_fits k N) (entries t (i + 1) (e - (i + 1))) ≡ true
     unfolding every
-    fit-rest h = and_right (stretch_fits k N (entry t i)) _ (sym (ap (every (stretch_fits k N)) (row_next i e l)) ∙ h)
+    fit_rest h = and_right (stretch_fits k N (entry t i)) _ (sym (ap (every (stretch_fits k N)) (row_next i e l)) ∙ h)
 
     -- a row is walked stretch by stretch
-    pub walk-next : walk (entries t i (e - i)) ≡ kmers_of (entry t i) ++ walk (entries t (i + 1) (e - (i + 1)))
+    pub walk_next : walk (entries t i (e - i)) ≡ kmers_of (entry t i) ++ walk (entries t (i + 1) (e - (i + 1)))
     unfolding walk
-    walk-next = ap walk (row_next i e l)
+    walk_next = ap walk (row_next i e l)
 
   -- the pass is over
-  pub fit-end : (k N i e : ℕ) → e ≤ i → (all good : Bool) → all ≡ (good && every (stretch_fits k N) (entries t i (e - i))) → good ≡ all
+  pub fit_end : (k N i e : ℕ) → e ≤ i → (all good : Bool) → all ≡ (good && every (stretch_fits k N) (entries t i (e - i))) → good ≡ all
   unfolding every
-  fit-end k N i e l all good h = sym (h ∙ (ap (λ (ss : List Stretch). good && every (stretch_fits k N) ss) (row-end i e l) ∙ and_true good))
+  fit_end k N i e l all good h = sym (h ∙ (ap (λ (ss : List Stretch). good && every (stretch_fits k N) ss) (row_end i e l) ∙ and_true good))
 
   -- and so is the walk
   pub walk_end : (i e : ℕ) → e ≤ i → walk (entries t i (e - i)) ≡ []
   unfolding walk
-  walk_end i e l = ap walk (row-end i e l)
+  walk_end i e l = ap walk (row_end i e l)
 
 -- what a stretch that fits has
 pub record Room (k N : ℕ) (s : Stretch) : Type 0 where

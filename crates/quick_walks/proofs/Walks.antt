@@ -41,12 +41,12 @@ module _ (test : ℕ → Bool) (c first at number : ℕ) where
       ∙ ap₂ (λ (x y : ℕ). choose (test (at + i)) (Hit (first + i) (c + i + 1)) (seek test x (numbered y rest))) f g)
 
   -- the i-th k-mer meets the test
-  pub left-hit : (i : ℕ) → i < number → test (at + i) ≡ true → left i ≡ Hit (first + i) (c + i + 1)
-  left-hit i l e = left_step i l ∙ ap (λ (t : Bool). choose t (Hit (first + i) (c + i + 1)) (left (i + 1))) e
+  pub left_hit : (i : ℕ) → i < number → test (at + i) ≡ true → left i ≡ Hit (first + i) (c + i + 1)
+  left_hit i l e = left_step i l ∙ ap (λ (t : Bool). choose t (Hit (first + i) (c + i + 1)) (left (i + 1))) e
 
   -- or it does not
-  pub left-on : (i : ℕ) → i < number → test (at + i) ≡ false → left i ≡ left (i + 1)
-  left-on i l e = left_step i l ∙ ap (λ (t : Bool). choose t (Hit (first + i) (c + i + 1)) (left (i + 1))) e
+  pub left_on : (i : ℕ) → i < number → test (at + i) ≡ false → left i ≡ left (i + 1)
+  left_on i l e = left_step i l ∙ ap (λ (t : Bool). choose t (Hit (first + i) (c + i + 1)) (left (i + 1))) e
 
   -- no k-mer is left
   pub left_end : (i : ℕ) → i ≡ number → left i ≡ Miss (c + number)
@@ -55,13 +55,13 @@ module _ (test : ℕ → Bool) (c first at number : ℕ) where
       let l : number ≤ i = omega arith in
       ap (λ (l : List ℕ). seek test (c + i) (numbered (first + i) l)) (count_end at number i l) ∙ ap (λ (n : ℕ). Miss (c + n)) e
 
-  left-to : (i : ℕ) → i ≤ number → ((j : ℕ) → j < number → test (at + j) ≡ false) → left 0 ≡ left i
-  left-to zero l h = refl
-  left-to (suc i) l h = left-to i (omega arith) h ∙ (left-on i (omega arith) (h i (omega arith)) ∙ ap left (let e : i + 1 ≡ suc i = omega arith in e))
+  left_to : (i : ℕ) → i ≤ number → ((j : ℕ) → j < number → test (at + j) ≡ false) → left 0 ≡ left i
+  left_to zero l h = refl
+  left_to (suc i) l h = left_to i (omega arith) h ∙ (left_on i (omega arith) (h i (omega arith)) ∙ ap left (let e : i + 1 ≡ suc i = omega arith in e))
 
   -- none of its k-mers meets the test
   pub left-none : ((j : ℕ) → j < number → test (at + j) ≡ false) → seek test c (kmers_of (stretch first at number)) ≡ Miss (c + number)
-  left-none h = left-start ∙ (left-to number (omega arith) h ∙ left_end number refl)
+  left-none h = left-start ∙ (left_to number (omega arith) h ∙ left_end number refl)
 
 -- ─── one after the other ─────────────────────────────────────────────────────
 

@@ -9,8 +9,8 @@ use native.Mathlib.Omega.{arith}
 use lib.ListN.{length, get_or}
 use Rattle.lists.specs.Regions.{part, Off, Only}
 use Rattle.lists.specs.Limits.{most_letters}
-use Rattle.lists.proofs.Every.{all-at}
-use Rattle.lists.proofs.Regions.{part_at, part_length, among-part, among-trans, among-wider}
+use Rattle.lists.proofs.Every.{all_at}
+use Rattle.lists.proofs.Regions.{part_at, part_length, among_part, among_trans, among_wider}
 use Rattle.words.specs.Word.{word_at}
 use Rattle.collection.specs.Collection.{Spelling}
 use Rattle.collection.specs.Kmers.{kmers}
@@ -21,7 +21,7 @@ use Rattle.repeats_sieving.specs.Kept.{Stands}
 use Rattle.repeats_sieving.specs.Slots.{Left}
 use Rattle.sorting.specs.Layout.{Laid}
 use Rattle.sorting.specs.Promises.{Sorted}
-use Rattle.sorting.proofs.Laws.{sorted_all, sorted-at, sorted-length, sorted-rise, sorted-place}
+use Rattle.sorting.proofs.Laws.{sorted_all, sorted_at, sorted_length, sorted_rise, sorted_place}
 use Rattle.repeats_canonical.specs.Codes.{canonical, held_at, Coded}
 use Rattle.repeats.specs.Order.{id_at, PlaceOf, Ordered}
 
@@ -58,8 +58,8 @@ module _ (k : ℕ) (letters positions : List ℕ) (n m : ℕ) (w u t s v : List 
     -- the sieve went by the same keys
     keys : key ≡ code_at (part 0 n t) (part n n t)
     keys =
-        ap₂ code_at (among-part _ 0 n t s l.rest (inl (omega arith), (inl (omega arith), tt)) (omega (arith, size, l.rest.size)))
-        (among-part _ n n t s l.rest (inl (omega arith), (inl (omega arith), tt)) (omega (arith, size, l.rest.size)))
+        ap₂ code_at (among_part _ 0 n t s l.rest (inl (omega arith), (inl (omega arith), tt)) (omega (arith, size, l.rest.size)))
+        (among_part _ n n t s l.rest (inl (omega arith), (inl (omega arith), tt)) (omega (arith, size, l.rest.size)))
 
     module _ (o : Sorted key (n + n) (n + n + n) m s v) where
       -- an entry before the ids is as the codes left it
@@ -67,8 +67,8 @@ module _ (k : ℕ) (letters positions : List ℕ) (n m : ℕ) (w u t s v : List 
       kept i h = o.rest.rest i 0 (inl h, (inl (omega arith), tt)) ∙ (l.rest.rest i 0 (inl h, (inl (omega arith), tt)) ∙ only.rest i 0 (inl h, tt))
 
       -- the sort's key of a k-mer is the code that the table holds
-      key-held : (x : ℕ) → x < n → key x ≡ held_at n v x
-      key-held x h =
+      key_held : (x : ℕ) → x < n → key x ≡ held_at n v x
+      key_held x h =
           ap₂ (λ (a b : ℕ). a * 2 ^ 32 + b)
           (part_at 0 n s x 0 h ∙ (ap (λ (j : ℕ). get_or s j 0) (zero-add x) ∙ sym (o.rest.rest x 0 (inl (omega arith), (inl (omega arith), tt)))))
           (part_at n n s x 0 h ∙ sym (o.rest.rest (n + x) 0 (inl (omega arith), (inl (omega arith), tt))))
@@ -85,20 +85,20 @@ module _ (k : ℕ) (letters positions : List ℕ) (n m : ℕ) (w u t s v : List 
       inside : (i : ℕ) → i < m → id_at n v i < n
       inside i h =
           subst (λ (x : ℕ). x < n) (part_at (n + n) m v i 0 h)
-          (all-at (λ x. x < n) (part (n + n) m v) (sorted_all key o (λ x. x < n) l.sieved.inside) i 0
-          (omega (arith, sorted-length key o fits)))
+          (all_at (λ x. x < n) (part (n + n) m v) (sorted_all key o (λ x. x < n) l.sieved.inside) i 0
+          (omega (arith, sorted_length key o fits)))
 
       -- what the sieve left has a place in the order
       place : (x : ℕ) → Stands x (part (n + n) m s) → PlaceOf n m v x
       place x p =
           let h : p.0 < m = omega (arith, p.1, part_length (n + n) m s fits) in
-          let q = sorted-place key o fits p.0 h in
+          let q = sorted_place key o fits p.0 h in
           (q.0, q.1, q.2 ∙ (sym (part_at (n + n) m s p.0 0 h) ∙ p.2))
 
       places : (x y : ℕ) → y < x → x < n → held_at n v y ≡ held_at n v x → PlaceOf n m v x × PlaceOf n m v y
       places x y a h e =
           let q = l.sieved.twins x y a h
-          (ap (λ (f : ℕ → ℕ). f y) (sym keys) ∙ (key-held y (omega arith) ∙ (e ∙ (sym (key-held x h) ∙ ap (λ (f : ℕ → ℕ). f x) keys)))) in
+          (ap (λ (f : ℕ → ℕ). f y) (sym keys) ∙ (key_held y (omega arith) ∙ (e ∙ (sym (key_held x h) ∙ ap (λ (f : ℕ → ℕ). f x) keys)))) in
           (place x q.0, place y q.1)
 
       behind : (i : ℕ) → Off ((0, 4 * n) ∷ []) i → 4 * n ≤ i
@@ -113,18 +113,18 @@ module _ (k : ℕ) (letters positions : List ℕ) (n m : ℕ) (w u t s v : List 
             inside = inside;
             order =
                 λ i j h g.
-                let a = key-held (id_at n v i) (inside i (omega arith)) in
-                let b = key-held (id_at n v j) (inside j g) in
-                let d = sorted-at key o fits i j h g in
+                let a = key_held (id_at n v i) (inside i (omega arith)) in
+                let b = key_held (id_at n v j) (inside j g) in
+                let d = sorted_at key o fits i j h g in
                 subst (λ (x : ℕ). x ≤ held_at n v (id_at n v j)) a (subst (λ (y : ℕ). key (id_at n v i) ≤ y) b d);
             rise =
                 λ i j h g e.
-                sorted-rise key o fits l.sieved.rises i j h g
-                (key-held (id_at n v i) (inside i (omega arith)) ∙ (e ∙ sym (key-held (id_at n v j) (inside j g))));
+                sorted_rise key o fits l.sieved.rises i j h g
+                (key_held (id_at n v i) (inside i (omega arith)) ∙ (e ∙ sym (key_held (id_at n v j) (inside j g))));
             place = places;
             rest =
-                among-trans _ w u v (among-wider _ _ w u c.rest (λ i q. let b = behind i q in (inr (omega arith), (inr (omega arith), tt))))
-                (among-trans _ u t v (among-wider _ _ u t only (λ i q. let b = behind i q in (inr (omega arith), tt)))
-                (among-trans _ t s v (among-wider _ _ t s l.rest (λ i q. let b = behind i q in (inr (omega arith), (inr (omega arith), tt))))
-                (among-wider _ _ s v o.rest (λ i q. let b = behind i q in (inr (omega (arith, l.few)), (inr (omega (arith, l.few)), tt))))));
+                among_trans _ w u v (among_wider _ _ w u c.rest (λ i q. let b = behind i q in (inr (omega arith), (inr (omega arith), tt))))
+                (among_trans _ u t v (among_wider _ _ u t only (λ i q. let b = behind i q in (inr (omega arith), tt)))
+                (among_trans _ t s v (among_wider _ _ t s l.rest (λ i q. let b = behind i q in (inr (omega arith), (inr (omega arith), tt))))
+                (among_wider _ _ s v o.rest (λ i q. let b = behind i q in (inr (omega (arith, l.few)), (inr (omega (arith, l.few)), tt))))));
           }

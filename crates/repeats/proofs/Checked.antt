@@ -35,9 +35,9 @@ module _ (c : Collection) where
     pub ready : Ready (spelling_of c)
 
   -- a good verdict tells all of this
-  pub check-started : (room : ℕ) → check_verdict c room ≡ Good → Started room
+  pub check_started : (room : ℕ) → check_verdict c room ≡ Good → Started room
   unfolding check_verdict
-  check-started room e =
+  check_started room e =
       let a = both_good (collection_verdict c) _ e in
       let j = collection_good c a.0 in
       record {
@@ -48,9 +48,9 @@ module _ (c : Collection) where
         ready = judged_ready j;
       }
 
-  check-good : (room : ℕ) → Passes c → 4 * n ≤ room → check_verdict c room ≡ Good
+  check_good : (room : ℕ) → Passes c → 4 * n ≤ room → check_verdict c room ≡ Good
   unfolding check_verdict
-  check-good room p l = then_good _ p (good_room l)
+  check_good room p l = then_good _ p (good_room l)
 
   -- ─── success ───────────────────────────────────────────────────────────────
 
@@ -59,19 +59,19 @@ module _ (c : Collection) where
 
   module _ (work : List ℕ) where
     -- an answer of success says that the collection is accepted
-    pub check-distinct : (m : ℕ) → (check_of c work).answer ≡ Checked m → Accepted c (length work) × (m ≡ n)
+    pub check_distinct : (m : ℕ) → (check_of c work).answer ≡ Checked m → Accepted c (length work) × (m ≡ n)
     unfolding check_of
-    check-distinct m e =
+    check_distinct m e =
         let a = done_by (λ (o : Outcome). o.answer) (check_verdict c (length work)) _ _ (Checked m) (λ number place q. refuted (cc)) e in
         let b = done_by (λ (r : CheckAnswer). r) (at_place 7 (first_repeat (spelling_of c))) Refused (Checked n) (Checked m) (λ number place q. refuted (cc))
         a.2 in
-        let s = check-started (length work) a.0 in
+        let s = check_started (length work) a.0 in
         (record { passes = s.passes; enough = s.enough; distinct = none-distinct (spelling_of c) s.ready (place_good 7 _ b.0) }, same_count b.2)
 
     -- and an accepted collection is answered with success
-    pub distinct-check : Accepted c (length work) → (check_of c work).answer ≡ Checked n
+    pub distinct_check : Accepted c (length work) → (check_of c work).answer ≡ Checked n
     unfolding check_of
-    distinct-check s =
-        let g = check-good (length work) s.passes s.enough in
-        let p = sym (place_none 7 (distinct_none (spelling_of c) (check-started (length work) g).ready s.distinct)) in
+    distinct_check s =
+        let g = check_good (length work) s.passes s.enough in
+        let p = sym (place_none 7 (distinct_none (spelling_of c) (check_started (length work) g).ready s.distinct)) in
         ap (λ (o : Outcome). o.answer) (sym (settled (λ number place. outcome (Refused number place) work) refl g)) ∙ sym (settled Refused refl p)

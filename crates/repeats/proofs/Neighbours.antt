@@ -16,8 +16,8 @@ module _ (key order : ℕ → ℕ) (n m : ℕ) where
   -- ─── as a loop goes over the places ────────────────────────────────────────
 
   -- the first place has no neighbour before it
-  pub least-begin : Least key order n m 1 n
-  least-begin = record { lowest = λ j l. absurd (omega arith); found = inl refl }
+  pub least_begin : Least key order n m 1 n
+  least_begin = record { lowest = λ j l. absurd (omega arith); found = inl refl }
 
   -- behind the last place it is the least of all
   pub least_end : (i r : ℕ) → m ≤ i → Least key order n m i r → Least key order n m m r
@@ -40,8 +40,8 @@ module _ (key order : ℕ → ℕ) (n m : ℕ) where
         }
 
     -- where it does not, the least stays
-    pub least-keep : better ≡ false → Least key order n m (i + 1) r
-    least-keep e =
+    pub least_keep : better ≡ false → Least key order n m (i + 1) r
+    least_keep e =
         record {
           lowest = λ j h e'. ⊎_elim (λ (x : j + 1 < i). s.lowest j x e') (λ (x : i ≤ j + 1). last j (omega arith) e') (lt_or_le (j + 1) i);
           found = s.found;
@@ -68,16 +68,16 @@ module _ (key order : ℕ → ℕ) (n m r : ℕ)
     (s : Least key order n m m r)
   where
     -- what is found has the key of a smaller one
-    pub least-twin : (r ≡ n → ⊥) → Twin key r
-    least-twin h =
+    pub least_twin : (r ≡ n → ⊥) → Twin key r
+    least_twin h =
         ⊎_elim (λ (e : r ≡ n). absurd (h e))
         (λ (f : (j : ℕ) × (j + 1 < m) × (key (order j) ≡ key (order (j + 1))) × (order (j + 1) ≡ r)).
         subst (Twin key) f.3 (order f.0, rise f.0 (f.0 + 1) (omega arith) f.1 f.2, f.2))
         s.found
 
     -- and nothing smaller does
-    pub twin-least : (x : ℕ) → x < n → Twin key x → r ≤ x
-    twin-least x l t = go (place x t.0 t.1 l t.2).1 (place x t.0 t.1 l t.2).0
+    pub twin_least : (x : ℕ) → x < n → Twin key x → r ≤ x
+    twin_least x l t = go (place x t.0 t.1 l t.2).1 (place x t.0 t.1 l t.2).0
       where
         go : ((i : ℕ) × (i < m) × (order i ≡ t.0)) → ((i : ℕ) × (i < m) × (order i ≡ x)) → r ≤ x
         go p q =

@@ -12,22 +12,22 @@ use Rattle.lists.specs.Count.{count_from}
 use Rattle.lists.specs.Every.{All, same}
 use Rattle.lists.proofs.Compare.{lt_or_le, eq_or_ne}
 use Rattle.lists.proofs.Count.{count_at, length_count}
-use Rattle.lists.proofs.Every.{all-at, at_all, is_same, not_same}
-use Rattle.lists.proofs.First.{first-none, none_first}
-use Rattle.lists.proofs.FirstAt.{first-at}
+use Rattle.lists.proofs.Every.{all_at, at_all, is_same, not_same}
+use Rattle.lists.proofs.First.{first_none, none_first}
+use Rattle.lists.proofs.FirstAt.{first_at}
 use Rattle.words.specs.Word.{Letters, turn, word_at}
 use Rattle.collection_faults.specs.Faults.{last_end}
 use Rattle.collection.specs.Collection.{Spelling}
 use Rattle.collection.specs.Kmers.{kmers, word_of, Distinct}
 use Rattle.collection.proofs.Kmers.{kmers_fit}
 use Rattle.collection.specs.Ready.{Ready}
-use Rattle.collection.proofs.Ready.{word-length, word-letters}
+use Rattle.collection.proofs.Ready.{word_length, word_letters}
 use Rattle.repeats.specs.Check.{any_that, alike, repeated, first_repeat}
 use Rattle.repeats_canonical.specs.Codes.{canonical, held_at}
 use Rattle.repeats_sieving.specs.Kept.{Twin}
 use Rattle.repeats.specs.Order.{id_at, Ordered, Least}
 use Rattle.repeats_canonical.proofs.Alike.{Alike, alike-swap, alike-canonical, canonical-alike}
-use Rattle.repeats.proofs.Neighbours.{least-twin, twin-least}
+use Rattle.repeats.proofs.Neighbours.{least_twin, twin_least}
 
 -- ─── tests ───────────────────────────────────────────────────────────────────
 
@@ -70,28 +70,28 @@ module _ (t : Spelling) where
   abbrev pub Again : ℕ → Type 0
   Again x = (y : ℕ) × (y < x) × Alike (word x) (word y)
 
-  word-of : (x : ℕ) → word_of t (1 + x) ≡ word x
-  word-of x = let q : 1 + x - 1 ≡ x = omega arith in ap word q
+  word_of_lem : (x : ℕ) → word_of t (1 + x) ≡ word x
+  word_of_lem x = let q : 1 + x - 1 ≡ x = omega arith in ap word q
 
   earlier : ℕ → ℕ → Bool
   earlier x h = alike (word_of t (1 + x)) (word_of t h)
 
-  again-repeated : (x : ℕ) → Again x → repeated t (1 + x) ≡ true
+  again_repeated : (x : ℕ) → Again x → repeated t (1 + x) ≡ true
   unfolding repeated earlier
-  again-repeated x a =
+  again_repeated x a =
       any_at (earlier x) 0 (count_from 1 (1 + x - 1)) a.0 (omega (arith, length_count 1 (1 + x - 1), a.1))
       (ap (earlier x) (count_at 1 (1 + x - 1) a.0 (omega (arith, a.1)))
-      ∙ (ap₂ alike (word-of x) (word-of a.0) ∙ alike_test (word x) (word a.0) a.2))
+      ∙ (ap₂ alike (word_of_lem x) (word_of_lem a.0) ∙ alike_test (word x) (word a.0) a.2))
 
-  not-again : (x : ℕ) → (Again x → ⊥) → repeated t (1 + x) ≡ false
+  not_again : (x : ℕ) → (Again x → ⊥) → repeated t (1 + x) ≡ false
   unfolding repeated earlier
-  not-again x h =
+  not_again x h =
       none_any (earlier x) 0 (count_from 1 (1 + x - 1))
       (at_all (λ j. earlier x j ≡ false) 0 (count_from 1 (1 + x - 1))
       (λ y l.
       let g : y < 1 + x - 1 = omega (arith, length_count 1 (1 + x - 1)) in
       ap (earlier x) (count_at 1 (1 + x - 1) y g)
-      ∙ (ap₂ alike (word-of x) (word-of y) ∙ unlike_test (word x) (word y) (λ a. h (y, omega arith, a)))))
+      ∙ (ap₂ alike (word_of_lem x) (word_of_lem y) ∙ unlike_test (word x) (word y) (λ a. h (y, omega arith, a)))))
 
   abbrev n : ℕ
   n = length (kmers t.k t.ends)
@@ -99,47 +99,47 @@ module _ (t : Spelling) where
   -- ─── the first repeat ──────────────────────────────────────────────────────
 
   -- the first k-mer that equals an earlier one is the first repeat
-  pub first-again : (x : ℕ) → x < n → Again x → ((y : ℕ) → y < x → Again y → ⊥) → first_repeat t ≡ suc x
+  pub first_again : (x : ℕ) → x < n → Again x → ((y : ℕ) → y < x → Again y → ⊥) → first_repeat t ≡ suc x
   unfolding first_repeat
-  first-again x l a h =
-      first-at (repeated t) 0 (count_from 1 n) x (omega (arith, length_count 1 n)) (ap (repeated t) (count_at 1 n x l) ∙ again-repeated x a)
-      (λ y g. ap (repeated t) (count_at 1 n y (omega arith)) ∙ not-again y (h y g))
+  first_again x l a h =
+      first_at (repeated t) 0 (count_from 1 n) x (omega (arith, length_count 1 n)) (ap (repeated t) (count_at 1 n x l) ∙ again_repeated x a)
+      (λ y g. ap (repeated t) (count_at 1 n y (omega arith)) ∙ not_again y (h y g))
 
   -- where none does, there is no repeat
-  pub none-again : ((x : ℕ) → x < n → Again x → ⊥) → first_repeat t ≡ 0
+  pub none_again : ((x : ℕ) → x < n → Again x → ⊥) → first_repeat t ≡ 0
   unfolding first_repeat
-  none-again h =
+  none_again h =
       none_first (repeated t) (count_from 1 n)
       (at_all (λ j. repeated t j ≡ false) 0 (count_from 1 n)
-      (λ x l. let g : x < n = omega (arith, length_count 1 n) in ap (repeated t) (count_at 1 n x g) ∙ not-again x (h x g)))
+      (λ x l. let g : x < n = omega (arith, length_count 1 n) in ap (repeated t) (count_at 1 n x g) ∙ not_again x (h x g)))
 
   -- and where there is no repeat, none does
-  again-none : first_repeat t ≡ 0 → (x : ℕ) → x < n → Again x → ⊥
+  again_none : first_repeat t ≡ 0 → (x : ℕ) → x < n → Again x → ⊥
   unfolding first_repeat
-  again-none e x l a =
+  again_none e x l a =
       true≢false
-      (sym (ap (repeated t) (count_at 1 n x l) ∙ again-repeated x a)
-      ∙ all-at (λ j. repeated t j ≡ false) (count_from 1 n) (first-none (repeated t) (count_from 1 n) e) x 0 (omega (arith, length_count 1 n)))
+      (sym (ap (repeated t) (count_at 1 n x l) ∙ again_repeated x a)
+      ∙ all_at (λ j. repeated t j ≡ false) (count_from 1 n) (first_none (repeated t) (count_from 1 n) e) x 0 (omega (arith, length_count 1 n)))
 
   module _ (r : Ready t) where
     fits : (x : ℕ) → x < n → get_or (kmers t.k t.ends) x 0 + t.k ≤ length t.letters
-    fits x l = omega (arith, all-at (λ a. a + t.k ≤ last_end 0 t.ends) (kmers t.k t.ends) (kmers_fit t.k 0 0 t.ends r.ends_long.long) x 0 l, r.ends_last)
+    fits x l = omega (arith, all_at (λ a. a + t.k ≤ last_end 0 t.ends) (kmers t.k t.ends) (kmers_fit t.k 0 0 t.ends r.ends_long.long) x 0 l, r.ends_last)
 
     spelt : (x : ℕ) → Letters (word x)
-    spelt x = word-letters r (get_or (kmers t.k t.ends) x 0)
+    spelt x = word_letters r (get_or (kmers t.k t.ends) x 0)
 
     -- equal words, turned or not, are equal canonical codes
-    again-twin : (key : ℕ → ℕ) → ((x : ℕ) → x < n → key x ≡ canonical (word x)) → (x : ℕ) → x < n → Again x → Twin key x
-    again-twin key h x l a =
+    again_twin : (key : ℕ → ℕ) → ((x : ℕ) → x < n → key x ≡ canonical (word x)) → (x : ℕ) → x < n → Again x → Twin key x
+    again_twin key h x l a =
         (a.0, a.1, h a.0 (omega (arith, a.1)) ∙ (sym (alike-canonical (word x) (word a.0) (spelt a.0) a.2) ∙ sym (h x l)))
 
     -- and equal canonical codes are equal words, turned or not
-    twin-again : (key : ℕ → ℕ) → ((x : ℕ) → x < n → key x ≡ canonical (word x)) → (x : ℕ) → x < n → Twin key x → Again x
-    twin-again key h x l twin =
+    twin_again : (key : ℕ → ℕ) → ((x : ℕ) → x < n → key x ≡ canonical (word x)) → (x : ℕ) → x < n → Twin key x → Again x
+    twin_again key h x l twin =
         let g : twin.0 < n = omega (arith, twin.1) in (
           twin.0,
           twin.1,
-          canonical-alike (word x) (word twin.0) (word-length r _ (fits x l) ∙ sym (word-length r _ (fits twin.0 g))) (spelt x) (spelt twin.0)
+          canonical-alike (word x) (word twin.0) (word_length r _ (fits x l) ∙ sym (word_length r _ (fits twin.0 g))) (spelt x) (spelt twin.0)
               (sym (h x l) ∙ (sym twin.2 ∙ h twin.0 g)),
         )
 
@@ -150,21 +150,21 @@ module _ (t : Spelling) where
       held x l = o.held x (omega arith)
 
       lowest : (x : ℕ) → x < n → Again x → least ≤ x
-      lowest x l a = twin-least (held_at m v) (id_at m v) m p least o.order o.rise o.place s x (omega arith) (again-twin (held_at m v) held x l a)
+      lowest x l a = twin_least (held_at m v) (id_at m v) m p least o.order o.rise o.place s x (omega arith) (again_twin (held_at m v) held x l a)
 
       -- none stands behind such a neighbour
-      pub repeat-none : least ≡ m → first_repeat t ≡ 0
-      repeat-none e = none-again (λ x l a. let z : least ≤ x = lowest x l a in omega arith)
+      pub repeat_none : least ≡ m → first_repeat t ≡ 0
+      repeat_none e = none_again (λ x l a. let z : least ≤ x = lowest x l a in omega arith)
 
       -- else it is a k-mer
-      pub repeat-inside : (least ≡ m → ⊥) → least < m
-      repeat-inside h = ⊎_elim (λ (e : least ≡ m). absurd (h e)) (λ f. omega (arith, f.3, o.inside (f.0 + 1) f.1)) s.found
+      pub repeat_inside : (least ≡ m → ⊥) → least < m
+      repeat_inside h = ⊎_elim (λ (e : least ≡ m). absurd (h e)) (λ f. omega (arith, f.3, o.inside (f.0 + 1) f.1)) s.found
 
       -- and its handle is the first repeat
-      pub repeat-found : (least ≡ m → ⊥) → first_repeat t ≡ least + 1
-      repeat-found h =
-          let l : least < n = omega (arith, repeat-inside h) in
-          first-again least l (twin-again (held_at m v) held least l (least-twin (held_at m v) (id_at m v) m p least o.order o.rise o.place s h))
+      pub repeat_found : (least ≡ m → ⊥) → first_repeat t ≡ least + 1
+      repeat_found h =
+          let l : least < n = omega (arith, repeat_inside h) in
+          first_again least l (twin_again (held_at m v) held least l (least_twin (held_at m v) (id_at m v) m p least o.order o.rise o.place s h))
           (λ y g a. let z : least ≤ y = lowest y (omega arith) a in omega arith)
           ∙ (omega arith)
 
@@ -176,8 +176,8 @@ module _ (t : Spelling) where
     -- no repeat means that no two handles have equal words, turned or not
     pub none-distinct : first_repeat t ≡ 0 → Distinct t
     none-distinct e i j l g a =
-        ⊎_elim (λ (h : i < j). absurd (again-none e j g (i, h, alike-swap (word i) (word j) (spelt j) b)))
-        (λ (h : j ≤ i). ⊎_elim (λ (q : i ≡ j). q) (λ (q : i ≡ j → ⊥). absurd (again-none e i l (j, omega arith, b))) (eq_or_ne i j))
+        ⊎_elim (λ (h : i < j). absurd (again_none e j g (i, h, alike-swap (word i) (word j) (spelt j) b)))
+        (λ (h : j ≤ i). ⊎_elim (λ (q : i ≡ j). q) (λ (q : i ≡ j → ⊥). absurd (again_none e i l (j, omega arith, b))) (eq_or_ne i j))
         (lt_or_le i j)
       where
         b : Alike (word i) (word j)
@@ -186,7 +186,7 @@ module _ (t : Spelling) where
     -- and the other way round
     pub distinct_none : Distinct t → first_repeat t ≡ 0
     distinct_none d =
-        none-again
+        none_again
         (λ x l a.
         let z : x ≡ a.0 =
         d x a.0 l (omega (arith, a.1))

@@ -13,24 +13,24 @@ use lib.Seq.{get_or-set_same, get_or-set_other, get_or-append-add}
 use Rattle.lists.specs.Count.{count_from}
 use Rattle.lists.proofs.Compare.{lt_or_le}
 use Rattle.lists.proofs.Count.{count_append, length_count}
-use Rattle.lists.proofs.Regions.{among-refl, among-trans, among-wider}
+use Rattle.lists.proofs.Regions.{among_refl, among_trans, among_wider}
 use Rattle.words.specs.Word.{word_at}
 use Rattle.repeats_canonical.specs.Codes.{canonical, held_at, Coded}
 
 module _ (k : ℕ) (letters : List ℕ) (n : ℕ) where
   -- no k-mer: the table is as it was
   pub coded_none : (p : ℕ) (w : List ℕ) → Coded k letters n p [] w w
-  coded_none p w = record { held = λ j l. absurd (omega arith); rest = among-refl _ w }
+  coded_none p w = record { held = λ j l. absurd (omega arith); rest = among_refl _ w }
 
   -- no k-mer of a string yet
-  pub coded-begin : (at p : ℕ) (w : List ℕ) → Coded k letters n p (count_from at 0) w w
+  pub coded_begin : (at p : ℕ) (w : List ℕ) → Coded k letters n p (count_from at 0) w w
   unfolding count_from
-  coded-begin at p w = coded_none p w
+  coded_begin at p w = coded_none p w
 
   -- the halves of one code are stored
-  pub coded-one : (p a c h l : ℕ) (w : List ℕ) → p < n → n + n ≤ length w → c ≡ canonical (word_at k letters a) → h ≡ c / 4294967296 → l ≡ c % 4294967296
+  pub coded_one : (p a c h l : ℕ) (w : List ℕ) → p < n → n + n ≤ length w → c ≡ canonical (word_at k letters a) → h ≡ c / 4294967296 → l ≡ c % 4294967296
       → Coded k letters n p (a ∷ []) w (set (set w p h) (n + p) l)
-  coded-one p a c h l w b f e x y =
+  coded_one p a c h l w b f e x y =
       record {
         held = λ j g. here j (omega arith);
         rest = record { size = length-set (set w p h) (n + p) l ∙ length-set w p h; rest = λ i d o. off i d o.0 o.1.0 };
@@ -52,14 +52,14 @@ module _ (k : ℕ) (letters : List ℕ) (n : ℕ) where
           ∙ get_or-set_other w p i h d (λ z. ⊎_elim (λ (g : i < p). omega arith) (λ (g : p + 1 ≤ i). omega arith) o)
 
   -- two rows one after the other
-  pub coded-append : (p : ℕ) (xs ys u v w : List ℕ) → p + length xs + length ys ≤ n → Coded k letters n p xs u v → Coded k letters n (p + length xs) ys v w
+  pub coded_append : (p : ℕ) (xs ys u v w : List ℕ) → p + length xs + length ys ≤ n → Coded k letters n p xs u v → Coded k letters n (p + length xs) ys v w
       → Coded k letters n p (xs ++ ys) u w
-  coded-append p xs ys u v w l s t =
+  coded_append p xs ys u v w l s t =
       record {
         held = λ j h. ⊎_elim (λ (g : j < length xs). old j g) (λ (g : length xs ≤ j). new j g (omega (arith, len))) (lt_or_le j (length xs));
         rest =
-            among-trans _ u v w (among-wider _ _ u v s.rest (λ i o. (left i o.0 (omega (arith, len)), (left i o.1.0 (omega (arith, len)), tt))))
-            (among-wider _ _ v w t.rest
+            among_trans _ u v w (among_wider _ _ u v s.rest (λ i o. (left i o.0 (omega (arith, len)), (left i o.1.0 (omega (arith, len)), tt))))
+            (among_wider _ _ v w t.rest
             (λ i o. (right i p (p + length xs) refl o.0, (right i (n + p) (n + (p + length xs)) (omega arith) o.1.0, tt))));
       }
     where
@@ -87,26 +87,26 @@ module _ (k : ℕ) (letters : List ℕ) (n : ℕ) where
           ∙ ap (λ (a : ℕ). canonical (word_at k letters a)) (sym (ap (λ (i : ℕ). get_or (xs ++ ys) i 0) f ∙ get_or-append-add xs ys (j - length xs) 0)))
 
   -- one k-mer more of a string, as a loop's index counts
-  pub coded-next : (at p i c h l : ℕ) (u v : List ℕ) → p + i < n → n + n ≤ length v → c ≡ canonical (word_at k letters (at + i)) → h ≡ c / 4294967296
+  pub coded_next : (at p i c h l : ℕ) (u v : List ℕ) → p + i < n → n + n ≤ length v → c ≡ canonical (word_at k letters (at + i)) → h ≡ c / 4294967296
       → l ≡ c % 4294967296
       → Coded k letters n p (count_from at i) u v → Coded k letters n p (count_from at (i + 1)) u (set (set v (p + i) h) (n + (p + i)) l)
   unfolding count_from
-  coded-next at p i c h l u v g f e x y s =
+  coded_next at p i c h l u v g f e x y s =
       let m : length (count_from at i) ≡ i = length_count at i in
       let w : List ℕ = set (set v (p + i) h) (n + (p + i)) l in
-      let t : Coded k letters n (p + length (count_from at i)) ((at + i) ∷ []) v w = rw m (coded-one (p + i) (at + i) c h l v g f e x y) in
-      rw (count_append at i 1) (coded-append p (count_from at i) ((at + i) ∷ []) u v w (omega arith) s t)
+      let t : Coded k letters n (p + length (count_from at i)) ((at + i) ∷ []) v w = rw m (coded_one (p + i) (at + i) c h l v g f e x y) in
+      rw (count_append at i 1) (coded_append p (count_from at i) ((at + i) ∷ []) u v w (omega arith) s t)
 
 -- ─── two codes by their halves ───────────────────────────────────────────────
 
 module _ (a b c d : ℕ) where
   -- where the lower halves differ, the codes do
-  pub lower-differs : b < 2 ^ 32 → d < 2 ^ 32 → (b ≡ d → ⊥) → false ≡ eqb (a * 2 ^ 32 + b) (c * 2 ^ 32 + d)
-  lower-differs h g e = sym (ne_eqb (a * 2 ^ 32 + b) (c * 2 ^ 32 + d) (λ q. e (omega arith)))
+  pub lower_differs : b < 2 ^ 32 → d < 2 ^ 32 → (b ≡ d → ⊥) → false ≡ eqb (a * 2 ^ 32 + b) (c * 2 ^ 32 + d)
+  lower_differs h g e = sym (ne_eqb (a * 2 ^ 32 + b) (c * 2 ^ 32 + d) (λ q. e (omega arith)))
 
   -- where they are equal, the upper halves decide
-  pub upper-decides : b ≡ d → eqb a c ≡ eqb (a * 2 ^ 32 + b) (c * 2 ^ 32 + d)
-  upper-decides e = go (eqb a c) refl
+  pub upper_decides : b ≡ d → eqb a c ≡ eqb (a * 2 ^ 32 + b) (c * 2 ^ 32 + d)
+  upper_decides e = go (eqb a c) refl
     where
       go : (t : Bool) → eqb a c ≡ t → t ≡ eqb (a * 2 ^ 32 + b) (c * 2 ^ 32 + d)
       go true q = sym (eq-eqb (a * 2 ^ 32 + b) (c * 2 ^ 32 + d) (ap₂ (λ (x y : ℕ). x * 2 ^ 32 + y) (eqb-true a c q) e))

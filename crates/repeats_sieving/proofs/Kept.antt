@@ -14,7 +14,7 @@ use Rattle.lists.specs.Pick.{pick}
 use Rattle.lists.proofs.Compare.{lt_or_le, eq_or_ne}
 use Rattle.lists.proofs.Count.{count_at, length_count, all_count}
 use Rattle.lists.proofs.Pairs.{count_rises}
-use Rattle.lists.proofs.Picks.{pick-nil, pick-here, pick_other, all-pick, length-pick-le}
+use Rattle.lists.proofs.Picks.{pick_nil, pick_here, pick_other, all_pick, length_pick_le}
 use Rattle.repeats_sieving.specs.Kept.{to_two, told_of, kept, Stands, Sieved}
 
 -- ─── up to 2 ─────────────────────────────────────────────────────────────────
@@ -55,40 +55,40 @@ kept_is f xs = refl
 
 module _ (f : ℕ → ℕ) (d : ℕ) where
   -- one element more, of any key
-  pick-longer : (x : ℕ) (xs : List ℕ) → length (pick f d xs) ≤ length (pick f d (x ∷ xs))
-  pick-longer x xs =
-      ⊎_elim (λ (e : f x ≡ d). rw (pick-here f d x xs e) (omega arith)) (λ (n : f x ≡ d → ⊥). rw (pick_other f d x xs n) (omega arith)) (eq_or_ne (f x) d)
+  pick_longer : (x : ℕ) (xs : List ℕ) → length (pick f d xs) ≤ length (pick f d (x ∷ xs))
+  pick_longer x xs =
+      ⊎_elim (λ (e : f x ≡ d). rw (pick_here f d x xs e) (omega arith)) (λ (n : f x ≡ d → ⊥). rw (pick_other f d x xs n) (omega arith)) (eq_or_ne (f x) d)
 
   one_place : (xs : List ℕ) (i : ℕ) → i < length xs → f (get_or xs i 0) ≡ d → 1 ≤ length (pick f d xs)
   one_place [] i l e = absurd (not-suc-le-zero l)
-  one_place (x ∷ xs) zero l e = rw (pick-here f d x xs e) (omega arith)
-  one_place (x ∷ xs) (suc i) l e = omega (arith, one_place xs i (omega arith) e, pick-longer x xs)
+  one_place (x ∷ xs) zero l e = rw (pick_here f d x xs e) (omega arith)
+  one_place (x ∷ xs) (suc i) l e = omega (arith, one_place xs i (omega arith) e, pick_longer x xs)
 
   -- two places of one key are two elements of its group
-  pub two-places : (xs : List ℕ) (i j : ℕ) → i < j → j < length xs → f (get_or xs i 0) ≡ d → f (get_or xs j 0) ≡ d → 2 ≤ length (pick f d xs)
-  two-places [] i j h l e q = absurd (not-suc-le-zero l)
-  two-places (x ∷ xs) i zero h l e q = absurd (not-suc-le-zero h)
-  two-places (x ∷ xs) zero (suc j) h l e q = rw (pick-here f d x xs e) (omega (arith, one_place xs j (omega arith) q))
-  two-places (x ∷ xs) (suc i) (suc j) h l e q = omega (arith, two-places xs i j (omega arith) (omega arith) e q, pick-longer x xs)
+  pub two_places : (xs : List ℕ) (i j : ℕ) → i < j → j < length xs → f (get_or xs i 0) ≡ d → f (get_or xs j 0) ≡ d → 2 ≤ length (pick f d xs)
+  two_places [] i j h l e q = absurd (not-suc-le-zero l)
+  two_places (x ∷ xs) i zero h l e q = absurd (not-suc-le-zero h)
+  two_places (x ∷ xs) zero (suc j) h l e q = rw (pick_here f d x xs e) (omega (arith, one_place xs j (omega arith) q))
+  two_places (x ∷ xs) (suc i) (suc j) h l e q = omega (arith, two_places xs i j (omega arith) (omega arith) e q, pick_longer x xs)
 
-  stands-longer : (y x : ℕ) (xs : List ℕ) → Stands y (pick f d xs) → Stands y (pick f d (x ∷ xs))
-  stands-longer y x xs s =
-      ⊎_elim (λ (e : f x ≡ d). rw (pick-here f d x xs e) (suc s.0, omega (arith, s.1), s.2))
+  stands_longer : (y x : ℕ) (xs : List ℕ) → Stands y (pick f d xs) → Stands y (pick f d (x ∷ xs))
+  stands_longer y x xs s =
+      ⊎_elim (λ (e : f x ≡ d). rw (pick_here f d x xs e) (suc s.0, omega (arith, s.1), s.2))
       (λ (n : f x ≡ d → ⊥). rw (pick_other f d x xs n) s)
       (eq_or_ne (f x) d)
 
   -- an element of the key is picked
-  pub stands-pick : (xs : List ℕ) (i : ℕ) → i < length xs → f (get_or xs i 0) ≡ d → Stands (get_or xs i 0) (pick f d xs)
-  stands-pick [] i l e = absurd (not-suc-le-zero l)
-  stands-pick (x ∷ xs) zero l e = rw (pick-here f d x xs e) (0, omega arith, refl)
-  stands-pick (x ∷ xs) (suc i) l e = stands-longer (get_or xs i 0) x xs (stands-pick xs i (omega arith) e)
+  pub stands_pick : (xs : List ℕ) (i : ℕ) → i < length xs → f (get_or xs i 0) ≡ d → Stands (get_or xs i 0) (pick f d xs)
+  stands_pick [] i l e = absurd (not-suc-le-zero l)
+  stands_pick (x ∷ xs) zero l e = rw (pick_here f d x xs e) (0, omega arith, refl)
+  stands_pick (x ∷ xs) (suc i) l e = stands_longer (get_or xs i 0) x xs (stands_pick xs i (omega arith) e)
 
   -- what is picked stands in its order
-  pub pairs-pick : (R : ℕ → ℕ → Type 0) (xs : List ℕ) → Pairs R xs → Pairs R (pick f d xs)
-  pairs-pick R [] p = rw (pick-nil f d) tt
-  pairs-pick R (x ∷ xs) p =
-      ⊎_elim (λ (e : f x ≡ d). rw (pick-here f d x xs e) (all-pick f (R x) d xs p.0, pairs-pick R xs p.1))
-      (λ (n : f x ≡ d → ⊥). rw (pick_other f d x xs n) (pairs-pick R xs p.1))
+  pub pairs_pick : (R : ℕ → ℕ → Type 0) (xs : List ℕ) → Pairs R xs → Pairs R (pick f d xs)
+  pairs_pick R [] p = rw (pick_nil f d) tt
+  pairs_pick R (x ∷ xs) p =
+      ⊎_elim (λ (e : f x ≡ d). rw (pick_here f d x xs e) (all_pick f (R x) d xs p.0, pairs_pick R xs p.1))
+      (λ (n : f x ≡ d → ⊥). rw (pick_other f d x xs n) (pairs_pick R xs p.1))
       (eq_or_ne (f x) d)
 
 -- ─── what is kept ────────────────────────────────────────────────────────────
@@ -97,21 +97,21 @@ module _ (f : ℕ → ℕ) (xs : List ℕ) where
   -- ids at two places, of one slot, are kept: the first and the second
   pub kept-both : (i j : ℕ) → i < j → j < length xs → f (get_or xs i 0) ≡ f (get_or xs j 0) → Stands (get_or xs i 0) (kept f xs) × Stands (get_or xs j 0) (kept f xs)
   kept-both i j h l e =
-      let t : told_of f xs (f (get_or xs j 0)) ≡ 2 = told_is f xs (f (get_or xs j 0)) ∙ to_two_many _ (two-places f (f (get_or xs j 0)) xs i j h l e refl) in
+      let t : told_of f xs (f (get_or xs j 0)) ≡ 2 = told_is f xs (f (get_or xs j 0)) ∙ to_two_many _ (two_places f (f (get_or xs j 0)) xs i j h l e refl) in
       rw (kept_is f xs) (
-        stands-pick (λ x. told_of f xs (f x)) 2 xs i (omega arith) (ap (told_of f xs) e ∙ t),
-        stands-pick (λ x. told_of f xs (f x)) 2 xs j l t,
+        stands_pick (λ x. told_of f xs (f x)) 2 xs i (omega arith) (ap (told_of f xs) e ∙ t),
+        stands_pick (λ x. told_of f xs (f x)) 2 xs j l t,
       )
 
   -- a sublist in the same order: what holds of each id, and from each to each later one, goes on to hold; there are no more of them
   pub kept-all : (P : ℕ → Type 0) → All P xs → All P (kept f xs)
-  kept-all P h = rw (kept_is f xs) (all-pick (λ x. told_of f xs (f x)) P 2 xs h)
+  kept-all P h = rw (kept_is f xs) (all_pick (λ x. told_of f xs (f x)) P 2 xs h)
 
-  pub kept-pairs : (R : ℕ → ℕ → Type 0) → Pairs R xs → Pairs R (kept f xs)
-  kept-pairs R h = rw (kept_is f xs) (pairs-pick (λ x. told_of f xs (f x)) 2 R xs h)
+  pub kept_pairs : (R : ℕ → ℕ → Type 0) → Pairs R xs → Pairs R (kept f xs)
+  kept_pairs R h = rw (kept_is f xs) (pairs_pick (λ x. told_of f xs (f x)) 2 R xs h)
 
   pub kept-length : length (kept f xs) ≤ length xs
-  kept-length = rw (kept_is f xs) (length-pick-le (λ x. told_of f xs (f x)) 2 xs)
+  kept-length = rw (kept_is f xs) (length_pick_le (λ x. told_of f xs (f x)) 2 xs)
 
 -- ─── sieves one after the other ──────────────────────────────────────────────
 
@@ -132,7 +132,7 @@ pub sieved_kept : {key : ℕ → ℕ} {n : ℕ} {xs : List ℕ} (f : ℕ → ℕ
 sieved_kept {key} {n} {xs} f same s =
     record {
       inside = kept-all f xs (λ x. x < n) s.inside;
-      rises = kept-pairs f xs (λ x y. x < y) s.rises;
+      rises = kept_pairs f xs (λ x y. x < y) s.rises;
       twins = λ x y l h e. both x y l e (s.twins x y l h e).0 (s.twins x y l h e).1;
     }
   where

@@ -12,12 +12,12 @@ use lib.Seq.{get_or-set_same, get_or-set_other, take-length}
 use Rattle.lists.specs.Pick.{pick}
 use Rattle.lists.specs.Regions.{part, Only}
 use Rattle.lists.proofs.Compare.{lt_or_le, eq_or_ne}
-use Rattle.lists.proofs.Picks.{pick-nil, pick-take-here, pick-take-other}
-use Rattle.lists.proofs.Regions.{part-is, part_length, part-set-off, among-refl, only_set, part-grows}
+use Rattle.lists.proofs.Picks.{pick_nil, pick_take_here, pick_take-other}
+use Rattle.lists.proofs.Regions.{part_is, part_length, part-set_off, among_refl, only_set, part_grows}
 use Rattle.repeats_sieving.specs.Kept.{to_two, told_of, kept}
 use Rattle.repeats_sieving.specs.Slots.{two_bits, bit_of, counter_of, Told, Grown, slot_of}
 use Rattle.repeats_sieving.proofs.Kept.{to_two_none, to_two_le, to_two_many, to_two_more, told_is, kept_is}
-use Rattle.repeats_sieving.proofs.TwoBits.{grow-here, grow-above, grow_below}
+use Rattle.repeats_sieving.proofs.TwoBits.{grow_here, grow_above, grow_below}
 
 -- ─── slots ───────────────────────────────────────────────────────────────────
 
@@ -49,8 +49,8 @@ pub grown_more : (v e : ℕ) → two_bits v e < 2 → Grown v e (v + 2 ^ e)
 unfolding to_two
 grown_more v e h =
     record {
-      here = λ l. grow-here v e (omega arith) ∙ small (two_bits v e) h;
-      other = λ g d. ⊎_elim (λ (l : e + 2 ≤ g). ap (λ (q : ℕ). q % 4) (grow-above v e (omega arith) g l)) (λ (l : g + 2 ≤ e). grow_below v e g l) d;
+      here = λ l. grow_here v e (omega arith) ∙ small (two_bits v e) h;
+      other = λ g d. ⊎_elim (λ (l : e + 2 ≤ g). ap (λ (q : ℕ). q % 4) (grow_above v e (omega arith) g l)) (λ (l : g + 2 ≤ e). grow_below v e g l) d;
     }
   where
     small : (q : ℕ) → q < 2 → q + 1 ≡ to_two (q + 1)
@@ -62,7 +62,7 @@ grown_more v e h =
 pub told_none : (f : ℕ → ℕ) (entries : ℕ) (table : List ℕ) → ((i : ℕ) → i < entries → get_or table i 0 ≡ 0) → Told f (16 * entries) [] table
 told_none f entries table h s l =
     ap (λ (v : ℕ). v / 2 ^ bit_of s % 4) (h (s / 16) (omega arith))
-    ∙ (ap (λ (v : ℕ). v % 4) (zero-div (2 ^ bit_of s)) ∙ sym (told_is f [] s ∙ (ap (λ (xs : List ℕ). to_two (length xs)) (pick-nil f s) ∙ to_two_none)))
+    ∙ (ap (λ (v : ℕ). v % 4) (zero-div (2 ^ bit_of s)) ∙ sym (told_is f [] s ∙ (ap (λ (xs : List ℕ). to_two (length xs)) (pick_nil f s) ∙ to_two_none)))
 
 -- one id more, of slot s, whose counter has grown
 module _ (f : ℕ → ℕ) (entries : ℕ) (xs table : List ℕ) (i s r : ℕ) (h : i < length xs) (size : length table ≡ entries) (e : f (get_or xs i 0) ≡ s)
@@ -71,7 +71,7 @@ module _ (f : ℕ → ℕ) (entries : ℕ) (xs table : List ℕ) (i s r : ℕ) (
     own : told_of f (take (i + 1) xs) s ≡ to_two (told_of f (take i xs) s + 1)
     own =
         told_is f (take (i + 1) xs) s
-        ∙ (ap (λ (ys : List ℕ). to_two (length ys)) (pick-take-here f i xs 0 h s e)
+        ∙ (ap (λ (ys : List ℕ). to_two (length ys)) (pick_take_here f i xs 0 h s e)
         ∙ (ap to_two (length-append (pick f s (take i xs)) (get_or xs i 0 ∷ []))
         ∙ (sym (to_two_more (length (pick f s (take i xs)))) ∙ ap (λ (n : ℕ). to_two (n + 1)) (sym (told_is f (take i xs) s)))))
 
@@ -81,7 +81,7 @@ module _ (f : ℕ → ℕ) (entries : ℕ) (xs table : List ℕ) (i s r : ℕ) (
     other : (d : ℕ) → (d ≡ s → ⊥) → told_of f (take (i + 1) xs) d ≡ told_of f (take i xs) d
     other d n =
         told_is f (take (i + 1) xs) d
-        ∙ (ap (λ (ys : List ℕ). to_two (length ys)) (pick-take-other f i xs 0 h d (λ q. n (sym q ∙ e))) ∙ sym (told_is f (take i xs) d))
+        ∙ (ap (λ (ys : List ℕ). to_two (length ys)) (pick_take-other f i xs 0 h d (λ q. n (sym q ∙ e))) ∙ sym (told_is f (take i xs) d))
 
     beside : (d : ℕ) → (d ≡ s → ⊥) → d / 16 ≡ s / 16 → (bit_of s + 2 ≤ bit_of d) ⊎ (bit_of d + 2 ≤ bit_of s)
     beside d n q =
@@ -92,8 +92,8 @@ module _ (f : ℕ → ℕ) (entries : ℕ) (xs table : List ℕ) (i s r : ℕ) (
     entry : get_or (set table (s / 16) r) (s / 16) 0 ≡ r
     entry = get_or-set_same table (s / 16) r 0 (omega arith)
 
-    counter-other : (d : ℕ) → (d ≡ s → ⊥) → counter_of (set table (s / 16) r) d ≡ counter_of table d
-    counter-other d n =
+    counter_other : (d : ℕ) → (d ≡ s → ⊥) → counter_of (set table (s / 16) r) d ≡ counter_of table d
+    counter_other d n =
         ⊎_elim
         (λ (q : d / 16 ≡ s / 16).
         ap (λ (j : ℕ). two_bits (get_or (set table (s / 16) r) j 0) (bit_of d)) q
@@ -106,7 +106,7 @@ module _ (f : ℕ → ℕ) (entries : ℕ) (xs table : List ℕ) (i s r : ℕ) (
         ⊎_elim
         (λ (q : d ≡ s).
         rw q (ap (λ (v : ℕ). two_bits v (bit_of s)) entry ∙ (g.here low ∙ (ap (λ (n : ℕ). to_two (n + 1)) (t s l) ∙ sym own))))
-        (λ (n : d ≡ s → ⊥). counter-other d n ∙ (t d ld ∙ sym (other d n)))
+        (λ (n : d ≡ s → ⊥). counter_other d n ∙ (t d ld ∙ sym (other d n)))
         (eq_or_ne d s)
 
 -- ─── keeping ─────────────────────────────────────────────────────────────────
@@ -125,9 +125,9 @@ module _ (f : ℕ → ℕ) (b m : ℕ) (xs w : List ℕ) where
       record {
         below = omega arith;
         inside = omega arith;
-        front = part-is b 0 w ∙ sym (pick-nil (λ x. told_of f xs (f x)) 2);
+        front = part_is b 0 w ∙ sym (pick_nil (λ x. told_of f xs (f x)) 2);
         behind = λ j l h. refl;
-        rest = among-refl ((b, m) ∷ []) w;
+        rest = among_refl ((b, m) ∷ []) w;
       }
 
   module _ (v : List ℕ) (i o x q : ℕ) (k : Keeping f b m xs w v i o) (h : i < m) (size : length xs ≡ m) (room : b + m ≤ length v)
@@ -139,33 +139,33 @@ module _ (f : ℕ → ℕ) (b m : ℕ) (xs w : List ℕ) where
       test : ℕ → ℕ
       test y = told_of f xs (f y)
 
-      take-it : told_of f xs (f x) ≡ 2 → part b (o + 1) (set v (b + o) x) ≡ pick (λ y. told_of f xs (f y)) 2 (take (i + 1) xs)
-      take-it a =
+      take_it : told_of f xs (f x) ≡ 2 → part b (o + 1) (set v (b + o) x) ≡ pick (λ y. told_of f xs (f y)) 2 (take (i + 1) xs)
+      take_it a =
           ap (λ (n : ℕ). part b n (set v (b + o) x)) (add-one o)
-          ∙ (part-grows v b o x (omega (arith, o_lt))
+          ∙ (part_grows v b o x (omega (arith, o_lt))
           ∙ (ap₂ (λ (l : List ℕ) (y : ℕ). l ++ (y ∷ [])) k.front (sym e)
-          ∙ sym (pick-take-here (λ y. told_of f xs (f y)) i xs 0 (omega arith) 2 (ap (λ (y : ℕ). told_of f xs (f y)) e ∙ a))))
+          ∙ sym (pick_take_here (λ y. told_of f xs (f y)) i xs 0 (omega arith) 2 (ap (λ (y : ℕ). told_of f xs (f y)) e ∙ a))))
 
-      leave-it : (told_of f xs (f x) ≡ 2 → ⊥) → part b o (set v (b + o) x) ≡ pick (λ y. told_of f xs (f y)) 2 (take (i + 1) xs)
-      leave-it a =
-          part-set-off b o v (b + o) x (inr (omega arith))
-          ∙ (k.front ∙ sym (pick-take-other (λ y. told_of f xs (f y)) i xs 0 (omega arith) 2 (λ z. a (ap (λ (y : ℕ). told_of f xs (f y)) (sym e) ∙ z))))
+      leave_it : (told_of f xs (f x) ≡ 2 → ⊥) → part b o (set v (b + o) x) ≡ pick (λ y. told_of f xs (f y)) 2 (take (i + 1) xs)
+      leave_it a =
+          part-set_off b o v (b + o) x (inr (omega arith))
+          ∙ (k.front ∙ sym (pick_take-other (λ y. told_of f xs (f y)) i xs 0 (omega arith) 2 (λ z. a (ap (λ (y : ℕ). told_of f xs (f y)) (sym e) ∙ z))))
 
-      told-low : told_of f xs (f x) ≤ 2
-      told-low = rw (told_is f xs (f x)) (to_two_le (length (pick f (f x) xs)))
+      told_low : told_of f xs (f x) ≤ 2
+      told_low = rw (told_is f xs (f x)) (to_two_le (length (pick f (f x) xs)))
 
-      front-next : part b (o + q) (set v (b + o) x) ≡ pick (λ y. told_of f xs (f y)) 2 (take (i + 1) xs)
-      front-next =
-          ⊎_elim (λ (a : told_of f xs (f x) ≡ 2). let z : q ≡ 1 = omega (arith, told-low) in rw z (take-it a))
-          (λ (a : told_of f xs (f x) ≡ 2 → ⊥). let z : o + q ≡ o = omega (arith, told-low) in rw z (leave-it a))
+      front_next : part b (o + q) (set v (b + o) x) ≡ pick (λ y. told_of f xs (f y)) 2 (take (i + 1) xs)
+      front_next =
+          ⊎_elim (λ (a : told_of f xs (f x) ≡ 2). let z : q ≡ 1 = omega (arith, told_low) in rw z (take_it a))
+          (λ (a : told_of f xs (f x) ≡ 2 → ⊥). let z : o + q ≡ o = omega (arith, told_low) in rw z (leave_it a))
           (eq_or_ne (told_of f xs (f x)) 2)
 
-      pub keeping-next : Keeping f b m xs w (set v (b + o) x) (i + 1) (o + q)
-      keeping-next =
+      pub keeping_next : Keeping f b m xs w (set v (b + o) x) (i + 1) (o + q)
+      keeping_next =
           record {
-            below = omega (arith, told-low, k.below);
+            below = omega (arith, told_low, k.below);
             inside = omega arith;
-            front = front-next;
+            front = front_next;
             behind = λ j l r. get_or-set_other v (b + o) (b + j) x 0 (λ z. let y : ⊥ = omega (arith, k.below) in y) ∙ k.behind j (omega arith) r;
             rest = only_set b m w v k.rest o x o_lt;
           }

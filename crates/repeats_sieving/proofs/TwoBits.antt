@@ -18,12 +18,12 @@ module _ (v e : ℕ) (h : two_bits v e < 3) where
   one_more = add-div_right v (pow_pos e)
 
   -- the counter itself
-  pub grow-here : two_bits (v + 2 ^ e) e ≡ two_bits v e + 1
-  grow-here = ap (λ (q : ℕ). q % 4) one_more ∙ next_mod (v / 2 ^ e) h
+  pub grow_here : two_bits (v + 2 ^ e) e ≡ two_bits v e + 1
+  grow_here = ap (λ (q : ℕ). q % 4) one_more ∙ next_mod (v / 2 ^ e) h
 
   -- what stands above it
-  pub grow-above : (g : ℕ) → e + 2 ≤ g → (v + 2 ^ e) / 2 ^ g ≡ v / 2 ^ g
-  grow-above g l =
+  pub grow_above : (g : ℕ) → e + 2 ≤ g → (v + 2 ^ e) / 2 ^ g ≡ v / 2 ^ g
+  grow_above g l =
       let q : g ≡ e + 2 + (g - (e + 2)) = omega arith in
       let k : ℕ = g - (e + 2) in
       let cut : (n : ℕ) → n / 2 ^ (e + 2 + k) ≡ n / 2 ^ e / 4 / 2 ^ k = λ n. sym (ap (λ (t : ℕ). t / 2 ^ k) (shr-shr n e 2) ∙ shr-shr n (e + 2) k) in
@@ -33,8 +33,8 @@ module _ (v e : ℕ) (h : two_bits v e < 3) where
       ∙ sym (cut v)))
 
   -- a number of 32 bits stays one
-  pub grow-fits : v < 2 ^ 32 → e + 2 ≤ 32 → v + 2 ^ e < 2 ^ 32
-  grow-fits l b = omega (arith, grow-above 32 b)
+  pub grow_fits : v < 2 ^ 32 → e + 2 ≤ 32 → v + 2 ^ e < 2 ^ 32
+  grow_fits l b = omega (arith, grow_above 32 b)
 
 -- what stands below it
 pub grow_below : (v e g : ℕ) → g + 2 ≤ e → two_bits (v + 2 ^ e) g ≡ two_bits v g

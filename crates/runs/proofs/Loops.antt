@@ -8,7 +8,7 @@ use borrow.Author.Tests.{eq-eqb, ne_eqb}
 use lib.ListN.{length, drop, get_or, set, length-set, length-map, drop_of_length-le}
 use lib.Seq.{drop-cons}
 use Rattle.lists.specs.Fill.{put, fill}
-use Rattle.lists.proofs.Storing.{put_next, put-start}
+use Rattle.lists.proofs.Storing.{put_next, put_start}
 use Rattle.runs.specs.Runs.{Run, later_runs, runs}
 
 -- ─── runs ────────────────────────────────────────────────────────────────────
@@ -19,9 +19,9 @@ module _ (w : ℕ) (ws : List ℕ) (i : ℕ) (l : i < length ws) where
   later_same e = rw (drop-cons ws i 0, eq-eqb _ _ e, add-one)
 
   -- weight i is another: a run starts at handle i + 1
-  pub later-new : (get_or ws i 0 ≡ w → ⊥) → later_runs i w (drop i ws) ≡ (get_or ws i 0, i + 1) ∷ later_runs (i + 1) (get_or ws i 0) (drop (i + 1) ws)
+  pub later_new : (get_or ws i 0 ≡ w → ⊥) → later_runs i w (drop i ws) ≡ (get_or ws i 0, i + 1) ∷ later_runs (i + 1) (get_or ws i 0) (drop (i + 1) ws)
   unfolding later_runs
-  later-new e = rw (drop-cons ws i 0, ne_eqb _ _ e, add-one)
+  later_new e = rw (drop-cons ws i 0, ne_eqb _ _ e, add-one)
 
 -- no weight is left
 pub later_end : (w : ℕ) (ws : List ℕ) (i : ℕ) → length ws ≤ i → later_runs i w (drop i ws) ≡ []
@@ -44,7 +44,7 @@ pub column_stored : (column : Run → ℕ) (ws : List ℕ) (table : List ℕ) �
     → put 1 (map column (later_runs 1 (get_or ws 0 0) (drop 1 ws))) (set table 0 (column (get_or ws 0 0, 1))) ≡ fill (map column (runs ws)) table
 column_stored column ws table h l =
     put_next 0 table (map column (later_runs 1 (get_or ws 0 0) (drop 1 ws))) (column (get_or ws 0 0, 1)) l
-    ∙ (put-start (column (get_or ws 0 0, 1) ∷ map column (later_runs 1 (get_or ws 0 0) (drop 1 ws))) table
+    ∙ (put_start (column (get_or ws 0 0, 1) ∷ map column (later_runs 1 (get_or ws 0 0) (drop 1 ws))) table
     ∙ ap (λ (rs : List Run). fill (map column rs) table) (sym (runs_first ws h)))
 
 pub column_none : (column : Run → ℕ) (ws : List ℕ) (table : List ℕ) → length ws ≡ 0 → table ≡ fill (map column (runs ws)) table

@@ -18,7 +18,7 @@ use Rattle.collection_faults.specs.Faults.{is_weight}
 use Rattle.collection.specs.Strings.{Str, strings, letters_in, weights_in, ends_in, joined}
 use Rattle.collection.specs.Tables.{Tables, tables, filled_by, collection_in, Rooms, rooms_of}
 use Rattle.collection.proofs.Judged.{collection_good, good_size}
-use Rattle.collection.proofs.Strings.{Whole, strings-back, strings-joined, strings-whole, each_letters, each_weights, ends-length, tables_pass}
+use Rattle.collection.proofs.Strings.{Whole, strings-back, strings-joined, strings_whole, each_letters, each_weights, ends-length, tables_pass}
 use Rattle.collection.proofs.Verdicts.{both_good, room_good, then_good, settled, good_room, done_by}
 use Rattle.sheet.specs.declared.ReadAnswer.TheVariants as read
 use Rattle.sheet.specs.declared.WriteAnswer.TheVariants as write
@@ -28,7 +28,7 @@ use Rattle.sheet.specs.Text.{sheet_text, write_text}
 use Rattle.sheet.specs.Write.{write_verdict, WriteOutcome, write_outcome, write_of}
 use Rattle.sheet.proofs.Accepted.{Holds, sheet_good, accepted_text, accepted_holds}
 use Rattle.sheet.proofs.Taken.{Within, read_takes, takes_read}
-use Rattle.sheet.proofs.Written.{text-k, text-strings, text-accepted}
+use Rattle.sheet.proofs.Written.{text_k, text_strings, text_accepted}
 
 -- ─── what a filled READ leaves ───────────────────────────────────────────────
 
@@ -46,20 +46,20 @@ module _ (bs : List ℕ) (t : Tables) where
   read_done =
       read_outcome (read.Filled (sheet_k bs) (sheet_n bs) (sheet_m bs) (sheet_weights bs)) (filled_by (sheet_strings bs) t)
 
-  read-good : read_verdict bs (rooms_of t) ≡ Good → read_of bs t ≡ read_done
+  read_good : read_verdict bs (rooms_of t) ≡ Good → read_of bs t ≡ read_done
   unfolding read_of read_done
-  read-good h = sym (settled _ refl h)
+  read_good h = sym (settled _ refl h)
 
-  filled-good : (k a b c : ℕ) → (read_of bs t).answer ≡ read.Filled k a b c → read_verdict bs (rooms_of t) ≡ Good
+  filled_good : (k a b c : ℕ) → (read_of bs t).answer ≡ read.Filled k a b c → read_verdict bs (rooms_of t) ≡ Good
   unfolding read_of
-  filled-good k a b c e = (done_by (λ (o : ReadOutcome). o.answer) _ _ _ (read.Filled k a b c) (λ number place q. refuted (cc)) e).0
+  filled_good k a b c e = (done_by (λ (o : ReadOutcome). o.answer) _ _ _ (read.Filled k a b c) (λ number place q. refuted (cc)) e).0
 
   -- where READ answers `Filled`, it took the sheet, and its tables start with what the sheet means
   pub read_done_lem : (k a b c : ℕ) → (read_of bs t).answer ≡ read.Filled k a b c → ReadDone bs t k a b c
   unfolding read_done
   read_done_lem k a b c e =
-      let h = filled-good k a b c e in
-      let r = read-good h in
+      let h = filled_good k a b c e in
+      let r = read_good h in
       let taken = read_takes bs _ h in
       let q : read.Filled (sheet_k bs) (sheet_n bs) (sheet_m bs) (sheet_weights bs) ≡ read.Filled k a b c = sym (ap (λ (o : ReadOutcome). o.answer) r) ∙ e in
       let qa : sheet_n bs ≡ a = cc in
@@ -98,44 +98,44 @@ write_good c sheet p l = sym (settled _ refl (then_good _ p (good_room l)))
 
 module _ (bs : List ℕ) (t : Tables) (k a b c : ℕ) (e : (read_of bs t).answer ≡ read.Filled k a b c) where
   -- the collection that READ filled in
-  abbrev collection-read : Collection
-  collection-read = collection_in k a b c (read_of bs t).after
+  abbrev collection_read_lem : Collection
+  collection_read_lem = collection_in k a b c (read_of bs t).after
 
   done : ReadDone bs t k a b c
   done = read_done_lem bs t k a b c e
 
   -- it is the sheet's
-  pub read_is : collection-read ≡ joined (sheet_k bs) (sheet_strings bs)
+  pub read_is : collection_read_lem ≡ joined (sheet_k bs) (sheet_strings bs)
   read_is = λ i. collection (done.k_is i) (done.letters_are i) (done.ends_are i) (done.weights_are i)
 
   -- what READ gives passes 2 to 6
-  pub read-passes : Passes collection-read
-  read-passes = ap collection_verdict read_is ∙ accepted_passes bs done.accepted done.within
+  pub read_passes : Passes collection_read_lem
+  read_passes = ap collection_verdict read_is ∙ accepted_passes bs done.accepted done.within
 
   -- WRITE of what READ gives is the same bytes
-  pub write-of-read : (sheet : List ℕ) → length bs ≤ length sheet → write_of collection-read sheet ≡ write_outcome (write.Written (length bs)) (fill bs sheet)
-  write-of-read sheet l =
-      let t : write_text collection-read ≡ bs = ap write_text read_is ∙ accepted_written bs done.accepted in
-      write_good collection-read sheet read-passes (omega (arith, ap length t)) ∙ ap (λ (x : List ℕ). write_outcome (write.Written (length x)) (fill x sheet)) t
+  pub write_of_read : (sheet : List ℕ) → length bs ≤ length sheet → write_of collection_read_lem sheet ≡ write_outcome (write.Written (length bs)) (fill bs sheet)
+  write_of_read sheet l =
+      let t : write_text collection_read_lem ≡ bs = ap write_text read_is ∙ accepted_written bs done.accepted in
+      write_good collection_read_lem sheet read_passes (omega (arith, ap length t)) ∙ ap (λ (x : List ℕ). write_outcome (write.Written (length x)) (fill x sheet)) t
 
 -- ─── what a WRITE leaves ─────────────────────────────────────────────────────
 
 module _ (c : Collection) (sheet : List ℕ) (n : ℕ) (e : (write_of c sheet).answer ≡ write.Written n) where
-  written-good : write_verdict c (length sheet) ≡ Good
+  written_good : write_verdict c (length sheet) ≡ Good
   unfolding write_of
-  written-good = (done_by (λ (o : WriteOutcome). o.answer) _ _ _ (write.Written n) (λ number place q. refuted (cc)) e).0
+  written_good = (done_by (λ (o : WriteOutcome). o.answer) _ _ _ (write.Written n) (λ number place q. refuted (cc)) e).0
 
   -- what was written passes 2 to 6
-  pub written-passes : Passes c
+  pub written_passes : Passes c
   unfolding write_verdict
-  written-passes = (both_good (collection_verdict c) _ written-good).0
+  written_passes = (both_good (collection_verdict c) _ written_good).0
 
   -- the first n bytes are the collection's text
-  pub written-text : take n (write_of c sheet).sheet ≡ write_text c
+  pub written_text : take n (write_of c sheet).sheet ≡ write_text c
   unfolding write_verdict
-  written-text =
+  written_text =
       let t : List ℕ = write_text c in
-      let r = write_good c sheet written-passes (room_good _ _ (both_good (collection_verdict c) _ written-good).1) in
+      let r = write_good c sheet written_passes (room_good _ _ (both_good (collection_verdict c) _ written_good).1) in
       let q : write.Written (length t) ≡ write.Written n = sym (ap (λ (o : WriteOutcome). o.answer) r) ∙ e in
       let l : length t ≡ n = cc in
       ap (λ (o : WriteOutcome). take n o.sheet) r ∙ take_at t _ n l
@@ -157,15 +157,15 @@ unfolding write_text
 text_back c p =
     let j = collection_good c p in
     let ss : List Str = strings c in
-    let w = strings-whole c j.shape j.counted in
+    let w = strings_whole c j.shape j.counted in
     let a = each_letters (λ b. is_letter b ≡ true) c.k 0 c.letters c.ends c.weights j.all_letters in
     let b = each_weights (λ w. is_weight w ≡ true) c.k 0 c.letters c.ends c.weights j.all_weights in
     let h = holds ss w a b in
     let v = passes_k c p in
-    let r = text-strings c.k ss v h in
+    let r = text_strings c.k ss v h in
     record {
-      accepted = text-accepted c.k ss v h;
-      k_is = text-k c.k ss v h;
+      accepted = text_accepted c.k ss v h;
+      k_is = text_k c.k ss v h;
       letters_are = ap letters_in r ∙ ap (λ (x : Collection). x.letters) (strings-joined c j.shape j.counted);
       ends_are = ap (ends_in 0) r ∙ ap (λ (x : Collection). x.ends) (strings-joined c j.shape j.counted);
       weights_are = ap weights_in r ∙ ap (λ (x : Collection). x.weights) (strings-joined c j.shape j.counted);
@@ -188,7 +188,7 @@ pub read_of_write : (c : Collection) (sheet : List ℕ) (n : ℕ) → (write_of 
 unfolding read_done
 read_of_write c sheet n e t letters-fit ends-fit weights-fit =
     let bs : List ℕ = write_text c in
-    let p = written-passes c sheet n e in
+    let p = written_passes c sheet n e in
     let back = text_back c p in
     let s = (collection_good c p).shape in
     let N : sheet_n bs ≡ length c.letters = ap length back.letters_are in
@@ -204,8 +204,8 @@ read_of_write c sheet n e t letters-fit ends-fit weights-fit =
       weights_room = omega arith;
     } in
     let g : read_verdict bs (rooms_of t) ≡ Good = takes_read bs _ back.accepted within in
-    ap (λ (x : List ℕ). read_of x t) (written-text c sheet n e)
-    ∙ (read-good bs t g
+    ap (λ (x : List ℕ). read_of x t) (written_text c sheet n e)
+    ∙ (read_good bs t g
     ∙ (λ i.
     read_outcome (read.Filled (back.k_is i) (N i) (m i) (w i))
     (tables (fill (back.letters_are i) t.letters) (fill (back.ends_are i) t.ends) (fill (back.weights_are i) t.weights))))

@@ -40,7 +40,7 @@ use Rattle.sheet.specs.Sheet.{
 use Rattle.sheet.specs.Text.{weights_text, string_text, lines_text, sheet_text}
 use Rattle.text.proofs.Tests.{both, every_more, every_append, digit_range, unequal}
 use Rattle.sheet.proofs.Accepted.{Holds}
-use Rattle.text.proofs.Parts.{Free, up-last, later_last, up_first, later_first}
+use Rattle.text.proofs.Parts.{Free, up_last, later_last, up_first, later_first}
 use Rattle.text.proofs.Numbers.{value-digits, number_digits, all_digits}
 use Rattle.text.proofs.Digits.{digits_short}
 
@@ -82,7 +82,7 @@ weights_free (w ∷ ws) =
 -- letters or digits before the weights end where the weights begin
 field_first : (f ws : List ℕ) → Free tab f → up_to tab (f ++ weights_text ws) ≡ f
 unfolding weights_text
-field_first f [] h = ap (up_to tab) (append-nil f) ∙ up-last tab f h
+field_first f [] h = ap (up_to tab) (append-nil f) ∙ up_last tab f h
 field_first f (w ∷ ws) h = up_first tab f _ h
 
 field-later : (f ws : List ℕ) → Free tab f → later tab (f ++ weights_text ws) ≡ map digits ws
@@ -175,49 +175,49 @@ module _ (k : ℕ) (ss : List Str) (range : k_verdict k ≡ Good) (each : All (H
   abbrev head_text : List ℕ
   head_text = 75 ∷ (tab ∷ digits k)
 
-  head-free : Free feed head_text
-  head-free = free_next feed 75 _ (λ e. omega arith) (free_next feed tab _ (λ e. omega arith) (free_digits feed k (omega arith)))
+  head_free : Free feed head_text
+  head_free = free_next feed 75 _ (λ e. omega arith) (free_next feed tab _ (λ e. omega arith) (free_digits feed k (omega arith)))
 
-  first-line : up_to feed (sheet_text k ss) ≡ head_text
+  first_line : up_to feed (sheet_text k ss) ≡ head_text
   unfolding sheet_text
-  first-line = up_first feed (75 ∷ (tab ∷ digits k)) _ head-free
+  first_line = up_first feed (75 ∷ (tab ∷ digits k)) _ head_free
 
   later-lines : later feed (sheet_text k ss) ≡ texts ss
   unfolding sheet_text
-  later-lines = later_first feed (75 ∷ (tab ∷ digits k)) _ head-free ∙ lines_parts k ss each
+  later-lines = later_first feed (75 ∷ (tab ∷ digits k)) _ head_free ∙ lines_parts k ss each
 
   k_fields : later tab head_text ≡ digits k ∷ []
   k_fields =
       let f = free_digits tab k (omega arith) in
-      let a = up-last tab (digits k) f in
+      let a = up_last tab (digits k) f in
       let b = later_last tab (digits k) f in
       later_first tab (75 ∷ []) _ (mark_free 75 (λ e. omega arith)) ∙ (λ i. a i ∷ b i)
 
   -- the sheet of k and strings has this k
-  pub text-k : sheet_k (sheet_text k ss) ≡ k
-  text-k = ap (λ (l : List ℕ). k_of (later tab l)) first-line ∙ (ap k_of k_fields ∙ value-digits k)
+  pub text_k : sheet_k (sheet_text k ss) ≡ k
+  text_k = ap (λ (l : List ℕ). k_of (later tab l)) first_line ∙ (ap k_of k_fields ∙ value-digits k)
 
   -- and these strings
-  pub text-strings : sheet_strings (sheet_text k ss) ≡ ss
-  text-strings = ap strings_of later-lines ∙ same-strings k ss each
+  pub text_strings : sheet_strings (sheet_text k ss) ≡ ss
+  text_strings = ap strings_of later-lines ∙ same-strings k ss each
 
-  k-form : is_k_line head_text ≡ true
+  k_form : is_k_line head_text ≡ true
   unfolding is_k_line
-  k-form =
+  k_form =
       let l = k_good k range in
       and_both (ap (is_mark 75) (up_first tab (75 ∷ []) (digits k) (mark_free 75 (λ e. omega arith))))
       (ap is_k k_fields ∙ and_both (number_digits k) (le-leb _ 2 (digits_short 1 k (omega arith))))
 
-  head-good : is_head (up_to feed (sheet_text k ss)) (later feed (sheet_text k ss)) ≡ true
-  head-good = (λ i. is_head (first-line i) (later-lines i)) ∙ shown ss where
+  head_good : is_head (up_to feed (sheet_text k ss)) (later feed (sheet_text k ss)) ≡ true
+  head_good = (λ i. is_head (first_line i) (later-lines i)) ∙ shown ss where
     shown : (ss : List Str) → is_head head_text (texts ss) ≡ true
-    shown [] = k-form
-    shown (s ∷ ss) = k-form
+    shown [] = k_form
+    shown (s ∷ ss) = k_form
 
   -- and it is accepted
-  pub text-accepted : Accepted (sheet_text k ss)
+  pub text_accepted : Accepted (sheet_text k ss)
   unfolding sheet_verdict and_then at_place
-  text-accepted =
+  text_accepted =
       let a : first_wrong (sheet_k (sheet_text k ss)) 2 (later feed (sheet_text k ss)) ≡ 0 =
-      (λ i. first_wrong (text-k i) 2 (later-lines i)) ∙ none_wrong k 2 ss each in
-      rw (head-good, a, text-k, range)
+      (λ i. first_wrong (text_k i) 2 (later-lines i)) ∙ none_wrong k 2 ss each in
+      rw (head_good, a, text_k, range)

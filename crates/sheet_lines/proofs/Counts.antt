@@ -18,7 +18,7 @@ use Rattle.sheet.specs.Sheet.{is_string_line, string_of, strings_of, first_wrong
 use Rattle.sheet_lines.specs.Cursor.{line_of, line_at, lines_at, count_of}
 use Rattle.sheet_lines.specs.declared.Line.TheVariants as line
 use Rattle.sheet_lines.specs.declared.Counted.TheVariants as counted
-use Rattle.text.proofs.Parts.{parts, past-sep, up-short, later-short, some-part}
+use Rattle.text.proofs.Parts.{parts, past_sep, up_short, later_short, some-part}
 
 -- ─── a string is no longer than its line ─────────────────────────────────────
 
@@ -27,7 +27,7 @@ unfolding later
 first_short_lem sep [] = omega arith
 first_short_lem sep (b ∷ r) = go (eqb b sep) (first_short_lem sep r) where
   go : (t : Bool) → length (string_of (later sep r)).letters ≤ length r → length (string_of (choose t (parts sep r) (later sep r))).letters ≤ suc (length r)
-  go true h = omega (arith, up-short sep r)
+  go true h = omega (arith, up_short sep r)
   go false h = omega (arith, h)
 
 weights_short : (fs : List (List ℕ)) → length (string_of fs).weights ≤ length fs
@@ -97,10 +97,10 @@ wrong_line k n m w i l (x ∷ ms) h o = go (is_string_line k l) refl h where
 
 module _ (k : ℕ) (ls : List (List ℕ)) where
   -- no line is wrong, and this is what they hold
-  pub counts-good : {a b c : ℕ} → count_of k 0 0 0 ls ≡ counted.Good a b c
+  pub counts_good : {a b c : ℕ} → count_of k 0 0 0 ls ≡ counted.Good a b c
       → (first_wrong k 2 ls ≡ 0) × (a ≡ length (letters_in (strings_of ls))) × (b ≡ length (strings_of ls)) × (c ≡ length (weights_in (strings_of ls)))
   unfolding count_of
-  counts-good {a} {b} {c} h = go (eqb (first_wrong k 2 ls) 0) refl h where
+  counts_good {a} {b} {c} h = go (eqb (first_wrong k 2 ls) 0) refl h where
     go : (t : Bool) → eqb (first_wrong k 2 ls) 0 ≡ t
         → choose t (counted.Good (0 + length (letters_in (strings_of ls))) (0 + length (strings_of ls)) (0 + length (weights_in (strings_of ls))))
         (counted.Wrong (first_wrong k 2 ls)) ≡ counted.Good a b c
@@ -113,9 +113,9 @@ module _ (k : ℕ) (ls : List (List ℕ)) where
     go false q r = refuted (cc)
 
   -- line x is the first wrong one
-  pub counts-wrong : {x : ℕ} → count_of k 0 0 0 ls ≡ counted.Wrong x → (first_wrong k 2 ls ≡ x) × (x ≡ 0 → ⊥)
+  pub counts_wrong : {x : ℕ} → count_of k 0 0 0 ls ≡ counted.Wrong x → (first_wrong k 2 ls ≡ x) × (x ≡ 0 → ⊥)
   unfolding count_of
-  counts-wrong {x} h = go (eqb (first_wrong k 2 ls) 0) refl h where
+  counts_wrong {x} h = go (eqb (first_wrong k 2 ls) 0) refl h where
     go : (t : Bool) → eqb (first_wrong k 2 ls) 0 ≡ t
         → choose t (counted.Good (0 + length (letters_in (strings_of ls))) (0 + length (strings_of ls)) (0 + length (weights_in (strings_of ls))))
         (counted.Wrong (first_wrong k 2 ls)) ≡ counted.Wrong x
@@ -145,7 +145,7 @@ module _ {k : ℕ} {s : List ℕ} {at n m w i : ℕ} (g : Counting k s at n m w 
       let r : List ℕ = drop i s in
       let l : List ℕ = up_to feed r in
       let f = found k i l (later feed r) next a b h in
-      let p = past-sep feed r f.m f.rest f.more in
+      let p = past_sep feed r f.m f.rest f.more in
       let o : next ≡ i + suc (length l) = omega (arith, f.next_is) in
       let d : drop next s ≡ drop (suc (length l)) r = ap (λ (x : ℕ). drop x s) o ∙ sym (drop-drop (suc (length l)) i s) in
       let q : lines_at s next ≡ f.m ∷ f.rest = ap (parts feed) d ∙ (p.0 ∙ f.more) in (
@@ -153,7 +153,7 @@ module _ {k : ℕ} {s : List ℕ} {at n m w i : ℕ} (g : Counting k s at n m w 
           inside = omega (arith, p.1, length-drop i s, g.inside);
           letters = omega (arith, first_short_lem tab l, f.letters, g.letters);
           strings = omega (arith, g.strings);
-          weights = omega (arith, weights_short (later tab l), later-short tab l, f.weights, g.weights);
+          weights = omega (arith, weights_short (later tab l), later_short tab l, f.weights, g.weights);
           counts =
               g.counts
               ∙ (ap (λ (y : List (List ℕ)). count_of k n m w (l ∷ y)) f.more
@@ -163,8 +163,8 @@ module _ {k : ℕ} {s : List ℕ} {at n m w i : ℕ} (g : Counting k s at n m w 
       )
 
   -- a wrong line
-  pub count-wrong : i < length s → line_at k s i ≡ line.Wrong → counted.Wrong (m + 2) ≡ count_of k 0 0 0 (lines_at s at)
-  count-wrong l h =
+  pub count_wrong : i < length s → line_at k s i ≡ line.Wrong → counted.Wrong (m + 2) ≡ count_of k 0 0 0 (lines_at s at)
+  count_wrong l h =
       sym (g.counts ∙ wrong_line k n m w i (up_to feed (drop i s)) (later feed (drop i s)) h (some-part feed (drop i s) (omega (arith, length-drop i s))))
 
   -- no line is left

@@ -22,7 +22,7 @@ use Rattle.sheet_lines.specs.Cursor.{weight_at, head_of, head_in, head_end}
 use Rattle.text.specs.declared.Number.TheVariants as number
 use Rattle.sheet_lines.specs.declared.Head.TheVariants as head
 use Rattle.text.proofs.Tests.{both, every_more, digit_range}
-use Rattle.text.proofs.Parts.{joined, Free, up-last, later_last, up_first, later_first, join_parts, up-short, up-take, take-up}
+use Rattle.text.proofs.Parts.{joined, Free, up_last, later_last, up_first, later_first, join_parts, up_short, up_take, take_up}
 use Rattle.text.proofs.Numbers.{number_all}
 use Rattle.sheet.proofs.Accepted.{mark_is}
 use Rattle.sheet.proofs.Written.{clear_digit, mark_free, free_next}
@@ -43,21 +43,21 @@ module _ (f rest : List ℕ) (h : is_number f ≡ true) (l : length f ≤ 2) whe
   fields : later tab (75 ∷ (tab ∷ f)) ≡ f ∷ []
   fields =
       let g = number_free tab f (omega arith) h in
-      let a = up-last tab f g in
+      let a = up_last tab f g in
       let b = later_last tab f g in
       later_first tab (75 ∷ []) f (mark_free 75 (λ e. omega arith)) ∙ (λ i. a i ∷ b i)
 
-  good-line : is_k_line (75 ∷ (tab ∷ f)) ≡ true
+  good_line : is_k_line (75 ∷ (tab ∷ f)) ≡ true
   unfolding is_k_line
-  good-line = and_both (ap (is_mark 75) (up_first tab (75 ∷ []) f (mark_free 75 (λ e. omega arith)))) (ap is_k fields ∙ and_both h (le-leb (length f) 2 l))
+  good_line = and_both (ap (is_mark 75) (up_first tab (75 ∷ []) f (mark_free 75 (λ e. omega arith)))) (ap is_k fields ∙ and_both h (le-leb (length f) 2 l))
 
-  head-yes : head_in ((75 ∷ (tab ∷ f)) ++ (feed ∷ rest)) ≡ head.Good (value f) (length f + 2 + 1)
+  head_yes : head_in ((75 ∷ (tab ∷ f)) ++ (feed ∷ rest)) ≡ head.Good (value f) (length f + 2 + 1)
   unfolding head_of
-  head-yes =
+  head_yes =
       let a = up_first feed (75 ∷ (tab ∷ f)) rest line_free in
       let b = later_first feed (75 ∷ (tab ∷ f)) rest line_free in
       let n : suc (suc (length f)) + 1 ≡ length f + 2 + 1 = omega arith in
-      (λ i. head_of (a i) (b i)) ∙ (ap (λ (t : Bool). choose t (head.Good (k_of (later tab (75 ∷ (tab ∷ f)))) (suc (suc (length f)) + 1)) head.Wrong) good-line
+      (λ i. head_of (a i) (b i)) ∙ (ap (λ (t : Bool). choose t (head.Good (k_of (later tab (75 ∷ (tab ∷ f)))) (suc (suc (length f)) + 1)) head.Wrong) good_line
       ∙ (λ i. head.Good (k_of (fields i)) (n i)))
 
 -- ─── what a good line 1 looks like ───────────────────────────────────────────
@@ -113,14 +113,14 @@ module _ (s : List ℕ) where
   size t = omega (arith, ap length t.same, length-append (75 ∷ (tab ∷ t.f)) (feed ∷ t.rest))
 
   -- no `K`, no tab
-  pub not-k : byte_is s 0 75 ≡ false → head_in s ≡ head.Wrong
-  not-k h = head_no s (λ t. clash (byte_is_lem s 0 75 (omega (arith, size t)) (ap (λ (x : List ℕ). get_or x 0 0) t.same)) h)
+  pub not_k : byte_is s 0 75 ≡ false → head_in s ≡ head.Wrong
+  not_k h = head_no s (λ t. clash (byte_is_lem s 0 75 (omega (arith, size t)) (ap (λ (x : List ℕ). get_or x 0 0) t.same)) h)
 
-  pub not-tab : byte_is s 1 tab ≡ false → head_in s ≡ head.Wrong
-  not-tab h = head_no s (λ t. clash (byte_is_lem s 1 tab (omega (arith, size t)) (ap (λ (x : List ℕ). get_or x 1 0) t.same)) h)
+  pub not_tab : byte_is s 1 tab ≡ false → head_in s ≡ head.Wrong
+  not_tab h = head_no s (λ t. clash (byte_is_lem s 1 tab (omega (arith, size t)) (ap (λ (x : List ℕ). get_or x 1 0) t.same)) h)
 
-  feed-there : (t : Text s) (i : ℕ) → i ≡ length t.f + 2 → byte_is s i feed ≡ true
-  feed-there t i e =
+  feed_there : (t : Text s) (i : ℕ) → i ≡ length t.f + 2 → byte_is s i feed ≡ true
+  feed_there t i e =
       let n : length (75 ∷ (tab ∷ t.f)) ≡ i = omega arith in
       byte_is_lem s i feed (omega (arith, size t)) (ap (λ (x : List ℕ). get_or x i 0) t.same ∙ get_or_at (75 ∷ (tab ∷ t.f)) feed t.rest 0 i n)
 
@@ -132,13 +132,13 @@ module _ (s : List ℕ) where
         drop-cons s 0 0 a.0 ∙ ((λ i. a.1 i ∷ drop 1 s) ∙ ap (λ (x : List ℕ). 75 ∷ x) (drop-cons s 1 0 b.0 ∙ (λ i. b.1 i ∷ drop 2 s)))
 
     -- the line feed stands behind the field f
-    found-head : (f : List ℕ) (i : ℕ) → is_number f ≡ true → length f ≤ 2 → drop 2 s ≡ f ++ drop i s → i ≡ length f + 2 → byte_is s i feed ≡ true
+    found_head : (f : List ℕ) (i : ℕ) → is_number f ≡ true → length f ≤ 2 → drop 2 s ≡ f ++ drop i s → i ≡ length f + 2 → byte_is s i feed ≡ true
         → head_in s ≡ head.Good (value f) (i + 1)
-    found-head f i h l e n w =
+    found_head f i h l e n w =
         let b = byte_here s i feed w in
         let d : drop i s ≡ feed ∷ drop (suc i) s = drop-cons s i 0 b.0 ∙ (λ x. b.1 x ∷ drop (suc i) s) in
         let t : s ≡ (75 ∷ (tab ∷ f)) ++ (feed ∷ drop (suc i) s) = begins ∙ ap (λ (x : List ℕ). 75 ∷ (tab ∷ x)) (e ∙ ap (λ (x : List ℕ). f ++ x) d) in
-        ap head_in t ∙ (head-yes f (drop (suc i) s) h l ∙ ap (λ (x : ℕ). head.Good (value f) (x + 1)) (sym n))
+        ap head_in t ∙ (head_yes f (drop (suc i) s) h l ∙ ap (λ (x : ℕ). head.Good (value f) (x + 1)) (sym n))
 
 -- a number that begins with 0 is 0
 zero_led : (f rest : List ℕ) → is_number f ≡ true → get_or (f ++ (feed ∷ rest)) 0 0 ≡ 48 → length f ≡ 1
@@ -195,7 +195,7 @@ unfolding field
 front_cut s next e =
     let x : List ℕ = drop 2 s in
     let n : ℕ = length (up_to tab (up_to feed x)) in
-    let a : up_to tab (up_to feed x) ≡ take n x = up-take tab (up_to feed x) ∙ take-up feed x n (up-short tab (up_to feed x)) in
+    let a : up_to tab (up_to feed x) ≡ take n x = up_take tab (up_to feed x) ∙ take_up feed x n (up_short tab (up_to feed x)) in
     let d : drop n x ≡ drop next s = drop-drop n 2 s ∙ ap (λ (y : ℕ). drop y s) (sym e) in
     sym (take-append-drop n x) ∙ (λ i. sym a i ++ d i)
 
@@ -204,40 +204,40 @@ module _ (s : List ℕ) (k-here : byte_is s 0 75 ≡ true) (tab-here : byte_is s
   third t = ap (λ (x : List ℕ). get_or x 2 0) t.same
 
   -- a lone 0, or no number
-  pub zero-head : byte_is s 2 48 ≡ true → head_end s 0 3 ≡ head_in s
-  zero-head h = go (byte_is s 3 feed) refl where
+  pub zero_head : byte_is s 2 48 ≡ true → head_end s 0 3 ≡ head_in s
+  zero_head h = go (byte_is s 3 feed) refl where
     b : (2 < length s) × (get_or s 2 0 ≡ 48)
     b = byte_here s 2 48 h
 
     go : (t : Bool) → byte_is s 3 feed ≡ t → choose t (head.Good 0 4) head.Wrong ≡ head_in s
     go true e =
-        sym (found-head s k-here tab-here (48 ∷ []) 3 zero_is (omega arith) (drop-cons s 2 0 b.0 ∙ (λ i. b.1 i ∷ drop 3 s)) refl e
+        sym (found_head s k-here tab-here (48 ∷ []) 3 zero_is (omega arith) (drop-cons s 2 0 b.0 ∙ (λ i. b.1 i ∷ drop 3 s)) refl e
         ∙ ap (λ (x : ℕ). head.Good x 4) zero-value)
-    go false e = sym (head_no s (λ t. let z = zero_led t.f t.rest t.is_a_number (sym (third t) ∙ b.1) in clash (feed-there s t 3 (omega arith)) e))
+    go false e = sym (head_no s (λ t. let z = zero_led t.f t.rest t.is_a_number (sym (third t) ∙ b.1) in clash (feed_there s t 3 (omega arith)) e))
 
   module _ (no_zero : byte_is s 2 48 ≡ false) where
-    text-weight : (t : Text s) → weight_at s 2 ≡ number.Good (value t.f) (2 + length t.f)
+    text_weight : (t : Text s) → weight_at s 2 ≡ number.Good (value t.f) (2 + length t.f)
     unfolding field
-    text-weight t =
+    text_weight t =
         let d : drop 2 s ≡ t.f ++ (feed ∷ t.rest) = ap (drop 2) t.same in
         let u : up_to feed (drop 2 s) ≡ t.f = ap (up_to feed) d ∙ up_first feed t.f t.rest (number_free feed t.f (omega arith) t.is_a_number) in
-        let w : up_to tab (up_to feed (drop 2 s)) ≡ t.f = ap (up_to tab) u ∙ up-last tab t.f (number_free tab t.f (omega arith) t.is_a_number) in
+        let w : up_to tab (up_to feed (drop 2 s)) ≡ t.f = ap (up_to tab) u ∙ up_last tab t.f (number_free tab t.f (omega arith) t.is_a_number) in
         let l : 2 < length s = omega (arith, size s t) in
         ap (number_of most_weight 2) w
         ∙ weight_yes 2 t.f t.is_a_number (small_value t.f t.rest t.is_a_number t.short (λ e. byte_other s 2 48 no_zero l (third t ∙ e)))
 
     -- no weight, so no number
     pub no_number : weight_at s 2 ≡ number.Wrong → head_in s ≡ head.Wrong
-    no_number h = head_no s (λ t. no_place (sym (text-weight t) ∙ h))
+    no_number h = head_no s (λ t. no_place (sym (text_weight t) ∙ h))
 
     module _ (v next : ℕ) (w : weight_at s 2 ≡ number.Good v next) where
       -- a third digit
       pub too_long : 4 < next → head_in s ≡ head.Wrong
-      too_long l = head_no s (λ t. let p = same_place (sym (text-weight t) ∙ w) in omega (arith, t.short))
+      too_long l = head_no s (λ t. let p = same_place (sym (text_weight t) ∙ w) in omega (arith, t.short))
 
       -- a number, and its line feed or none
-      pub number-head : next ≤ 4 → head_end s v next ≡ head_in s
-      number-head l = go (byte_is s next feed) refl where
+      pub number_head : next ≤ 4 → head_end s v next ≡ head_in s
+      number_head l = go (byte_is s next feed) refl where
         f : List ℕ
         f = field tab (drop 2 s)
 
@@ -250,6 +250,6 @@ module _ (s : List ℕ) (k-here : byte_is s 0 75 ≡ true) (tab-here : byte_is s
         go : (t : Bool) → byte_is s next feed ≡ t → choose t (head.Good v (next + 1)) head.Wrong ≡ head_in s
         go true e =
             let n = g.1 in
-            sym (found-head s k-here tab-here f next (weight_number f g.0) (omega arith) cut (omega arith) e
+            sym (found_head s k-here tab-here f next (weight_number f g.0) (omega arith) cut (omega arith) e
             ∙ ap (λ (x : ℕ). head.Good x (next + 1)) (sym g.2))
-        go false e = sym (head_no s (λ t. let p = same_place (sym (text-weight t) ∙ w) in clash (feed-there s t next (omega arith)) e))
+        go false e = sym (head_no s (λ t. let p = same_place (sym (text_weight t) ∙ w) in clash (feed_there s t next (omega arith)) e))

@@ -15,19 +15,19 @@ use Rattle.lists.proofs.Refuted.{never}
 use Rattle.alphabet.specs.Letter.{is_letter}
 use Rattle.text.specs.Parts.{up_to, tab, feed}
 use Rattle.sheet_lines.specs.Cursor.{span, is_empty}
-use Rattle.text.proofs.Parts.{inside-part}
+use Rattle.text.proofs.Parts.{inside_part}
 
 -- ─── byte by byte, as a loop's index counts ──────────────────────────────────
 
 -- the letters in front end at a byte that is none, or go on with one that is
 module _ (s : List ℕ) (i : ℕ) (h : i < length s) where
-  pub span-stop : is_letter (get_or s i 0) ≡ false → span (drop i s) ≡ 0
+  pub span_stop : is_letter (get_or s i 0) ≡ false → span (drop i s) ≡ 0
   unfolding span
-  span-stop e = rw (drop-cons s i 0, e)
+  span_stop e = rw (drop-cons s i 0, e)
 
-  pub span-next : is_letter (get_or s i 0) ≡ true → span (drop i s) ≡ suc (span (drop (i + 1) s))
+  pub span_next : is_letter (get_or s i 0) ≡ true → span (drop i s) ≡ suc (span (drop (i + 1) s))
   unfolding span
-  span-next e = rw (drop-cons s i 0, e, add-one)
+  span_next e = rw (drop-cons s i 0, e, add-one)
 
 -- none stands behind the end
 pub span_none : (s : List ℕ) (i : ℕ) → length s ≤ i → span (drop i s) ≡ 0
@@ -84,7 +84,7 @@ is_empty_lem (b ∷ l) h = never h
 pub letters-length : (l : List ℕ) → is_empty (up_to tab (drop (span l) l)) ≡ true → length (up_to tab l) ≡ span l
 letters-length l h =
     let w = (span_up tab tab-other l).1 in
-    let e = (inside-part tab (span l) l w).0 in
+    let e = (inside_part tab (span l) l w).0 in
     let n = is_empty_lem (up_to tab (drop (span l) l)) h in
     let d = length-drop (span l) (up_to tab l) in
     let q : length (up_to tab (drop (span l) l)) ≡ length (drop (span l) (up_to tab l)) = ap length e in

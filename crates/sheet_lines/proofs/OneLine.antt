@@ -21,7 +21,7 @@ use Rattle.sheet_lines.specs.declared.Tail.TheVariants as tail
 use Rattle.sheet_lines.specs.declared.Line.{Line}
 use Rattle.sheet_lines.specs.declared.Line.TheVariants as line
 use Rattle.text.proofs.Tests.{both}
-use Rattle.text.proofs.Parts.{inside-part, up-short}
+use Rattle.text.proofs.Parts.{inside_part, up_short}
 use Rattle.sheet_lines.proofs.Letters.{tab-other, feed-other, span_up, letters-all, letters-length}
 
 -- ─── the line as a list ──────────────────────────────────────────────────────
@@ -58,8 +58,8 @@ line_list k i l (m ∷ ms) = go (is_empty (up_to tab (drop (span l) l))) refl wh
       let a : every is_letter (up_to tab l) ≡ true = letters-all l ∙ e in
       let n : length (up_to tab l) ≡ span l = letters-length l e in
       let u = (span_up tab tab-other l).1 in
-      let s = up-short tab l in
-      let w : later tab (drop (span l) l) ≡ later tab l = (inside-part tab (span l) l u).1 in
+      let s = up_short tab l in
+      let w : later tab (drop (span l) l) ≡ later tab l = (inside_part tab (span l) l u).1 in
       let d = length-drop (span l) l in
       rw (e, w, a, n)
       (same_answer k (span l) (span l + 1 - k) (i + suc (suc (length l)) + 1) (i + 2 + span l + length (drop (span l) l) + 1) (length (map value (later tab l)))
@@ -119,8 +119,8 @@ unmarked_list k i l (m ∷ ms) h = go (is_string_line k l) refl where
 
 module _ (s : List ℕ) (at : ℕ) where
   -- `S` and a tab, by the two bytes there
-  pub marked-short : length s - at < 2 → marked (drop at s) ≡ false
-  marked-short h = short (drop at s) (omega (arith, length-drop at s)) where
+  pub marked_short : length s - at < 2 → marked (drop at s) ≡ false
+  marked_short h = short (drop at s) (omega (arith, length-drop at s)) where
     short : (r : List ℕ) → length r < 2 → marked r ≡ false
     short [] h = refl
     short (b ∷ []) h = refl
@@ -134,32 +134,32 @@ module _ (s : List ℕ) (at : ℕ) where
       let q : suc (suc at) ≡ at + 2 = omega arith in
       a ∙ (ap (λ (x : List ℕ). get_or s at 0 ∷ x) b ∙ (λ i. get_or s at 0 ∷ (get_or s (p i) 0 ∷ drop (q i) s)))
 
-  pub marked-is : at + 1 < length s → marked (drop at s) ≡ choose (eqb (get_or s at 0) 83) (eqb (get_or s (at + 1) 0) tab) false
-  marked-is h = ap marked (two h)
+  pub marked_is : at + 1 < length s → marked (drop at s) ≡ choose (eqb (get_or s at 0) 83) (eqb (get_or s (at + 1) 0) tab) false
+  marked_is h = ap marked (two h)
 
-  marked-true : (r : List ℕ) → marked r ≡ true → 2 ≤ length r
-  marked-true [] h = never h
-  marked-true (b ∷ []) h = never h
-  marked-true (b ∷ (c ∷ r)) h = omega arith
+  marked_true : (r : List ℕ) → marked r ≡ true → 2 ≤ length r
+  marked_true [] h = never h
+  marked_true (b ∷ []) h = never h
+  marked_true (b ∷ (c ∷ r)) h = omega arith
 
   -- a mark has two bytes
-  pub marked-room : marked (drop at s) ≡ true → at + 2 ≤ length s
-  marked-room h = omega (arith, length-drop at s, marked-true (drop at s) h)
+  pub marked_room : marked (drop at s) ≡ true → at + 2 ≤ length s
+  marked_room h = omega (arith, length-drop at s, marked_true (drop at s) h)
 
   -- what a mark stands in front of
   pub front : marked (drop at s) ≡ true → drop at s ≡ 83 ∷ (tab ∷ drop (at + 2) s)
   front h =
-      let l : at + 1 < length s = omega (arith, marked-room h) in
-      go (eqb (get_or s at 0) 83) refl (sym (marked-is l) ∙ h) l where
+      let l : at + 1 < length s = omega (arith, marked_room h) in
+      go (eqb (get_or s at 0) 83) refl (sym (marked_is l) ∙ h) l where
         go : (t : Bool) → eqb (get_or s at 0) 83 ≡ t → choose t (eqb (get_or s (at + 1) 0) tab) false ≡ true → at + 1 < length s
             → drop at s ≡ 83 ∷ (tab ∷ drop (at + 2) s)
         go true e g l = two l ∙ (λ i. eqb-true (get_or s at 0) 83 e i ∷ (eqb-true (get_or s (at + 1) 0) tab g i ∷ drop (at + 2) s))
         go false e g l = never g
 
   -- and none of them ends the line
-  pub front-up : (r : List ℕ) → up_to feed (83 ∷ (tab ∷ r)) ≡ 83 ∷ (tab ∷ up_to feed r)
+  pub front_up : (r : List ℕ) → up_to feed (83 ∷ (tab ∷ r)) ≡ 83 ∷ (tab ∷ up_to feed r)
   unfolding up_to
-  front-up r = refl
+  front_up r = refl
 
   front-later : (r : List ℕ) → later feed (83 ∷ (tab ∷ r)) ≡ later feed r
   unfolding later
@@ -167,34 +167,34 @@ module _ (s : List ℕ) (at : ℕ) where
 
   -- the answer by the letters and what follows them; n is how many letters there are, e where they end, w how many weights are wanted
   module _ (k n e w : ℕ) (h : marked (drop at s) ≡ true) (p : e ≡ at + 2 + span (drop (at + 2) s)) (q : n ≡ e - (at + 2)) (r : w ≡ n + 1 - k) where
-    line-answer : line_at k s at ≡ choose (ltb n k) line.Wrong (line_with n w (tail_at s e w))
-    line-answer =
+    line_answer : line_at k s at ≡ choose (ltb n k) line.Wrong (line_with n w (tail_at s e w))
+    line_answer =
         let x : List ℕ = drop (at + 2) s in
         let l : List ℕ = up_to feed x in
         let f = front h in
         let su = span_up feed feed-other x in
         let m : span l ≡ n = omega (arith, su.0) in
         let d : drop e s ≡ drop (span x) x = ap (λ (y : ℕ). drop y s) p ∙ sym (drop-drop (span x) (at + 2) s) in
-        let v = inside-part feed (span x) x su.1 in
+        let v = inside_part feed (span x) x su.1 in
         let a : up_to feed (drop e s) ≡ drop (span l) l = ap (up_to feed) d ∙ (v.0 ∙ ap (λ (y : ℕ). drop y l) (sym su.0)) in
         let b : later feed (drop e s) ≡ later feed x = ap (later feed) d ∙ v.1 in
         let g : at + 2 + span l ≡ e = omega arith in
         let o : span l + 1 - k ≡ w = ap (λ (y : ℕ). y + 1 - k) m ∙ sym r in
-        (λ i. line_of k at ((ap (up_to feed) f ∙ front-up x) i) ((ap (later feed) f ∙ front-later x) i))
+        (λ i. line_of k at ((ap (up_to feed) f ∙ front_up x) i) ((ap (later feed) f ∙ front-later x) i))
         ∙ (line_list k at l (later feed x) ∙ (λ i. choose (ltb (m i) k) line.Wrong (line_with (m i) (o i) (tail_of (o i) (g i) (sym a i) (sym b i)))))
 
     -- too few letters
-    pub line-few : n < k → line_at k s at ≡ line.Wrong
-    line-few l = line-answer ∙ rw (lt-ltb n k l)
+    pub line_few : n < k → line_at k s at ≡ line.Wrong
+    line_few l = line_answer ∙ rw (lt-ltb n k l)
 
     -- wrong weights
-    pub line-bad : k ≤ n → tail_at s e w ≡ tail.Wrong → line_at k s at ≡ line.Wrong
-    line-bad l t = line-answer ∙ (ap (λ (x : Bool). choose x line.Wrong (line_with n w (tail_at s e w))) (le-ltb n k l) ∙ ap (line_with n w) t)
+    pub line_bad : k ≤ n → tail_at s e w ≡ tail.Wrong → line_at k s at ≡ line.Wrong
+    line_bad l t = line_answer ∙ (ap (λ (x : Bool). choose x line.Wrong (line_with n w (tail_at s e w))) (le-ltb n k l) ∙ ap (line_with n w) t)
 
     -- a good line
-    pub line-good : (next : ℕ) → k ≤ n → tail_at s e w ≡ tail.Good next → line_at k s at ≡ line.Good next n w
-    line-good next l t = line-answer ∙ (ap (λ (x : Bool). choose x line.Wrong (line_with n w (tail_at s e w))) (le-ltb n k l) ∙ ap (line_with n w) t)
+    pub line_good : (next : ℕ) → k ≤ n → tail_at s e w ≡ tail.Good next → line_at k s at ≡ line.Good next n w
+    line_good next l t = line_answer ∙ (ap (λ (x : Bool). choose x line.Wrong (line_with n w (tail_at s e w))) (le-ltb n k l) ∙ ap (line_with n w) t)
 
   -- no `S`
-  pub line-unmarked : (k : ℕ) → marked (drop at s) ≡ false → line_at k s at ≡ line.Wrong
-  line-unmarked k h = unmarked_list k at (up_to feed (drop at s)) (later feed (drop at s)) (marked_up (drop at s) ∙ h)
+  pub line_unmarked : (k : ℕ) → marked (drop at s) ≡ false → line_at k s at ≡ line.Wrong
+  line_unmarked k h = unmarked_list k at (up_to feed (drop at s)) (later feed (drop at s)) (marked_up (drop at s) ∙ h)

@@ -20,7 +20,7 @@ use Rattle.text.specs.Fields.{field, number_of, byte_is}
 use Rattle.sheet_lines.specs.Cursor.{weight_at, tail_of, tail_at}
 use Rattle.text.specs.declared.Number.TheVariants as number
 use Rattle.sheet_lines.specs.declared.Tail.TheVariants as tail
-use Rattle.text.proofs.Parts.{up_next, up-stop, later-next, later-stop, inside-part, up-short}
+use Rattle.text.proofs.Parts.{up_next, up_stop, later_next, later_stop, inside_part, up_short}
 use Rattle.text.proofs.Bytes.{byte_here, byte_other}
 
 -- ─── one weight ──────────────────────────────────────────────────────────────
@@ -49,7 +49,7 @@ unfolding field
 after_weight s i v next w =
     let l : List ℕ = up_to feed (drop i s) in
     let n : ℕ = length (up_to tab l) in
-    let m = inside-part feed n (drop i s) (up-short tab l) in
+    let m = inside_part feed n (drop i s) (up_short tab l) in
     let d : drop next s ≡ drop n (drop i s) = ap (λ (x : ℕ). drop x s) (weight_good _ _ v next w).1 ∙ sym (drop-drop n i s) in
     (ap (up_to feed) d ∙ m.0, ap (later feed) d ∙ m.1)
 
@@ -61,9 +61,9 @@ tail_list : (j i next : ℕ) (l : List ℕ) (ms : List (List ℕ)) → is_weight
 unfolding tail_of up_to later every
 tail_list j i next l [] g e = refl
 tail_list j i next l (m ∷ ms) g e =
-    let w = inside-part tab (length (up_to tab l)) l (omega arith) in
+    let w = inside_part tab (length (up_to tab l)) l (omega arith) in
     let u : up_to tab (drop (length (up_to tab l)) l) ≡ [] = w.0 ∙ drop-length (up_to tab l) in
-    let s = up-short tab l in
+    let s = up_short tab l in
     let d = length-drop (length (up_to tab l)) l in
     let n : next + length (drop (length (up_to tab l)) l) + 1 ≡ i + suc (length l) + 1 = omega arith in
     rw (u, w.1, n, g, eqb-suc-suc)
@@ -103,30 +103,30 @@ tail_feed i m ms = rw add-zero
 -- ─── the rest of the line at a place ─────────────────────────────────────────
 
 module _ (s : List ℕ) (i : ℕ) where
-  tail-here : (n : ℕ) {l : List ℕ} {ms : List (List ℕ)} → up_to feed (drop i s) ≡ l → later feed (drop i s) ≡ ms → tail_at s i n ≡ tail_of n i l ms
-  tail-here n p q = λ x. tail_of n i (p x) (q x)
+  tail_here : (n : ℕ) {l : List ℕ} {ms : List (List ℕ)} → up_to feed (drop i s) ≡ l → later feed (drop i s) ≡ ms → tail_at s i n ≡ tail_of n i l ms
+  tail_here n p q = λ x. tail_of n i (p x) (q x)
 
   on_line : (n : ℕ) → i < length s → (get_or s i 0 ≡ feed → ⊥) → tail_at s i n ≡ tail_of n i (get_or s i 0 ∷ up_to feed (drop (i + 1) s)) (later feed (drop (i + 1) s))
-  on_line n h q = tail-here n (up_next feed s i h q) (later-next feed s i h q)
+  on_line n h q = tail_here n (up_next feed s i h q) (later_next feed s i h q)
 
-  at-feed : (n : ℕ) → i < length s → get_or s i 0 ≡ feed → tail_at s i n ≡ tail_of n i [] (up_to feed (drop (i + 1) s) ∷ later feed (drop (i + 1) s))
-  at-feed n h q = tail-here n (up-stop feed s i h q) (later-stop feed s i h q)
+  at_feed : (n : ℕ) → i < length s → get_or s i 0 ≡ feed → tail_at s i n ≡ tail_of n i [] (up_to feed (drop (i + 1) s) ∷ later feed (drop (i + 1) s))
+  at_feed n h q = tail_here n (up_stop feed s i h q) (later_stop feed s i h q)
 
   -- at the line feed
-  pub tail-ended : byte_is s i feed ≡ true → tail_at s i 0 ≡ tail.Good (i + 1)
-  tail-ended h =
+  pub tail_ended : byte_is s i feed ≡ true → tail_at s i 0 ≡ tail.Good (i + 1)
+  tail_ended h =
       let b = byte_here s i feed h in
-      at-feed 0 b.0 b.1 ∙ tail_feed i _ _
+      at_feed 0 b.0 b.1 ∙ tail_feed i _ _
 
-  with-tab : (n : ℕ) → i < length s → get_or s i 0 ≡ tab → tail_at s i n ≡ tail_of n i (tab ∷ up_to feed (drop (i + 1) s)) (later feed (drop (i + 1) s))
-  with-tab n h q = on_line n h (λ e. omega arith) ∙ ap (λ (x : ℕ). tail_of n i (x ∷ up_to feed (drop (i + 1) s)) (later feed (drop (i + 1) s))) q
+  with_tab : (n : ℕ) → i < length s → get_or s i 0 ≡ tab → tail_at s i n ≡ tail_of n i (tab ∷ up_to feed (drop (i + 1) s)) (later feed (drop (i + 1) s))
+  with_tab n h q = on_line n h (λ e. omega arith) ∙ ap (λ (x : ℕ). tail_of n i (x ∷ up_to feed (drop (i + 1) s)) (later feed (drop (i + 1) s))) q
 
   -- no line feed where the line has to end
-  pub tail-unended : byte_is s i feed ≡ false → tail_at s i 0 ≡ tail.Wrong
-  tail-unended h = go (ltb i (length s)) refl (eqb (get_or s i 0) tab) refl where
+  pub tail_unended : byte_is s i feed ≡ false → tail_at s i 0 ≡ tail.Wrong
+  tail_unended h = go (ltb i (length s)) refl (eqb (get_or s i 0) tab) refl where
     go : (t : Bool) → ltb i (length s) ≡ t → (u : Bool) → eqb (get_or s i 0) tab ≡ u → tail_at s i 0 ≡ tail.Wrong
     go false e u g = tail_past s i 0 (ltb-false _ _ e)
-    go true e true g = with-tab 0 (ltb-true _ _ e) (eqb-true _ _ g) ∙ tail_more i _ _
+    go true e true g = with_tab 0 (ltb-true _ _ e) (eqb-true _ _ g) ∙ tail_more i _ _
     go true e false g =
         let l = ltb-true _ _ e in
         on_line 0 l (byte_other s i feed h l) ∙ tail_other 0 i _ _ _ (eqb-false _ _ g)
@@ -136,32 +136,32 @@ module _ (s : List ℕ) (i : ℕ) where
     up_one = omega arith
 
     -- no tab where a weight has to come
-    pub tail-no-tab : byte_is s i tab ≡ false → tail_at s i j ≡ tail.Wrong
-    tail-no-tab h = go (ltb i (length s)) refl (eqb (get_or s i 0) feed) refl where
+    pub tail_no_tab : byte_is s i tab ≡ false → tail_at s i j ≡ tail.Wrong
+    tail_no_tab h = go (ltb i (length s)) refl (eqb (get_or s i 0) feed) refl where
       go : (t : Bool) → ltb i (length s) ≡ t → (u : Bool) → eqb (get_or s i 0) feed ≡ u → tail_at s i j ≡ tail.Wrong
       go false e u g = tail_past s i j (ltb-false _ _ e)
       go true e true g =
-          at-feed j (ltb-true _ _ e) (eqb-true _ _ g)
+          at_feed j (ltb-true _ _ e) (eqb-true _ _ g)
           ∙ (ap (λ (x : ℕ). tail_of x i [] (up_to feed (drop (i + 1) s) ∷ later feed (drop (i + 1) s))) (sym up_one) ∙ tail_none (j - 1) i _)
       go true e false g =
           let l = ltb-true _ _ e in
           on_line j l (eqb-false _ _ g) ∙ tail_other j i _ _ _ (byte_other s i tab h l)
 
-    at-tab : i < length s → get_or s i 0 ≡ tab → tail_at s i j ≡ tail_of (suc (j - 1)) i (tab ∷ up_to feed (drop (i + 1) s)) (later feed (drop (i + 1) s))
-    at-tab h q = with-tab j h q ∙ ap (λ (x : ℕ). tail_of x i (tab ∷ up_to feed (drop (i + 1) s)) (later feed (drop (i + 1) s))) (sym up_one)
+    at_tab : i < length s → get_or s i 0 ≡ tab → tail_at s i j ≡ tail_of (suc (j - 1)) i (tab ∷ up_to feed (drop (i + 1) s)) (later feed (drop (i + 1) s))
+    at_tab h q = with_tab j h q ∙ ap (λ (x : ℕ). tail_of x i (tab ∷ up_to feed (drop (i + 1) s)) (later feed (drop (i + 1) s))) (sym up_one)
 
     -- a tab and a wrong weight
-    pub tail-bad : byte_is s i tab ≡ true → weight_at s (i + 1) ≡ number.Wrong → tail_at s i j ≡ tail.Wrong
+    pub tail_bad : byte_is s i tab ≡ true → weight_at s (i + 1) ≡ number.Wrong → tail_at s i j ≡ tail.Wrong
     unfolding field
-    tail-bad h w =
+    tail_bad h w =
         let b = byte_here s i tab h in
-        at-tab b.0 b.1 ∙ tail_wrong (j - 1) i _ _ (weight_wrong _ _ w)
+        at_tab b.0 b.1 ∙ tail_wrong (j - 1) i _ _ (weight_wrong _ _ w)
 
     -- a tab and a good weight
-    pub tail-next : (v next : ℕ) → byte_is s i tab ≡ true → weight_at s (i + 1) ≡ number.Good v next → tail_at s i j ≡ tail_at s next (j - 1)
+    pub tail_next : (v next : ℕ) → byte_is s i tab ≡ true → weight_at s (i + 1) ≡ number.Good v next → tail_at s i j ≡ tail_at s next (j - 1)
     unfolding field
-    tail-next v next h w =
+    tail_next v next h w =
         let b = byte_here s i tab h in
         let g = weight_good _ _ v next w in
         let a = after_weight s (i + 1) v next w in
-        at-tab b.0 b.1 ∙ (tail_list (j - 1) i next _ _ g.0 g.1 ∙ sym (λ x. tail_of (j - 1) next (a.0 x) (a.1 x)))
+        at_tab b.0 b.1 ∙ (tail_list (j - 1) i next _ _ g.0 g.1 ∙ sym (λ x. tail_of (j - 1) next (a.0 x) (a.1 x)))

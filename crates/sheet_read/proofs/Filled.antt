@@ -12,13 +12,13 @@ use Rattle.collection.specs.Strings.{Str, letters_in, weights_in, ends_in}
 use Rattle.collection.proofs.Strings.{ends-length}
 use Rattle.text.specs.Parts.{up_to, later}
 use Rattle.sheet.specs.Sheet.{string, strings_of, first_wrong}
-use Rattle.text.proofs.Blocks.{block_room, store-block}
+use Rattle.text.proofs.Blocks.{block_room, store_block}
 use Rattle.sheet_lines.specs.Cursor.{span, tail_at, lines_at, strings_at, weights_at}
 use Rattle.sheet_lines.specs.declared.Tail.TheVariants as tail
-use Rattle.text.proofs.Copied.{take-size}
-use Rattle.sheet_lines.proofs.OneLine.{marked-room}
+use Rattle.text.proofs.Copied.{take_size}
+use Rattle.sheet_lines.proofs.OneLine.{marked_room}
 use Rattle.sheet_read.specs.Fits.{Fits}
-use Rattle.sheet_read.proofs.Rows.{Row, row, row-marked}
+use Rattle.sheet_read.proofs.Rows.{Row, row, row_marked}
 
 -- ─── what strings add to the tables ──────────────────────────────────────────
 
@@ -88,8 +88,8 @@ pub record Split (k : ℕ) (s : List ℕ) (a b c : ℕ) (A B C : List ℕ) (i e 
 
 module _ {k : ℕ} {s : List ℕ} {a b c : ℕ} {A B C : List ℕ} {i n m w : ℕ} {ls es ws : List ℕ} (st : State k s a b c A B C i n m w ls es ws) where
   -- a line is left: its mark is there
-  pub mark-room : i < length s → i + 2 ≤ length s
-  mark-room l = marked-room s i (row-marked k (m + 1) s i _ st.lines l refl)
+  pub mark_room : i < length s → i + 2 ≤ length s
+  mark_room l = marked_room s i (row_marked k (m + 1) s i _ st.lines l refl)
 
   -- and it can be split off
   pub split : {e : ℕ} → i < length s → (e ≡ i + 2 + span (drop (i + 2) s)) × (e ≤ length s) → Split k s a b c A B C i e n m w ls es ws
@@ -98,7 +98,7 @@ module _ {k : ℕ} {s : List ℕ} {a b c : ℕ} {A B C : List ℕ} {i n m w : �
       let x : List ℕ = take (e - (i + 2)) (drop (i + 2) s) in
       let rest : List Str = strings_at s (r.feed_at + 1) in
       let u : Str = string x (weights_at s e) in
-      let z : length x ≡ e - (i + 2) = take-size s e (i + 2) r.start p.1 in
+      let z : length x ≡ e - (i + 2) = take_size s e (i + 2) r.start p.1 in
       let f : letters_in (strings_at s i) ≡ x ++ letters_in rest = ap letters_in r.strings_are ∙ letters-cons u _ in
       let g : ends_in n (strings_at s i) ≡ (n + (e - (i + 2))) ∷ ends_in (n + (e - (i + 2))) rest =
       ap (ends_in n) r.strings_are ∙ (ends-cons n u _ ∙ ap (λ (y : ℕ). (n + y) ∷ ends_in (n + y) rest) z) in
@@ -115,8 +115,8 @@ module _ {k : ℕ} {s : List ℕ} {a b c : ℕ} {A B C : List ℕ} {i n m w : �
       }
 
   -- no line is left: the tables are what they were to become
-  pub end-state : length s ≤ i → tables ls es ws ≡ tables A B C
-  end-state h =
+  pub end_state : length s ≤ i → tables ls es ws ≡ tables A B C
+  end_state h =
       let z = none_left s i h in
       let letters = stored (restated (ap letters_in z ∙ no_letters) st.letters) in
       let ends = stored (restated (ap (ends_in n) z ∙ no_ends n) st.ends) in
@@ -132,20 +132,20 @@ module _ {k : ℕ} {s : List ℕ} {a b c : ℕ} {A B C : List ℕ} {i e n m w : 
     same_next h = cc
 
   -- the line ends inside the sheet
-  pub feed-place : (f + 1 ≤ length s) × (i < f)
-  feed-place = let z = same-feed in (omega (arith, sp.row.inside), omega (arith, sp.row.after))
+  pub feed_place : (f + 1 ≤ length s) × (i < f)
+  feed_place = let z = same-feed in (omega (arith, sp.row.inside), omega (arith, sp.row.after))
 
   -- the line's letters, end and weights are stored
-  pub next-state : {ls' ws' : List ℕ} → ls' ≡ put n (take (e - (i + 2)) (drop (i + 2) s)) ls → ws' ≡ put w (weights_at s e) ws
+  pub next_state : {ls' ws' : List ℕ} → ls' ≡ put n (take (e - (i + 2)) (drop (i + 2) s)) ls → ws' ≡ put w (weights_at s e) ws
       → State k s a b c A B C (f + 1) (n + (e - (i + 2))) (m + 1) (w + (e - (i + 2) + 1 - k)) ls' (set es m (n + (e - (i + 2)))) ws'
-  next-state {ls'} {ws'} p o =
+  next_state {ls'} {ws'} p o =
       let z : suc (suc (m + 1)) ≡ suc (m + 1 + 1) = omega arith in
       subst (λ (y : ℕ). State k s a b c A B C y (n + (e - (i + 2))) (m + 1) (w + (e - (i + 2) + 1 - k)) ls' (set es m (n + (e - (i + 2)))) ws') same-feed
       (record {
         inside = sp.row.inside;
         lines = ap (λ (y : ℕ). first_wrong k y (lines_at s (sp.row.feed_at + 1))) (sym z) ∙ sp.row.lines;
         small = sp.small;
-        letters = store-block (take (e - (i + 2)) (drop (i + 2) s)) _ sp.letters p (ap (λ (y : ℕ). n + y) (sym sp.size));
+        letters = store_block (take (e - (i + 2)) (drop (i + 2) s)) _ sp.letters p (ap (λ (y : ℕ). n + y) (sym sp.size));
         ends = store sp.ends;
-        weights = store-block (weights_at s e) _ sp.weights o (ap (λ (y : ℕ). w + y) (sym sp.row.count));
+        weights = store_block (weights_at s e) _ sp.weights o (ap (λ (y : ℕ). w + y) (sym sp.row.count));
       })

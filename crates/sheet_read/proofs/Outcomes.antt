@@ -30,16 +30,16 @@ use Rattle.sheet_read.proofs.Refusals.{Headed, headed}
 -- ─── a settled judgement, taken apart ────────────────────────────────────────
 
 module _ (s : List ℕ) (v : Verdict) where
-  was-bad : {number place : ℕ} → settle v judged.Bad (held s) ≡ judged.Bad number place → v ≡ Bad number place
+  was_bad : {number place : ℕ} → settle v judged.Bad (held s) ≡ judged.Bad number place → v ≡ Bad number place
   unfolding settle
-  was-bad {number} {place} h = go v refl h
+  was_bad {number} {place} h = go v refl h
     where
       go : (w : Verdict) → v ≡ w → settle w judged.Bad (held s) ≡ judged.Bad number place → v ≡ Bad number place
       go Good e q = refuted (cc)
       go (Bad n p) e q = let a : n ≡ number = cc in let b : p ≡ place = cc in e ∙ (λ i. Bad (a i) (b i))
 
-  was-good : {k next n m w : ℕ} → settle v judged.Bad (held s) ≡ judged.Good k next n m w → (v ≡ Good) × (held s ≡ judged.Good k next n m w)
-  was-good {k} {next} {n} {m} {w} h =
+  was_good : {k next n m w : ℕ} → settle v judged.Bad (held s) ≡ judged.Good k next n m w → (v ≡ Good) × (held s ≡ judged.Good k next n m w)
+  was_good {k} {next} {n} {m} {w} h =
       let a = done_by (λ (j : Judged). j) v judged.Bad (held s) (judged.Good k next n m w) (λ number place q. refuted (cc)) h in
       (a.0, a.2)
 
@@ -58,29 +58,29 @@ holding s h = record { k_is = cc; next_is = cc; n_is = cc; m_is = cc; w_is = cc 
 
 module _ (s : List ℕ) (r : Rooms) {j : Judged} (e : j ≡ judged_of s) where
   -- refused by a line or by k
-  pub lines-refused : {number place : ℕ} → j ≡ judged.Bad number place → j ≡ judged_in s r
+  pub lines_refused : {number place : ℕ} → j ≡ judged.Bad number place → j ≡ judged_in s r
   unfolding judged_of judged_in read_verdict
-  lines-refused q = q ∙ refused judged.Bad _ (then_bad _ (was-bad s (sheet_verdict s) (sym e ∙ q)))
+  lines_refused q = q ∙ refused judged.Bad _ (then_bad _ (was_bad s (sheet_verdict s) (sym e ∙ q)))
 
   module _ {k next n m w : ℕ} (q : j ≡ judged.Good k next n m w) where
     good : (sheet_verdict s ≡ Good) × (held s ≡ judged.Good k next n m w)
     unfolding judged_of
-    good = was-good s (sheet_verdict s) (sym e ∙ q)
+    good = was_good s (sheet_verdict s) (sym e ∙ q)
 
-    read-verdict : {v : Verdict} → counts_verdict n m w r ≡ v → read_verdict s r ≡ v
+    read_verdict_lem : {v : Verdict} → counts_verdict n m w r ≡ v → read_verdict s r ≡ v
     unfolding read_verdict
-    read-verdict t =
+    read_verdict_lem t =
         let h = holding s good.1 in
         then_good _ good.0 ((λ i. counts_verdict (h.n_is i) (h.m_is i) (h.w_is i) r) ∙ t)
 
     -- refused by 3 or 1
-    pub tables-refused : {v : Verdict} {number place : ℕ} → v ≡ counts_verdict n m w r → v ≡ Bad number place → judged.Bad number place ≡ judged_in s r
+    pub tables_refused : {v : Verdict} {number place : ℕ} → v ≡ counts_verdict n m w r → v ≡ Bad number place → judged.Bad number place ≡ judged_in s r
     unfolding judged_in
-    tables-refused t f = refused judged.Bad _ (read-verdict (sym t ∙ f))
+    tables_refused t f = refused judged.Bad _ (read_verdict_lem (sym t ∙ f))
 
     pub tables_good : {v : Verdict} → v ≡ counts_verdict n m w r → v ≡ Good → judged.Good k next n m w ≡ judged_in s r
     unfolding judged_in
-    tables_good t f = settled judged.Bad (sym good.1) (read-verdict (sym t ∙ f))
+    tables_good t f = settled judged.Bad (sym good.1) (read_verdict_lem (sym t ∙ f))
 
 -- ─── the outcome ─────────────────────────────────────────────────────────────
 
@@ -93,14 +93,14 @@ accepted_head s h =
 
 module _ (s : List ℕ) (t : Tables) {j : Judged} (e : j ≡ judged_in s (rooms_of t)) where
   -- a refusal leaves the tables
-  pub read-refused : {number place : ℕ} → j ≡ judged.Bad number place → read_outcome (answer.Refused number place) t ≡ read_of s t
+  pub read_refused : {number place : ℕ} → j ≡ judged.Bad number place → read_outcome (answer.Refused number place) t ≡ read_of s t
   unfolding judged_in read_of
-  read-refused q = refused (λ number place. read_outcome (answer.Refused number place) t) _ (was-bad s (read_verdict s _) (sym e ∙ q))
+  read_refused q = refused (λ number place. read_outcome (answer.Refused number place) t) _ (was_bad s (read_verdict s _) (sym e ∙ q))
 
   module _ {k next n m w : ℕ} (q : j ≡ judged.Good k next n m w) where
     taken : (read_verdict s (rooms_of t) ≡ Good) × (held s ≡ judged.Good k next n m w)
     unfolding judged_in
-    taken = was-good s (read_verdict s _) (sym e ∙ q)
+    taken = was_good s (read_verdict s _) (sym e ∙ q)
 
     strings-left : strings_at s next ≡ sheet_strings s
     strings-left =
@@ -129,9 +129,9 @@ module _ (s : List ℕ) (t : Tables) {j : Judged} (e : j ≡ judged_in s (rooms_
         }
 
     -- filled from the judged lines they are what READ leaves
-    pub read-filled : {after : Tables} → after ≡ filled_by (strings_at s next) t → read_outcome (answer.Filled k n m w) after ≡ read_of s t
+    pub read_filled : {after : Tables} → after ≡ filled_by (strings_at s next) t → read_outcome (answer.Filled k n m w) after ≡ read_of s t
     unfolding read_of
-    read-filled {after} f =
+    read_filled {after} f =
         let h = holding s taken.1 in
         settled (λ number place. read_outcome (answer.Refused number place) t)
         ((λ i. read_outcome (answer.Filled (sym h.k_is i) (sym h.n_is i) (sym h.m_is i) (sym h.w_is i)) (f i))

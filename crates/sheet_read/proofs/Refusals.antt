@@ -19,8 +19,8 @@ use Rattle.sheet_read.specs.Judged.{judged_of, held}
 use Rattle.sheet_lines.specs.declared.Head.TheVariants as head
 use Rattle.sheet_lines.specs.declared.Counted.TheVariants as counted
 use Rattle.sheet_read.specs.declared.Judged.TheVariants as judged
-use Rattle.text.proofs.Parts.{parts, past-sep}
-use Rattle.sheet_lines.proofs.Counts.{counts-good, counts-wrong}
+use Rattle.text.proofs.Parts.{parts, past_sep}
+use Rattle.sheet_lines.proofs.Counts.{counts_good, counts_wrong}
 
 -- line 1 is wrong
 pub head_wrong : (s : List ℕ) → head_in s ≡ head.Wrong → judged.Bad 11 1 ≡ judged_of s
@@ -43,7 +43,7 @@ pub record Headed (s : List ℕ) (k next : ℕ) : Type 0 where
 some-line : (s : List ℕ) (ls : List (List ℕ)) → later feed s ≡ ls → is_head (up_to feed s) ls ≡ true
     → (parts feed (drop (suc (length (up_to feed s))) s) ≡ later feed s) × (suc (length (up_to feed s)) ≤ length s)
 some-line s [] e h = never h
-some-line s (m ∷ ms) e h = past-sep feed s m ms e
+some-line s (m ∷ ms) e h = past_sep feed s m ms e
 
 line-some : (l : List ℕ) (ls : List (List ℕ)) → is_head l ls ≡ true → 1 ≤ length l
 unfolding is_k_line up_to
@@ -73,36 +73,36 @@ headed s k next h = go (is_head (up_to feed s) (later feed s)) refl h where
   go false e r = refuted (cc)
 
 module _ (s : List ℕ) (k next : ℕ) (h : Headed s k next) where
-  sheet-is : sheet_verdict s ≡ and_then (k_verdict k) (at_place 11 (first_wrong k 2 (later feed s)))
+  sheet_is : sheet_verdict s ≡ and_then (k_verdict k) (at_place 11 (first_wrong k 2 (later feed s)))
   unfolding sheet_verdict and_then
-  sheet-is =
+  sheet_is =
       ap (λ (t : Bool). and_then (choose t Good (Bad 11 1)) (and_then (k_verdict (sheet_k s)) (at_place 11 (first_wrong (sheet_k s) 2 (later feed s))))) h.good
       ∙ ap (λ (x : ℕ). and_then (k_verdict x) (at_place 11 (first_wrong x 2 (later feed s)))) (sym h.k_is)
 
-  judged-is : (v : Verdict) → sheet_verdict s ≡ v → judged_of s ≡ settle v judged.Bad (held s)
+  judged_is : (v : Verdict) → sheet_verdict s ≡ v → judged_of s ≡ settle v judged.Bad (held s)
   unfolding judged_of
-  judged-is v e = ap (λ (x : Verdict). settle x judged.Bad (held s)) e
+  judged_is v e = ap (λ (x : Verdict). settle x judged.Bad (held s)) e
 
   -- k is out of range
-  pub k-bad : (n p : ℕ) → k_verdict k ≡ Bad n p → judged.Bad n p ≡ judged_of s
+  pub k_bad : (n p : ℕ) → k_verdict k ≡ Bad n p → judged.Bad n p ≡ judged_of s
   unfolding settle and_then
-  k-bad n p e = sym (judged-is (Bad n p) (sheet-is ∙ ap (λ (x : Verdict). and_then x (at_place 11 (first_wrong k 2 (later feed s)))) e))
+  k_bad n p e = sym (judged_is (Bad n p) (sheet_is ∙ ap (λ (x : Verdict). and_then x (at_place 11 (first_wrong k 2 (later feed s)))) e))
 
   module _ (e : k_verdict k ≡ Good) where
-    lines-is : sheet_verdict s ≡ at_place 11 (first_wrong k 2 (later feed s))
+    lines_is : sheet_verdict s ≡ at_place 11 (first_wrong k 2 (later feed s))
     unfolding and_then
-    lines-is = sheet-is ∙ ap (λ (x : Verdict). and_then x (at_place 11 (first_wrong k 2 (later feed s)))) e
+    lines_is = sheet_is ∙ ap (λ (x : Verdict). and_then x (at_place 11 (first_wrong k 2 (later feed s)))) e
 
     -- a later line is wrong
-    pub line-bad : (x : ℕ) → count_of k 0 0 0 (lines_at s next) ≡ counted.Wrong x → judged.Bad 11 x ≡ judged_of s
+    pub line_bad : (x : ℕ) → count_of k 0 0 0 (lines_at s next) ≡ counted.Wrong x → judged.Bad 11 x ≡ judged_of s
     unfolding settle
-    line-bad x c =
-        let w = counts-wrong k (later feed s) (ap (count_of k 0 0 0) (sym h.lines) ∙ c) in
-        sym (judged-is (Bad 11 x) (lines-is ∙ (ap (at_place 11) w.0 ∙ sym (place_some 11 x w.1))))
+    line_bad x c =
+        let w = counts_wrong k (later feed s) (ap (count_of k 0 0 0) (sym h.lines) ∙ c) in
+        sym (judged_is (Bad 11 x) (lines_is ∙ (ap (at_place 11) w.0 ∙ sym (place_some 11 x w.1))))
 
     -- none is
     pub all_lines : (a b c : ℕ) → count_of k 0 0 0 (lines_at s next) ≡ counted.Good a b c → judged.Good k next a b c ≡ judged_of s
     unfolding settle
     all_lines a b c g =
-        let w = counts-good k (later feed s) (ap (count_of k 0 0 0) (sym h.lines) ∙ g) in
-        (λ i. judged.Good (h.k_is i) (h.next_is i) (w.1 i) (w.2 i) (w.3 i)) ∙ sym (judged-is Good (lines-is ∙ sym (place_none 11 w.0)))
+        let w = counts_good k (later feed s) (ap (count_of k 0 0 0) (sym h.lines) ∙ g) in
+        (λ i. judged.Good (h.k_is i) (h.next_is i) (w.1 i) (w.2 i) (w.3 i)) ∙ sym (judged_is Good (lines_is ∙ sym (place_none 11 w.0)))

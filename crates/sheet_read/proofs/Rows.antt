@@ -20,9 +20,9 @@ use Rattle.sheet_lines.specs.declared.Tail.TheVariants as tail
 use Rattle.sheet_lines.specs.declared.Line.{Line}
 use Rattle.sheet_lines.specs.declared.Line.TheVariants as line
 use Rattle.sheet.proofs.Accepted.{choose-zero}
-use Rattle.text.proofs.Parts.{parts, inside-part, past-sep, up-short, up-take, take-up, some-part}
+use Rattle.text.proofs.Parts.{parts, inside_part, past_sep, up_short, up_take, take_up, some-part}
 use Rattle.sheet_lines.proofs.Letters.{tab-other, feed-other, span_up}
-use Rattle.sheet_lines.proofs.OneLine.{line-unmarked, line-few, line-bad, line-good, front, front-up}
+use Rattle.sheet_lines.proofs.OneLine.{line_unmarked, line_few, line_bad, line_good, front, front_up}
 use Rattle.sheet_lines.proofs.Counts.{found}
 
 -- ─── lines of which none is wrong ────────────────────────────────────────────
@@ -66,20 +66,20 @@ unfolding strings_of
 strings_next l m ms = refl
 
 module _ (k q : ℕ) (s : List ℕ) (i e : ℕ) (h : first_wrong k (suc q) (lines_at s i) ≡ 0) (l : i < length s) (p : e ≡ i + 2 + span (drop (i + 2) s)) where
-  not-wrong : line_at k s i ≡ line.Wrong → ⊥
-  not-wrong r = wrong_bad k q i (up_to feed (drop i s)) (later feed (drop i s)) h (some-part feed (drop i s) (omega (arith, length-drop i s))) r
+  not_wrong : line_at k s i ≡ line.Wrong → ⊥
+  not_wrong r = wrong_bad k q i (up_to feed (drop i s)) (later feed (drop i s)) h (some-part feed (drop i s) (omega (arith, length-drop i s))) r
 
   -- its mark stands there
-  pub row-marked : marked (drop i s) ≡ true
-  row-marked = go (marked (drop i s)) refl where
+  pub row_marked : marked (drop i s) ≡ true
+  row_marked = go (marked (drop i s)) refl where
     go : (t : Bool) → marked (drop i s) ≡ t → t ≡ true
     go true r = refl
-    go false r = absurd (not-wrong (line-unmarked s i k r))
+    go false r = absurd (not_wrong (line_unmarked s i k r))
 
-  row-long : k ≤ e - (i + 2)
-  row-long = go (ltb (e - (i + 2)) k) refl where
+  row_long : k ≤ e - (i + 2)
+  row_long = go (ltb (e - (i + 2)) k) refl where
     go : (t : Bool) → ltb (e - (i + 2)) k ≡ t → k ≤ e - (i + 2)
-    go true r = absurd (not-wrong (line-few s i k (e - (i + 2)) e (e - (i + 2) + 1 - k) row-marked p refl refl (ltb-true _ _ r)))
+    go true r = absurd (not_wrong (line_few s i k (e - (i + 2)) e (e - (i + 2) + 1 - k) row_marked p refl refl (ltb-true _ _ r)))
     go false r = ltb-false _ _ r
 
   row_made : (next : ℕ) → tail_at s e (e - (i + 2) + 1 - k) ≡ tail.Good next → Row k q s i e
@@ -90,28 +90,28 @@ module _ (k q : ℕ) (s : List ℕ) (i e : ℕ) (h : first_wrong k (suc q) (line
       let r : List ℕ = drop i s in
       let x : List ℕ = drop (i + 2) s in
       let l2 : List ℕ = up_to feed x in
-      let g = line-good s i k n e w row-marked p refl refl next row-long t in
+      let g = line_good s i k n e w row_marked p refl refl next row_long t in
       let f = found k i (up_to feed r) (later feed r) next n w g in
-      let o = past-sep feed r f.m f.rest f.more in
+      let o = past_sep feed r f.m f.rest f.more in
       let z : i + length (up_to feed r) + 1 ≡ i + suc (length (up_to feed r)) = omega arith in
       let d : drop (i + length (up_to feed r) + 1) s ≡ drop (suc (length (up_to feed r))) r =
       ap (λ (y : ℕ). drop y s) z ∙ sym (drop-drop (suc (length (up_to feed r))) i s) in
       let ln : lines_at s (i + length (up_to feed r) + 1) ≡ f.m ∷ f.rest = ap (parts feed) d ∙ (o.0 ∙ f.more) in
-      let fr : up_to feed r ≡ 83 ∷ (tab ∷ l2) = ap (up_to feed) (front s i row-marked) ∙ front-up s i x in
+      let fr : up_to feed r ≡ 83 ∷ (tab ∷ l2) = ap (up_to feed) (front s i row_marked) ∙ front_up s i x in
       let fe : string_of (later tab (up_to feed r)) ≡ string (up_to tab l2) (map value (later tab l2)) =
       ap (λ (y : List ℕ). string_of (later tab y)) fr ∙ front_fields l2 in
       let a : length (up_to tab l2) ≡ n = sym (f.letters ∙ ap (λ (y : Str). length y.letters) fe) in
-      let b : up_to tab l2 ≡ take n x = up-take tab l2 ∙ (ap (λ (y : ℕ). take y l2) a ∙ take-up feed x n (omega (arith, up-short tab l2, a))) in
+      let b : up_to tab l2 ≡ take n x = up_take tab l2 ∙ (ap (λ (y : ℕ). take y l2) a ∙ take_up feed x n (omega (arith, up_short tab l2, a))) in
       let su = span_up feed feed-other x in
       let de : drop e s ≡ drop (span x) x = ap (λ (y : ℕ). drop y s) p ∙ sym (drop-drop (span x) (i + 2) s) in
-      let ue : up_to feed (drop e s) ≡ drop (span x) l2 = ap (up_to feed) de ∙ (inside-part feed (span x) x su.1).0 in
+      let ue : up_to feed (drop e s) ≡ drop (span x) l2 = ap (up_to feed) de ∙ (inside_part feed (span x) x su.1).0 in
       let st = span_up tab tab-other l2 in
-      let le : later tab (up_to feed (drop e s)) ≡ later tab l2 = ap (later tab) ue ∙ (inside-part tab (span x) l2 (omega (arith, su.0, st.1))).1 in
+      let le : later tab (up_to feed (drop e s)) ≡ later tab l2 = ap (later tab) ue ∙ (inside_part tab (span x) l2 (omega (arith, su.0, st.1))).1 in
       let hm : first_wrong k (suc q) (up_to feed r ∷ (f.m ∷ f.rest)) ≡ 0 =
       ap (λ (y : List (List ℕ)). first_wrong k (suc q) (up_to feed r ∷ y)) (sym f.more) ∙ h in
       record {
         start = omega arith;
-        long = row-long;
+        long = row_long;
         feed_at = i + length (up_to feed r);
         tail_is = t ∙ ap tail.Good f.next_is;
         count = ap (λ (y : List (List ℕ)). length (map value y)) le ∙ sym (f.weights ∙ ap (λ (y : Str). length y.weights) fe);
@@ -128,4 +128,4 @@ module _ (k q : ℕ) (s : List ℕ) (i e : ℕ) (h : first_wrong k (suc q) (line
   row = go (tail_at s e (e - (i + 2) + 1 - k)) refl where
     go : (t : Tail) → tail_at s e (e - (i + 2) + 1 - k) ≡ t → Row k q s i e
     go (tail.Good next) r = row_made next r
-    go tail.Wrong r = absurd (not-wrong (line-bad s i k (e - (i + 2)) e (e - (i + 2) + 1 - k) row-marked p refl refl row-long r))
+    go tail.Wrong r = absurd (not_wrong (line_bad s i k (e - (i + 2)) e (e - (i + 2) + 1 - k) row_marked p refl refl row_long r))

@@ -19,9 +19,9 @@ use Rattle.text.specs.declared.Number.TheVariants as number
 use Rattle.sheet_lines.specs.declared.Tail.{Tail}
 use Rattle.sheet_lines.specs.declared.Tail.TheVariants as tail
 use Rattle.text.proofs.Tests.{both, empty}
-use Rattle.text.proofs.Parts.{up_next, inside-part}
+use Rattle.text.proofs.Parts.{up_next, inside_part}
 use Rattle.text.proofs.Bytes.{byte_here}
-use Rattle.sheet_lines.proofs.Tails.{weight_good, after_weight, tail-ended, tail-unended}
+use Rattle.sheet_lines.proofs.Tails.{weight_good, after_weight, tail_ended, tail_unended}
 
 tab-later : (b : ℕ) (l : List ℕ) → b ≡ tab → later tab (b ∷ l) ≡ up_to tab l ∷ later tab l
 unfolding later
@@ -36,7 +36,7 @@ weights_next s i v next h w =
     let l : List ℕ = up_to feed (drop (i + 1) s) in
     let n : ℕ = length (up_to tab l) in
     let p : up_to feed (drop next s) ≡ drop n l = (after_weight s (i + 1) v next w).0 in
-    let q : later tab (drop n l) ≡ later tab l = (inside-part tab n l (omega arith)).1 in
+    let q : later tab (drop n l) ≡ later tab l = (inside_part tab n l (omega arith)).1 in
     let y = b.1 in
     let a : up_to feed (drop i s) ≡ get_or s i 0 ∷ l = up_next feed s i b.0 (λ e. omega arith) in
     let c : later tab (up_to feed (drop i s)) ≡ up_to tab l ∷ later tab l = ap (later tab) a ∙ tab-later _ l b.1 in
@@ -65,5 +65,5 @@ not_fine e h = never (sym (ap fine e) ∙ h)
 pub tail_fine : (s : List ℕ) (i : ℕ) → fine (tail_at s i 0) ≡ true → tail_at s i 0 ≡ ends_at i
 tail_fine s i h = go (byte_is s i feed) refl where
   go : (t : Bool) → byte_is s i feed ≡ t → tail_at s i 0 ≡ ends_at i
-  go true e = tail-ended s i e
-  go false e = absurd (not_fine (tail-unended s i e) h)
+  go true e = tail_ended s i e
+  go false e = absurd (not_fine (tail_unended s i e) h)

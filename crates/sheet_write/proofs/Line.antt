@@ -5,14 +5,14 @@ use Prim.Native.Nat.{ℕ, ◌+◌, ◌-◌, ◌<◌, ◌≤◌}
 use native.Mathlib.Omega.{arith}
 use lib.ListN.{length, take, drop, get_or, set, length-append}
 use Rattle.lists.specs.Fill.{put}
-use Rattle.lists.proofs.Storing.{Storing, begin-at, inside, store, restated, stored}
+use Rattle.lists.proofs.Storing.{Storing, begin_at, inside, store, restated, stored}
 use Rattle.collection.specs.Strings.{Str}
 use Rattle.text.specs.Numbers.{digits}
 use Rattle.text.specs.Parts.{tab, feed}
 use Rattle.sheet.specs.Text.{weights_text}
-use Rattle.text.proofs.Blocks.{block_room, store-block}
+use Rattle.text.proofs.Blocks.{block_room, store_block}
 use Rattle.sheet_write.specs.Written.{head_line, cut_string, string_line}
-use Rattle.text.proofs.Copied.{take-size}
+use Rattle.text.proofs.Copied.{take_size}
 use Rattle.sheet_write.proofs.Texts.{weights_next, weights_end, line-length}
 
 moved : {size o o' : ℕ} {out target rest : List ℕ} → o ≡ o' → Storing size out target rest o → Storing size out target rest o'
@@ -33,7 +33,7 @@ pub weighing : (ws : List ℕ) (w n at : ℕ) (out : List ℕ) → w + n ≤ len
 weighing ws w n at out h r =
     let z : n ≡ w + n - w = omega arith in
     let e : weights_text (take n (drop w ws)) ≡ weights_text (take (w + n - w) (drop w ws)) = ap (λ (x : ℕ). weights_text (take x (drop w ws))) z in
-    record { low = omega arith; high = h; storing = restated e (begin-at at out _ r); place = ap (λ (x : List ℕ). at + length x) (sym e) }
+    record { low = omega arith; high = h; storing = restated e (begin_at at out _ r); place = ap (λ (x : List ℕ). at + length x) (sym e) }
 
 module _ {size : ℕ} {ws : List ℕ} {e total : ℕ} {target out : List ℕ} {i p : ℕ} (s : Weighing size ws e total target out i p) where
   module _ (l : i < e) where
@@ -41,11 +41,11 @@ module _ {size : ℕ} {ws : List ℕ} {e total : ℕ} {target out : List ℕ} {i
     here = restated (weights_next ws e i l s.high) s.storing
 
     -- its tab fits, then its digits
-    pub tab-room : p < length out
-    tab-room = inside here
+    pub tab_room : p < length out
+    tab_room = inside here
 
-    pub digits-room : p + 1 + length (digits (get_or ws i 0)) ≤ length (set out p tab)
-    digits-room = block_room (digits (get_or ws i 0)) _ (store here)
+    pub digits_room : p + 1 + length (digits (get_or ws i 0)) ≤ length (set out p tab)
+    digits_room = block_room (digits (get_or ws i 0)) _ (store here)
 
     -- one weight more is stored
     pub weighed : {w : ℕ} {out' : List ℕ} {p' : ℕ} → w ≡ get_or ws i 0 → p' ≡ p + 1 + length (digits w) → out' ≡ put (p + 1) (digits w) (set out p tab)
@@ -58,7 +58,7 @@ module _ {size : ℕ} {ws : List ℕ} {e total : ℕ} {target out : List ℕ} {i
         record {
           low = omega arith;
           high = s.high;
-          storing = store-block d r (store here) f q;
+          storing = store_block d r (store here) f q;
           place = omega (arith, s.place, ap length (weights_next ws e i l s.high), length-append d r);
         }
 
@@ -71,18 +71,18 @@ module _ {size : ℕ} {ws : List ℕ} {e total : ℕ} {target out : List ℕ} {i
 -- ─── line 1 ──────────────────────────────────────────────────────────────────
 
 module _ (k : ℕ) (out : List ℕ) (h : length (head_line k) ≤ length out) where
-  head-begun : Storing (length out) out (put 0 (head_line k) out) (75 ∷ (tab ∷ (digits k ++ (feed ∷ [])))) 0
+  head_begun : Storing (length out) out (put 0 (head_line k) out) (75 ∷ (tab ∷ (digits k ++ (feed ∷ [])))) 0
   unfolding head_line
-  head-begun = begin-at 0 out (head_line k) (omega arith)
+  head_begun = begin_at 0 out (head_line k) (omega arith)
 
   -- its first two bytes are stored
-  pub head-marked : Storing (length out) (set (set out 0 75) 1 tab) (put 0 (head_line k) out) (digits k ++ (feed ∷ [])) 2
-  head-marked = store (store head-begun)
+  pub head_marked : Storing (length out) (set (set out 0 75) 1 tab) (put 0 (head_line k) out) (digits k ++ (feed ∷ [])) 2
+  head_marked = store (store head_begun)
 
   -- and its k: the feed is left
-  pub head-ended : {out' : List ℕ} {p : ℕ} → p ≡ 2 + length (digits k) → out' ≡ put 2 (digits k) (set (set out 0 75) 1 tab)
+  pub head_ended : {out' : List ℕ} {p : ℕ} → p ≡ 2 + length (digits k) → out' ≡ put 2 (digits k) (set (set out 0 75) 1 tab)
       → Storing (length out) out' (put 0 (head_line k) out) (feed ∷ []) p
-  head-ended e f = store-block (digits k) (feed ∷ []) head-marked f e
+  head_ended e f = store_block (digits k) (feed ∷ []) head_marked f e
 
 -- ─── a string's line ─────────────────────────────────────────────────────────
 
@@ -98,42 +98,42 @@ module _ (letters weights out : List ℕ) (b e w n at : ℕ) (fits : (b ≤ e) �
   abbrev marked : List ℕ
   marked = set (set out at 83) (at + 1) tab
 
-  letters-size : length (take (e - b) (drop b letters)) ≡ e - b
-  letters-size = take-size letters e b fits.0 fits.1
+  letters_size : length (take (e - b) (drop b letters)) ≡ e - b
+  letters_size = take_size letters e b fits.0 fits.1
 
-  line-begun : Storing (length out) out target (83 ∷ (tab ∷ (str.letters ++ (weights_text str.weights ++ (feed ∷ []))))) at
+  line_begun : Storing (length out) out target (83 ∷ (tab ∷ (str.letters ++ (weights_text str.weights ++ (feed ∷ []))))) at
   unfolding string_line
-  line-begun = begin-at at out (string_line str) room
+  line_begun = begin_at at out (string_line str) room
 
   line_marked : Storing (length out) marked target (str.letters ++ (weights_text str.weights ++ (feed ∷ []))) (at + 2)
-  line_marked = moved two (store (store line-begun))
+  line_marked = moved two (store (store line_begun))
     where
       two : at + 1 + 1 ≡ at + 2
       two = omega arith
 
   -- the mark fits, and the letters
-  pub marks-room : at + 2 + (e - b) < length out
-  marks-room = omega (arith, room, line-length str, letters-size)
+  pub marks_room : at + 2 + (e - b) < length out
+  marks_room = omega (arith, room, line-length str, letters_size)
 
   pub letters_room : at + 2 + (e - b) ≤ length (set (set out at 83) (at + 1) tab)
-  letters_room = omega (arith, block_room str.letters _ line_marked, letters-size)
+  letters_room = omega (arith, block_room str.letters _ line_marked, letters_size)
 
   module _ {lettered : List ℕ} (f : lettered ≡ put (at + 2) (take (e - b) (drop b letters)) (set (set out at 83) (at + 1) tab)) where
-    line-lettered : Storing (length out) lettered target (weights_text str.weights ++ (feed ∷ [])) (at + 2 + (e - b))
-    line-lettered = store-block str.letters _ line_marked f (ap (λ (x : ℕ). at + 2 + x) (sym letters-size))
+    line_lettered : Storing (length out) lettered target (weights_text str.weights ++ (feed ∷ [])) (at + 2 + (e - b))
+    line_lettered = store_block str.letters _ line_marked f (ap (λ (x : ℕ). at + 2 + x) (sym letters_size))
 
     -- the letters are stored: the weights fit
     pub weights_room : at + 2 + (e - b) + length (weights_text (take n (drop w weights))) ≤ length lettered
-    weights_room = block_room (weights_text str.weights) (feed ∷ []) line-lettered
+    weights_room = block_room (weights_text str.weights) (feed ∷ []) line_lettered
 
     module _ {p : ℕ} (q : p ≡ at + 2 + (e - b) + length (weights_text (take n (drop w weights)))) where
       -- the weights are: the feed is left, and the line ends behind it
       pub line-weighed : {weighed : List ℕ} → weighed ≡ put (at + 2 + (e - b)) (weights_text (take n (drop w weights))) lettered
           → Storing (length out) weighed (put at (string_line (cut_string letters b e weights w n)) out) (feed ∷ []) p
-      line-weighed g = store-block (weights_text str.weights) (feed ∷ []) line-lettered g q
+      line-weighed g = store_block (weights_text str.weights) (feed ∷ []) line_lettered g q
 
-      pub line-end : p + 1 ≡ at + length (string_line (cut_string letters b e weights w n))
-      line-end = omega (arith, line-length str, letters-size)
+      pub line_end : p + 1 ≡ at + length (string_line (cut_string letters b e weights w n))
+      line_end = omega (arith, line-length str, letters_size)
 
       pub line-fits : p + 1 ≤ length out
-      line-fits = omega (arith, line-end, room)
+      line-fits = omega (arith, line_end, room)

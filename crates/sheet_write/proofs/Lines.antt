@@ -8,14 +8,14 @@ use lib.Seq.{drop-drop}
 use Rattle.lists.specs.Fill.{put, fill}
 use Rattle.lists.specs.Count.{count_from}
 use Rattle.lists.proofs.Count.{length_count}
-use Rattle.lists.proofs.Storing.{Storing, begin, begin-at, restated, stored, drop_next}
+use Rattle.lists.proofs.Storing.{Storing, begin, begin_at, restated, stored, drop_next}
 use Rattle.collection.specs.Collection.{Collection, collection}
 use Rattle.collection.specs.Kmers.{within, kmers_from}
 use Rattle.collection.specs.Strings.{Str, strings_from, strings}
 use Rattle.collection.proofs.Judged.{Judged, shape_long}
-use Rattle.collection.proofs.Kmers.{kmers-counted, StringsLeft, strings_begin, kmers_next, Next, next-string, strings-on}
+use Rattle.collection.proofs.Kmers.{kmers-counted, StringsLeft, strings_begin, kmers_next, Next, next_string, strings_on}
 use Rattle.sheet.specs.Text.{lines_text, write_text}
-use Rattle.text.proofs.Blocks.{block_room, store-block}
+use Rattle.text.proofs.Blocks.{block_room, store_block}
 use Rattle.sheet_write.specs.Written.{head_line, cut_string, string_line}
 use Rattle.sheet_write.proofs.Texts.{lines_cons, sheet-lines}
 
@@ -39,7 +39,7 @@ lining {c} r at out h =
     record {
       left = strings_begin (shape_long r.shape) r.shape.last;
       counted = omega (arith, kmers-counted r.shape, r.counted);
-      storing = begin-at at out _ h;
+      storing = begin_at at out _ h;
       place = refl;
     }
 
@@ -65,20 +65,20 @@ none_left k before w i letters ends weights l =
 
 module _ {c : Collection} {size total : ℕ} {target out : List ℕ} {before w p i : ℕ} (s : Lining c size total target out before w p i) where
   module _ (l : i < length c.ends) where
-    abbrev here-string : Str
-    here-string = cut_string c.letters before (get_or c.ends i 0) c.weights w (within c.k before (get_or c.ends i 0))
+    abbrev here_string : Str
+    here_string = cut_string c.letters before (get_or c.ends i 0) c.weights w (within c.k before (get_or c.ends i 0))
 
     -- the next string is there
-    pub next-line : Next c.k (length c.letters) before (get_or c.ends i 0)
-    next-line = next-string s.left l
+    pub next_line : Next c.k (length c.letters) before (get_or c.ends i 0)
+    next_line = next_string s.left l
 
-    split : lines_left c i before w ≡ string_line here-string ++ lines_left c (i + 1) (get_or c.ends i 0) (w + within c.k before (get_or c.ends i 0))
+    split : lines_left c i before w ≡ string_line here_string ++ lines_left c (i + 1) (get_or c.ends i 0) (w + within c.k before (get_or c.ends i 0))
     split =
-        let n = next-line in
-        ap lines_text (strings_next c.k before w i c.letters c.ends c.weights l (omega (arith, n.long))) ∙ lines_cons here-string _
+        let n = next_line in
+        ap lines_text (strings_next c.k before w i c.letters c.ends c.weights l (omega (arith, n.long))) ∙ lines_cons here_string _
 
-    rest-counted : length c.weights ≡ w + within c.k before (get_or c.ends i 0) + length (kmers_from c.k (get_or c.ends i 0) (drop (i + 1) c.ends))
-    rest-counted =
+    rest_counted : length c.weights ≡ w + within c.k before (get_or c.ends i 0) + length (kmers_from c.k (get_or c.ends i 0) (drop (i + 1) c.ends))
+    rest_counted =
         let n : ℕ = within c.k before (get_or c.ends i 0) in
         omega (
           arith,
@@ -89,11 +89,11 @@ module _ {c : Collection} {size total : ℕ} {target out : List ℕ} {before w p
         )
 
     -- its weights are there, and its line fits
-    pub weights-there : w + within c.k before (get_or c.ends i 0) ≤ length c.weights
-    weights-there = omega (arith, rest-counted)
+    pub weights_there : w + within c.k before (get_or c.ends i 0) ≤ length c.weights
+    weights_there = omega (arith, rest_counted)
 
-    pub line-room : p + length (string_line (cut_string c.letters before (get_or c.ends i 0) c.weights w (within c.k before (get_or c.ends i 0)))) ≤ length out
-    line-room = block_room (string_line here-string) _ (restated split s.storing)
+    pub line_room : p + length (string_line (cut_string c.letters before (get_or c.ends i 0) c.weights w (within c.k before (get_or c.ends i 0)))) ≤ length out
+    line_room = block_room (string_line here_string) _ (restated split s.storing)
 
     -- its line is stored too
     pub lined : 1 ≤ c.k → {out' : List ℕ} {p' : ℕ}
@@ -103,10 +103,10 @@ module _ {c : Collection} {size total : ℕ} {target out : List ℕ} {before w p
     lined k1 {out'} {p'} q f =
         let r : List ℕ = lines_left c (i + 1) (get_or c.ends i 0) (w + within c.k before (get_or c.ends i 0)) in
         record {
-          left = strings-on s.left l k1 _ refl;
-          counted = rest-counted;
-          storing = store-block (string_line here-string) r (restated split s.storing) f q;
-          place = omega (arith, s.place, ap length split, length-append (string_line here-string) r);
+          left = strings_on s.left l k1 _ refl;
+          counted = rest_counted;
+          storing = store_block (string_line here_string) r (restated split s.storing) f q;
+          place = omega (arith, s.place, ap length split, length-append (string_line here_string) r);
         }
 
   -- at the end all are
@@ -123,23 +123,23 @@ module _ (c : Collection) (out : List ℕ) (room : length (write_text c) ≤ len
   unfolding write_text
   lines = sheet-lines c.k (strings c)
 
-  sheet-begun : Storing (length out) out (fill (write_text c) out) (head_line c.k ++ lines_text (strings c)) 0
-  sheet-begun = restated lines (begin out (write_text c) room)
+  sheet_begun : Storing (length out) out (fill (write_text c) out) (head_line c.k ++ lines_text (strings c)) 0
+  sheet_begun = restated lines (begin out (write_text c) room)
 
   -- line 1 fits
-  pub head-room : length (head_line c.k) ≤ length out
-  head-room = omega (arith, block_room (head_line c.k) _ sheet-begun)
+  pub head_room : length (head_line c.k) ≤ length out
+  head_room = omega (arith, block_room (head_line c.k) _ sheet_begun)
 
   module _ {p : ℕ} {headed : List ℕ} (e : p ≡ length (head_line c.k)) (f : headed ≡ put 0 (head_line c.k) out) where
-    sheet-headed : Storing (length out) headed (fill (write_text c) out) (lines_text (strings c)) p
-    sheet-headed = store-block (head_line c.k) _ sheet-begun f (omega arith)
+    sheet_headed : Storing (length out) headed (fill (write_text c) out) (lines_text (strings c)) p
+    sheet_headed = store_block (head_line c.k) _ sheet_begun f (omega arith)
 
     -- it is stored: the strings' lines fit
-    pub lines-room : p + length (lines_text (strings c)) ≤ length headed
-    lines-room = sheet-headed.room
+    pub lines_room : p + length (lines_text (strings c)) ≤ length headed
+    lines_room = sheet_headed.room
 
     -- they are stored: that is the sheet
-    pub sheet-done : {r : ℕ} {out' : List ℕ} → r ≡ p + length (lines_text (strings c)) → out' ≡ put p (lines_text (strings c)) headed
+    pub sheet_done : {r : ℕ} {out' : List ℕ} → r ≡ p + length (lines_text (strings c)) → out' ≡ put p (lines_text (strings c)) headed
         → (r ≡ length (write_text c)) × (out' ≡ fill (write_text c) out)
-    sheet-done q g =
-        (omega (arith, ap length lines, length-append (head_line c.k) (lines_text (strings c))), g ∙ sheet-headed.ends)
+    sheet_done q g =
+        (omega (arith, ap length lines, length-append (head_line c.k) (lines_text (strings c))), g ∙ sheet_headed.ends)

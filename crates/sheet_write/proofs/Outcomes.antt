@@ -15,15 +15,15 @@ use Rattle.sheet.specs.Write.{write_verdict, write_outcome, write_of}
 
 module _ (c : Collection) (sheet : List ℕ) {v : Verdict} (e : v ≡ write_verdict c (length sheet)) where
   -- a refusal leaves the table
-  pub write-refused : {number place : ℕ} → v ≡ Bad number place → write_outcome (answer.Refused number place) sheet ≡ write_of c sheet
+  pub write_refused : {number place : ℕ} → v ≡ Bad number place → write_outcome (answer.Refused number place) sheet ≡ write_of c sheet
   unfolding write_of
-  write-refused q = refused (λ number place. write_outcome (answer.Refused number place) sheet) _ (sym e ∙ q)
+  write_refused q = refused (λ number place. write_outcome (answer.Refused number place) sheet) _ (sym e ∙ q)
 
   module _ (q : v ≡ Good) where
     -- a judged collection passes 2 to 6, and its sheet has room
-    pub write-ready : Passes c × (length (write_text c) ≤ length sheet)
+    pub write_ready : Passes c × (length (write_text c) ≤ length sheet)
     unfolding write_verdict
-    write-ready =
+    write_ready =
         let b = both_good (collection_verdict c) _ (sym e ∙ q) in
         (b.0, room_good _ _ b.1)
 

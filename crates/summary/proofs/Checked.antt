@@ -25,7 +25,7 @@ use Rattle.collection.proofs.Strung.{judged_strung}
 use Rattle.cover.specs.declared.CoverAnswer.{CoverAnswer}
 use Rattle.cover.specs.declared.CoverAnswer.TheVariants as cover
 use Rattle.cover.specs.Cover.{cover_verdict, Promise}
-use Rattle.cover.proofs.Laws.{cover-answers, ends_count}
+use Rattle.cover.proofs.Laws.{cover_answers, ends_count}
 use Rattle.runs.specs.Runs.{run_count}
 use Rattle.summary_counts.specs.Counts.{distinct, bits_of}
 use Rattle.summary_counts.specs.Inner.{inner_from, Weighed}
@@ -80,18 +80,18 @@ module _ (c : Collection) (passes : Passes c) where
   weighed = record { few = omega (arith, judged.counted, judged.shape.letters_high); within_range = judged.all_weights }
 
   module _ (work : List ℕ) (room : 4 * length c.weights ≤ length work) {a : CheckAnswer} {work' : List ℕ} (e : outcome a work' ≡ check_of c work) where
-    check-good : check_verdict c (length work) ≡ Good
+    check_good : check_verdict c (length work) ≡ Good
     unfolding check_verdict
-    check-good = then_good _ passes (good_room (subst (λ (n : ℕ). 4 * n ≤ length work) judged.counted room))
+    check_good = then_good _ passes (good_room (subst (λ (n : ℕ). 4 * n ≤ length work) judged.counted room))
 
-    check-answers : a ≡ settle (at_place 7 (first_repeat (spelling_of c))) check.Refused (check.Checked (kmers_in (spelling_of c)))
+    check_answers : a ≡ settle (at_place 7 (first_repeat (spelling_of c))) check.Refused (check.Checked (kmers_in (spelling_of c)))
     unfolding check_of
-    check-answers = ap (λ (o : Outcome). o.answer) (e ∙ sym (settled _ refl check-good))
+    check_answers = ap (λ (o : Outcome). o.answer) (e ∙ sym (settled _ refl check_good))
 
     -- a refusal of CHECK is one of `tally`
-    pub check-refused : {number place : ℕ} → a ≡ check.Refused number place → Refused number place ≡ checked_of c
+    pub check_refused : {number place : ℕ} → a ≡ check.Refused number place → Refused number place ≡ checked_of c
     unfolding checked_of settle
-    check-refused {number} {place} q = go (at_place 7 (first_repeat (spelling_of c))) (sym check-answers ∙ q)
+    check_refused {number} {place} q = go (at_place 7 (first_repeat (spelling_of c))) (sym check_answers ∙ q)
       where
         go : (v : Verdict) → settle v check.Refused (check.Checked (kmers_in (spelling_of c))) ≡ check.Refused number place
             → Refused number place ≡ settle v Refused (Counted (numbers_of c))
@@ -99,9 +99,9 @@ module _ (c : Collection) (passes : Passes c) where
         go (Bad x y) h = let p : number ≡ x = cc in let q : place ≡ y = cc in ap₂ Refused p q
 
     -- else the numbers count
-    pub check-passed : {n : ℕ} → a ≡ check.Checked n → {s : Summary} → s ≡ Counted (numbers_of c) → s ≡ checked_of c
+    pub check_passed : {n : ℕ} → a ≡ check.Checked n → {s : Summary} → s ≡ Counted (numbers_of c) → s ≡ checked_of c
     unfolding checked_of settle
-    check-passed {n} q {s} r = go (at_place 7 (first_repeat (spelling_of c))) (sym check-answers ∙ q)
+    check_passed {n} q {s} r = go (at_place 7 (first_repeat (spelling_of c))) (sym check_answers ∙ q)
       where
         go : (v : Verdict) → settle v check.Refused (check.Checked (kmers_in (spelling_of c))) ≡ check.Checked n → s ≡ settle v Refused (Counted (numbers_of c))
         go Good h = r
@@ -115,19 +115,19 @@ module _ (c : Collection) (passes : Passes c) where
       (places_room : length c.ends ≤ length places) (work_room : 16 * length c.ends ≤ length work) where
     covered : b ≡ cover.Covered (length c.ends) (least (end_weights c))
     unfolding cover_verdict
-    covered = cover-answers c places work p (then_good _ passes (then_good _ (good_room places_room) (good_room work_room)))
+    covered = cover_answers c places work p (then_good _ passes (then_good _ (good_room places_room) (good_room work_room)))
 
     -- COVER refuses nothing here
-    pub cover-refused : {number place : ℕ} {s : Summary} → b ≡ cover.Refused number place → s ≡ checked_of c
-    cover-refused q = let h = covered in refuted (cc)
+    pub cover_refused : {number place : ℕ} {s : Summary} → b ≡ cover.Refused number place → s ≡ checked_of c
+    cover_refused q = let h = covered in refuted (cc)
 
     module _ {m paths : ℕ} (q : b ≡ cover.Covered m paths) where
       paths-least : paths ≡ least (end_weights c)
       paths-least = let h = covered in cc
 
       -- as few as the strings, so that no number wraps
-      pub paths-low : paths ≤ length c.ends
-      paths-low = omega (arith, paths-least, least_few (end_weights c), ends_count c)
+      pub paths_low : paths ≤ length c.ends
+      paths_low = omega (arith, paths-least, least_few (end_weights c), ends_count c)
 
       -- the numbers from these paths are those of the collection
       pub numbers-told : {n : Numbers} → n ≡ numbers_from c.k c.ends c.weights paths → Counted n ≡ Counted (numbers_of c)

@@ -5,7 +5,7 @@ use Prim.Native.Nat.{ℕ, ◌≤◌}
 use native.Mathlib.Omega.{arith}
 use lib.ListN.{length, take}
 use Rattle.lists.specs.Fill.{fill}
-use Rattle.lists.proofs.Storing.{length-fill, take-fill}
+use Rattle.lists.proofs.Storing.{length_fill, take_fill}
 use Rattle.lists.proofs.Refuted.{refuted}
 use Rattle.collection.specs.declared.Verdict.{Verdict}
 use Rattle.collection.specs.declared.Verdict.TheVariants.{Good, Bad}
@@ -33,7 +33,7 @@ report_writes bs text {n = n} {text' = text'} e f =
         let a : Written n ≡ Written (length (text_of bs)) = ap (λ (o : Outcome). o.answer) q in
         let x : n ≡ length (text_of bs) = cc in
         let y : text' ≡ fill (text_of bs) text = ap (λ (o : Outcome). o.text) q in
-        (omega (arith, ap length y, length-fill (text_of bs) text r), ap (take n) y ∙ take-fill (text_of bs) text n (sym x))
+        (omega (arith, ap length y, length_fill (text_of bs) text r), ap (take n) y ∙ take_fill (text_of bs) text n (sym x))
     go (Bad number place) h q =
         let a : Written n ≡ Refused number place = ap (λ (o : Outcome). o.answer) q in
         refuted (cc)

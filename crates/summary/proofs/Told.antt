@@ -6,7 +6,7 @@ use native.Mathlib.Omega.{arith}
 use borrow.Author.Tests.{le-leb, lt-leb}
 use lib.ListN.{length, take}
 use Rattle.lists.specs.Choose.{choose}
-use Rattle.lists.proofs.Storing.{length-fill}
+use Rattle.lists.proofs.Storing.{length_fill}
 use Rattle.lists.proofs.Refuted.{refuted}
 use Rattle.collection.specs.Collection.{collection}
 use Rattle.collection.specs.declared.Verdict.{Verdict}
@@ -21,7 +21,7 @@ use Rattle.sheet.specs.declared.ReadAnswer.{ReadAnswer}
 use Rattle.sheet.specs.declared.ReadAnswer.TheVariants as read
 use Rattle.sheet.specs.Read.{sheet_n, sheet_m, sheet_weights, read_verdict, ReadOutcome, read_outcome, read_of}
 use Rattle.sheet.specs.Sheet.{sheet_k, sheet_strings, sheet_verdict, Accepted}
-use Rattle.sheet.proofs.Calls.{ReadDone, read_done_lem, read-passes}
+use Rattle.sheet.proofs.Calls.{ReadDone, read_done_lem, read_passes}
 use Rattle.collection.proofs.Verdicts.{good_room}
 use Rattle.sheet.proofs.Taken.{takes_read}
 use Rattle.summary_text.specs.declared.Summary.{Summary}
@@ -50,9 +50,9 @@ module _ (bs : List ℕ) (t : Tables) (places work : ℕ) (l : length bs ≤ mos
       (then_good _ (good_room (omega (arith, r.ends_room))) (good_room (omega (arith, r.weights_room))))
 
   -- so READ never refuses by 1
-  read-judges : read_verdict bs (rooms_of t) ≡ and_then (long_verdict bs) (lines_verdict bs)
+  read_judges : read_verdict bs (rooms_of t) ≡ and_then (long_verdict bs) (lines_verdict bs)
   unfolding read_verdict lines_verdict and_then
-  read-judges =
+  read_judges =
       go (sheet_verdict bs) refl (size_verdict (sheet_n bs) (sheet_m bs))
       ∙ sym (ap (λ (v : Verdict). and_then v (and_then (sheet_verdict bs) (size_verdict (sheet_n bs) (sheet_m bs)))) short)
     where
@@ -74,9 +74,9 @@ module _ (bs : List ℕ) (t : Tables) (places work : ℕ) (l : length bs ≤ mos
         read_outcome (read.Filled (sheet_k bs) (sheet_n bs) (sheet_m bs) (sheet_weights bs)) (filled_by (sheet_strings bs) t)
 
     -- a refusal of READ is one of `tally`
-    pub read-refused : {number place : ℕ} → a ≡ read.Refused number place → Refused number place ≡ summary_of bs
+    pub read_refused : {number place : ℕ} → a ≡ read.Refused number place → Refused number place ≡ summary_of bs
     unfolding summary_of read_of settle
-    read-refused {number} {place} q = go (read_verdict bs (rooms_of t)) read-judges (answered q)
+    read_refused {number} {place} q = go (read_verdict bs (rooms_of t)) read_judges (answered q)
       where
         go : (v : Verdict) → v ≡ and_then (long_verdict bs) (lines_verdict bs)
             → (settle v (λ number place. read_outcome (read.Refused number place) t) filled).answer ≡ read.Refused number place
@@ -98,48 +98,48 @@ module _ (bs : List ℕ) (t : Tables) (places work : ℕ) (l : length bs ≤ mos
       unfolding read_of
       filled_is = ap (λ (o : ReadOutcome). o.answer) (settled _ refl verdict) ∙ answered q
 
-      letters-read : take n after.letters ≡ letters_in (sheet_strings bs)
-      letters-read = ap (λ (o : ReadOutcome). take n o.after.letters) e ∙ done.letters_are
+      letters_read : take n after.letters ≡ letters_in (sheet_strings bs)
+      letters_read = ap (λ (o : ReadOutcome). take n o.after.letters) e ∙ done.letters_are
 
       ends_read : take m after.ends ≡ ends_in 0 (sheet_strings bs)
       ends_read = ap (λ (o : ReadOutcome). take m o.after.ends) e ∙ done.ends_are
 
-      weights-read : take w after.weights ≡ weights_in (sheet_strings bs)
-      weights-read = ap (λ (o : ReadOutcome). take w o.after.weights) e ∙ done.weights_are
+      weights_read : take w after.weights ≡ weights_in (sheet_strings bs)
+      weights_read = ap (λ (o : ReadOutcome). take w o.after.weights) e ∙ done.weights_are
 
       read_is : read_outcome a after ≡ filled
       unfolding read_of
       read_is = e ∙ sym (settled _ refl verdict)
 
       -- the parts that READ filled are there
-      pub parts-inside : (n ≤ length after.letters) × (m ≤ length after.ends) × (w ≤ length after.weights)
-      parts-inside =
+      pub parts_inside : (n ≤ length after.letters) × (m ≤ length after.ends) × (w ≤ length after.weights)
+      parts_inside =
           let f = filled_is in
           let x : sheet_n bs ≡ n = cc in
           let y : sheet_m bs ≡ m = cc in
           let z : sheet_weights bs ≡ w = cc in
           let d = done.within in
-          let i = length-fill (letters_in (sheet_strings bs)) t.letters d.letters_room in
-          let j = length-fill (ends_in 0 (sheet_strings bs)) t.ends (omega (arith, ends-length 0 (sheet_strings bs), d.ends_room)) in
-          let k = length-fill (weights_in (sheet_strings bs)) t.weights d.weights_room in (
+          let i = length_fill (letters_in (sheet_strings bs)) t.letters d.letters_room in
+          let j = length_fill (ends_in 0 (sheet_strings bs)) t.ends (omega (arith, ends-length 0 (sheet_strings bs), d.ends_room)) in
+          let k = length_fill (weights_in (sheet_strings bs)) t.weights d.weights_room in (
             omega (arith, i, ap (λ (o : ReadOutcome). length o.after.letters) read_is, d.letters_room),
             omega (arith, j, ap (λ (o : ReadOutcome). length o.after.ends) read_is, d.ends_room),
             omega (arith, k, ap (λ (o : ReadOutcome). length o.after.weights) read_is, d.weights_room),
           )
 
       -- and make a judged collection that the other tables have room for
-      pub read-judged : Passes (collection_in k n m w after)
-      read-judged = ap (λ (o : ReadOutcome). collection_verdict (collection_in k n m w o.after)) e ∙ read-passes bs t k n m w (answered q)
+      pub read_judged : Passes (collection_in k n m w after)
+      read_judged = ap (λ (o : ReadOutcome). collection_verdict (collection_in k n m w o.after)) e ∙ read_passes bs t k n m w (answered q)
 
-      pub tables-room : (length (take m after.ends) ≤ places) × (16 * length (take m after.ends) ≤ work) × (4 * length (take w after.weights) ≤ work)
-      tables-room =
+      pub tables_room : (length (take m after.ends) ≤ places) × (16 * length (take m after.ends) ≤ work) × (4 * length (take w after.weights) ≤ work)
+      tables_room =
           let s = sheet_size bs done.accepted in
           let x : length (take m after.ends) ≡ sheet_m bs = ap length ends_read ∙ ends-length 0 (sheet_strings bs) in
-          let y : length (take w after.weights) ≡ sheet_weights bs = ap length weights-read in
+          let y : length (take w after.weights) ≡ sheet_weights bs = ap length weights_read in
           (omega (arith, r.places_room), omega (arith, r.work_room), omega (arith, r.work_room))
 
       -- what is told of the collection is told of the sheet
       pub read_told : {s : Summary} → s ≡ checked_of (collection_in k n m w after) → s ≡ summary_of bs
       unfolding summary_of
       read_told t =
-          t ∙ ((λ i. checked_of (collection (done.k_is i) (letters-read i) (ends_read i) (weights-read i))) ∙ settled Refused refl (sym read-judges ∙ verdict))
+          t ∙ ((λ i. checked_of (collection (done.k_is i) (letters_read i) (ends_read i) (weights_read i))) ∙ settled Refused refl (sym read_judges ∙ verdict))

@@ -19,8 +19,8 @@ use Rattle.lists.proofs.Compare.{lt_or_le}
 use Rattle.lists.proofs.Count.{length_count}
 use Rattle.lists.proofs.Agree.{agree_same, agree-other}
 use Rattle.lists.proofs.Every.{all_map}
-use Rattle.lists.proofs.Mapped.{values-at}
-use Rattle.lists.proofs.Sorts.{insert-nil, insert-le, insert-gt, sort_by-nil, sort_by-cons, sort_by-ordered}
+use Rattle.lists.proofs.Mapped.{values_at}
+use Rattle.lists.proofs.Sorts.{insert-nil, insert_le, insert_gt, sort_by_nil, sort_by_cons, sort_by_ordered}
 use Rattle.sorting.specs.Keys.{key_at}
 use Rattle.runs.specs.Runs.{run_count}
 use Rattle.runs.proofs.Joined.{count_none, count_one, count_cons}
@@ -82,7 +82,7 @@ behind_runs y w (v ∷ vs) o l = go (lt_or_le v w) (behind_runs v w vs o.1)
         let ne : w ≡ v → ⊥ = λ e. omega arith in
         omega (
           arith,
-          ap (λ (x : List ℕ). run_count (y ∷ x)) (insert-gt itself w v vs m),
+          ap (λ (x : List ℕ). run_count (y ∷ x)) (insert_gt itself w v vs m),
           count_cons y v (insert itself w vs),
           count_cons y v vs,
           r m,
@@ -93,7 +93,7 @@ behind_runs y w (v ∷ vs) o l = go (lt_or_le v w) (behind_runs v w vs o.1)
         let y-v : y ≡ v → ⊥ = λ e. omega arith in
         omega (
           arith,
-          ap (λ (x : List ℕ). run_count (y ∷ x)) (insert-le itself w v vs m),
+          ap (λ (x : List ℕ). run_count (y ∷ x)) (insert_le itself w v vs m),
           count_cons y w (v ∷ vs),
           agree-other y w y-w,
           count_cons y v vs,
@@ -108,8 +108,8 @@ insert-runs w (v ∷ vs) o = go (lt_or_le v w)
     go : (v < w) ⊎ (w ≤ v) → run_count (insert itself w (v ∷ vs)) ≡ fresh w (v ∷ vs) + run_count (v ∷ vs)
     go (inl m) =
         let ne : w ≡ v → ⊥ = λ e. omega arith in
-        omega (arith, ap run_count (insert-gt itself w v vs m), behind_runs v w vs o m, fresh-other w v vs ne)
-    go (inr m) = ap run_count (insert-le itself w v vs m) ∙ before-runs w v vs o m
+        omega (arith, ap run_count (insert_gt itself w v vs m), behind_runs v w vs o m, fresh-other w v vs ne)
+    go (inr m) = ap run_count (insert_le itself w v vs m) ∙ before-runs w v vs o m
 
 -- ─── sorted numbers ──────────────────────────────────────────────────────────
 
@@ -128,16 +128,16 @@ is_in_insert w x (v ∷ vs) = go (lt_or_le v x) (is_in_insert w x vs)
   where
     go : (v < x) ⊎ (x ≤ v) → is_in w (insert itself x vs) ≡ is_in w (x ∷ vs) → is_in w (insert itself x (v ∷ vs)) ≡ is_in w (x ∷ (v ∷ vs))
     go (inl m) r =
-        ap (is_in w) (insert-gt itself x v vs m)
+        ap (is_in w) (insert_gt itself x v vs m)
         ∙ (is_in_cons w v (insert itself x vs)
         ∙ (ap (λ (b : Bool). eqb w v || b) (r ∙ is_in_cons w x vs)
         ∙ (or_swap (eqb w v) (eqb w x) (is_in w vs) ∙ sym (is_in_cons w x (v ∷ vs) ∙ ap (λ (b : Bool). eqb w x || b) (is_in_cons w v vs)))))
-    go (inr m) r = ap (is_in w) (insert-le itself x v vs m)
+    go (inr m) r = ap (is_in w) (insert_le itself x v vs m)
 
 is_in_sorted : (w : ℕ) (vs : List ℕ) → is_in w (sort_by itself vs) ≡ is_in w vs
-is_in_sorted w [] = ap (is_in w) (sort_by-nil itself)
+is_in_sorted w [] = ap (is_in w) (sort_by_nil itself)
 is_in_sorted w (v ∷ vs) =
-    ap (is_in w) (sort_by-cons itself v vs)
+    ap (is_in w) (sort_by_cons itself v vs)
     ∙ (is_in_insert w v (sort_by itself vs)
     ∙ (is_in_cons w v (sort_by itself vs) ∙ (ap (λ (b : Bool). eqb w v || b) (is_in_sorted w vs) ∙ sym (is_in_cons w v vs))))
 
@@ -148,9 +148,9 @@ fresh_sorted w vs = ap (λ (b : Bool). choose b 0 1) (is_in_sorted w vs)
 -- the runs of sorted numbers are the different numbers
 pub sorted_runs : (ws : List ℕ) → run_count (sort_by itself ws) ≡ distinct ws
 unfolding distinct
-sorted_runs [] = ap run_count (sort_by-nil itself) ∙ count_none
+sorted_runs [] = ap run_count (sort_by_nil itself) ∙ count_none
 sorted_runs (w ∷ ws) =
-    omega (arith, ap run_count (sort_by-cons itself w ws), insert-runs w (sort_by itself ws) (sort_by-ordered itself ws), fresh_sorted w ws, sorted_runs ws)
+    omega (arith, ap run_count (sort_by_cons itself w ws), insert-runs w (sort_by itself ws) (sort_by_ordered itself ws), fresh_sorted w ws, sorted_runs ws)
 
 -- ─── sorted by their ids ─────────────────────────────────────────────────────
 
@@ -159,19 +159,19 @@ map-insert f x [] = ap (map f) (insert-nil f x) ∙ sym (insert-nil itself (f x)
 map-insert f x (y ∷ ys) = go (lt_or_le (f y) (f x)) (map-insert f x ys)
   where
     go : (f y < f x) ⊎ (f x ≤ f y) → map f (insert f x ys) ≡ insert itself (f x) (map f ys) → map f (insert f x (y ∷ ys)) ≡ insert itself (f x) (f y ∷ map f ys)
-    go (inl m) r = ap (map f) (insert-gt f x y ys m) ∙ (ap (λ (l : List ℕ). f y ∷ l) r ∙ sym (insert-gt itself (f x) (f y) (map f ys) m))
-    go (inr m) r = ap (map f) (insert-le f x y ys m) ∙ sym (insert-le itself (f x) (f y) (map f ys) m)
+    go (inl m) r = ap (map f) (insert_gt f x y ys m) ∙ (ap (λ (l : List ℕ). f y ∷ l) r ∙ sym (insert_gt itself (f x) (f y) (map f ys) m))
+    go (inr m) r = ap (map f) (insert_le f x y ys m) ∙ sym (insert_le itself (f x) (f y) (map f ys) m)
 
 map_sorted : (f : ℕ → ℕ) (xs : List ℕ) → map f (sort_by f xs) ≡ sort_by itself (map f xs)
-map_sorted f [] = ap (map f) (sort_by-nil f) ∙ sym (sort_by-nil itself)
+map_sorted f [] = ap (map f) (sort_by_nil f) ∙ sym (sort_by_nil itself)
 map_sorted f (x ∷ xs) =
-    ap (map f) (sort_by-cons f x xs) ∙ (map-insert f x (sort_by f xs) ∙ (ap (insert itself (f x)) (map_sorted f xs) ∙ sym (sort_by-cons itself (f x) (map f xs))))
+    ap (map f) (sort_by_cons f x xs) ∙ (map-insert f x (sort_by f xs) ∙ (ap (insert itself (f x)) (map_sorted f xs) ∙ sym (sort_by_cons itself (f x) (map f xs))))
 
 -- the weights of all ids are the weights
 all_weights : (ws : List ℕ) → map (key_at ws) (count_from 0 (length ws)) ≡ ws
 all_weights ws =
     let n : length (map (key_at ws) (count_from 0 (length ws))) ≡ length ws = length-map (count_from 0 (length ws)) (key_at ws) ∙ length_count 0 (length ws) in
-    ext_get_or 0 (map (key_at ws) (count_from 0 (length ws))) ws n (λ i l. values-at (key_at ws) 0 0 (length ws) i (omega (arith, n)) ∙ at i)
+    ext_get_or 0 (map (key_at ws) (count_from 0 (length ws))) ws n (λ i l. values_at (key_at ws) 0 0 (length ws) i (omega (arith, n)) ∙ at i)
   where
     at : (i : ℕ) → key_at ws (0 + i) ≡ get_or ws i 0
     at i = let e : 0 + i ≡ i = omega arith in ap (key_at ws) e

@@ -13,16 +13,16 @@ use Rattle.lists.specs.Fill.{fill}
 use Rattle.lists.specs.Pick.{sort_by}
 use Rattle.lists.specs.Regions.{part, Only}
 use Rattle.lists.proofs.Count.{all_count}
-use Rattle.lists.proofs.Every.{all-at}
-use Rattle.lists.proofs.Puts.{put-part}
-use Rattle.lists.proofs.Regions.{part-is, part-lent, part_length, only_part}
-use Rattle.lists.proofs.Sorts.{all-sort_by}
-use Rattle.lists.proofs.Storing.{Storing, begin, store, restated, stored, drop_next, put-start, length-fill}
+use Rattle.lists.proofs.Every.{all_at}
+use Rattle.lists.proofs.Puts.{put_part}
+use Rattle.lists.proofs.Regions.{part_is, part-lent, part_length, only_part}
+use Rattle.lists.proofs.Sorts.{all_sort_by}
+use Rattle.lists.proofs.Storing.{Storing, begin, store, restated, stored, drop_next, put_start, length_fill}
 use Rattle.runs.specs.Runs.{run_count}
 use Rattle.sorting.specs.Keys.{key_at}
 use Rattle.sorting.specs.Layout.{Laid}
 use Rattle.sorting.specs.Promises.{Sorted}
-use Rattle.sorting.proofs.Laws.{numbered-only, numbered-part}
+use Rattle.sorting.proofs.Laws.{numbered_only, numbered-part}
 use Rattle.collection_faults.proofs.Finding.{weights_low}
 use Rattle.summary_counts.specs.Counts.{distinct}
 use Rattle.summary_counts.specs.Inner.{Weighed}
@@ -42,8 +42,8 @@ weighing ws ids = record { storing = begin ids (map (key_at ws) ids) (omega (ari
 module _ {ws ids₀ ids : List ℕ} {i : ℕ} (g : Weighing ws ids₀ ids i) where
   module _ (l : i < length ids) where
     -- the next id has a weight
-    pub id-low : All (λ x. x < length ws) ids₀ → get_or ids i 0 < length ws
-    id-low h = subst (λ (x : ℕ). x < length ws) (sym (g.rest i (omega arith))) (all-at (λ x. x < length ws) ids₀ h i 0 (omega (arith, g.storing.size_kept)))
+    pub id_low : All (λ x. x < length ws) ids₀ → get_or ids i 0 < length ws
+    id_low h = subst (λ (x : ℕ). x < length ws) (sym (g.rest i (omega arith))) (all_at (λ x. x < length ws) ids₀ h i 0 (omega (arith, g.storing.size_kept)))
 
     -- it is replaced too
     pub weighed : {x : ℕ} → x ≡ get_or ids i 0 → Weighing ws ids₀ (set ids i (get_or ws x 0)) (i + 1)
@@ -68,34 +68,34 @@ module _ {ws ids₀ ids : List ℕ} {i : ℕ} (g : Weighing ws ids₀ ids i) whe
 
 -- w₁ has the weights, w₂ the ids behind them, w₃ these in the order of their weights
 module _ (ws w₀ : List ℕ) {w₁ : List ℕ} (g : Weighed ws) (room : 3 * length ws ≤ length w₀) (a : w₁ ≡ fill ws w₀) where
-  copied-size : length w₁ ≡ length w₀
-  copied-size = ap length a ∙ length-fill ws w₀ (omega arith)
+  copied_size : length w₁ ≡ length w₀
+  copied_size = ap length a ∙ length_fill ws w₀ (omega arith)
 
   -- the ids fit behind the weights
-  pub ids-fit : length ws + length ws ≤ length w₁
-  ids-fit = omega (arith, copied-size)
+  pub ids_fit : length ws + length ws ≤ length w₁
+  ids_fit = omega (arith, copied_size)
 
   -- and each fits an entry
-  pub ids-few : length (take (length ws + length ws - length ws) (drop (length ws) w₁)) < 2 ^ 32
-  ids-few = omega (arith, ap length (part-lent (length ws) (length ws) w₁), part_length (length ws) (length ws) w₁ ids-fit, g.few)
+  pub ids_few : length (take (length ws + length ws - length ws) (drop (length ws) w₁)) < 2 ^ 32
+  ids_few = omega (arith, ap length (part-lent (length ws) (length ws) w₁), part_length (length ws) (length ws) w₁ ids_fit, g.few)
 
   module _ {ids : List ℕ} (b : ids ≡ count_from 0 (length (take (length ws + length ws - length ws) (drop (length ws) w₁)))) where
     abbrev w₂ : List ℕ
     w₂ = put_mid (length ws) (length ws + length ws - length ws) w₁ ids
 
     only : Only (length ws) (length ws) w₁ w₂
-    only = numbered-only (length ws) (length ws) w₁ ids-fit b
+    only = numbered_only (length ws) (length ws) w₁ ids_fit b
 
-    table-size : length w₂ ≡ length w₀
-    table-size = only.size ∙ copied-size
+    table_size : length w₂ ≡ length w₀
+    table_size = only.size ∙ copied_size
 
     keys_are : part 0 (length ws) w₂ ≡ ws
     keys_are =
-        only_part (length ws) (length ws) w₁ w₂ only 0 (length ws) (inl (omega arith)) (omega (arith, copied-size))
-        ∙ (ap (part 0 (length ws)) (a ∙ sym (put-start ws w₀)) ∙ put-part 0 ws w₀ (omega arith))
+        only_part (length ws) (length ws) w₁ w₂ only 0 (length ws) (inl (omega arith)) (omega (arith, copied_size))
+        ∙ (ap (part 0 (length ws)) (a ∙ sym (put_start ws w₀)) ∙ put_part 0 ws w₀ (omega arith))
 
-    ids-are : part (length ws) (length ws) w₂ ≡ count_from 0 (length ws)
-    ids-are = numbered-part (length ws) (length ws) w₁ ids-fit b
+    ids_are : part (length ws) (length ws) w₂ ≡ count_from 0 (length ws)
+    ids_are = numbered-part (length ws) (length ws) w₁ ids_fit b
 
     -- what the sort asks
     pub ready : Laid (length w₂) 0 (length ws) (length ws) (length ws + length ws) (length ws)
@@ -103,36 +103,36 @@ module _ (ws w₀ : List ℕ) {w₁ : List ℕ} (g : Weighed ws) (room : 3 * len
     ready = (
       record {
         few = omega (arith, g.few);
-        keys_inside = omega (arith, table-size);
-        ids_inside = omega (arith, table-size);
-        buf_inside = omega (arith, table-size);
+        keys_inside = omega (arith, table_size);
+        ids_inside = omega (arith, table_size);
+        buf_inside = omega (arith, table_size);
         ids_buf = inl (omega arith);
         keys_ids = inl (omega arith);
         keys_buf = inl (omega arith);
       },
       (
-        subst (All (λ x. x < length ws)) (sym ids-are) (all_count (λ x. x < length ws) 0 (length ws) (λ j u v. omega arith)),
+        subst (All (λ x. x < length ws)) (sym ids_are) (all_count (λ x. x < length ws) 0 (length ws) (λ j u v. omega arith)),
         subst (All (λ k. k < 2 ^ 24)) (sym keys_are) (weights_low ws g.within_range),
       ),
     )
 
     module _ {w₃ : List ℕ} (s : Sorted (key_at (part 0 (length ws) w₂)) (length ws) (length ws + length ws) (length ws) w₂ w₃) where
       -- the table keeps its length
-      pub sorted-size : length w₃ ≡ length w₀
-      sorted-size = s.rest.size ∙ table-size
+      pub sorted_size : length w₃ ≡ length w₀
+      sorted_size = s.rest.size ∙ table_size
 
       order_is : take (length ws + length ws - length ws) (drop (length ws) w₃) ≡ sort_by (key_at ws) (count_from 0 (length ws))
       order_is =
           let n : length ws + length ws - length ws ≡ length ws = omega arith in
           ap (λ (x : ℕ). take x (drop (length ws) w₃)) n
-          ∙ (sym (part-is (length ws) (length ws) w₃)
-          ∙ (s.arranged ∙ (ap (λ (x : List ℕ). sort_by (key_at x) (part (length ws) (length ws) w₂)) keys_are ∙ ap (sort_by (key_at ws)) ids-are)))
+          ∙ (sym (part_is (length ws) (length ws) w₃)
+          ∙ (s.arranged ∙ (ap (λ (x : List ℕ). sort_by (key_at x) (part (length ws) (length ws) w₂)) keys_are ∙ ap (sort_by (key_at ws)) ids_are)))
 
       -- the sorted ids have weights
-      pub order-low : All (λ x. x < length ws) (take (length ws + length ws - length ws) (drop (length ws) w₃))
-      order-low =
+      pub order_low : All (λ x. x < length ws) (take (length ws + length ws - length ws) (drop (length ws) w₃))
+      order_low =
           subst (All (λ x. x < length ws)) (sym order_is)
-          (all-sort_by (key_at ws) (λ x. x < length ws) (count_from 0 (length ws)) (all_count (λ x. x < length ws) 0 (length ws) (λ j u v. omega arith)))
+          (all_sort_by (key_at ws) (λ x. x < length ws) (count_from 0 (length ws)) (all_count (λ x. x < length ws) 0 (length ws) (λ j u v. omega arith)))
 
       -- and the runs of these are the different weights
       pub different : {r : ℕ} → r ≡ run_count (map (key_at ws) (take (length ws + length ws - length ws) (drop (length ws) w₃)))

@@ -11,7 +11,7 @@ use Rattle.collection.specs.Collection.{Collection}
 use Rattle.collection.specs.Kmers.{within}
 use Rattle.collection.specs.Strings.{strings_from}
 use Rattle.collection.specs.Ready.{Strung}
-use Rattle.collection.proofs.Strung.{WeightsLeft, weights_begin, string-here, weights-inside, weights-on}
+use Rattle.collection.proofs.Strung.{WeightsLeft, weights_begin, string_here, weights_inside, weights_on}
 use Rattle.runs.specs.Runs.{run_count, inner_runs}
 use Rattle.runs.proofs.Joined.{count_none, count_one, count_cons, runs-some}
 use Rattle.summary_counts.specs.Inner.{inner_from}
@@ -54,21 +54,21 @@ module _ {k : ℕ} {ends ws : List ℕ} {before passed r i : ℕ} (g : Adding k 
     abbrev here : List ℕ
     here = take (passed + within k before e - passed) (drop passed ws)
 
-    here-size : length here ≡ within k before e
-    here-size =
+    here_size : length here ≡ within k before e
+    here_size =
         let n : passed + within k before e - passed ≡ within k before e = omega arith in
-        length-take-le (passed + within k before e - passed) (drop passed ws) (simp length-drop (omega (arith, weights-inside g.walk l is))) ∙ n
+        length-take-le (passed + within k before e - passed) (drop passed ws) (simp length-drop (omega (arith, weights_inside g.walk l is))) ∙ n
 
-    here-few : run_count (take (passed + within k before e - passed) (drop passed ws)) ≤ within k before e
-    here-few = omega (arith, runs_few here, here-size)
+    here_few : run_count (take (passed + within k before e - passed) (drop passed ws)) ≤ within k before e
+    here_few = omega (arith, runs_few here, here_size)
 
     -- the runs counted, with its own, are no more than the weights
-    pub runs-inside : {x : ℕ} → x ≡ run_count (take (passed + within k before e - passed) (drop passed ws)) → r + x ≤ length ws
-    runs-inside q = omega (arith, q, here-few, g.few, weights-inside g.walk l is)
+    pub runs_inside : {x : ℕ} → x ≡ run_count (take (passed + within k before e - passed) (drop passed ws)) → r + x ≤ length ws
+    runs_inside q = omega (arith, q, here_few, g.few, weights_inside g.walk l is)
 
-    inner-next : inner_from k before (drop i ends) (drop passed ws) ≡ run_count here + inner_from k e (drop (i + 1) ends) (drop (passed + within k before e) ws)
+    inner_next : inner_from k before (drop i ends) (drop passed ws) ≡ run_count here + inner_from k e (drop (i + 1) ends) (drop (passed + within k before e) ws)
     unfolding inner_from
-    inner-next =
+    inner_next =
         let n : passed + within k before e - passed ≡ within k before e = omega arith in
         ap (λ (x : List ℕ). inner_from k before x (drop passed ws)) (drop_next ends i 0 l ∙ ap (λ (x : ℕ). x ∷ drop (i + 1) ends) (sym is))
         ∙ ap₂ (λ (x : ℕ) (y : List ℕ). run_count (take x (drop passed ws)) + inner_from k e (drop (i + 1) ends) y) (sym n)
@@ -79,16 +79,16 @@ module _ {k : ℕ} {ends ws : List ℕ} {before passed r i : ℕ} (g : Adding k 
         → Adding k ends ws e (passed + within k before e) (r + x) (i + 1)
     added k1 q =
         record {
-          walk = weights-on g.walk l is k1;
-          few = omega (arith, q, here-few, g.few);
-          some = omega (arith, q, runs-some here (omega (arith, here-size, (string-here g.walk l is).long)), g.some);
-          sums = omega (arith, q, inner-next, g.sums);
+          walk = weights_on g.walk l is k1;
+          few = omega (arith, q, here_few, g.few);
+          some = omega (arith, q, runs-some here (omega (arith, here_size, (string_here g.walk l is).long)), g.some);
+          sums = omega (arith, q, inner_next, g.sums);
         }
 
   -- at the end it is R of all strings, at most the number of weights and at least that of strings
-  pub added-all : length ends ≤ i → (r ≡ inner_from k 0 ends ws) × (r ≤ length ws) × (length ends ≤ r)
+  pub added_all : length ends ≤ i → (r ≡ inner_from k 0 ends ws) × (r ≤ length ws) × (length ends ≤ r)
   unfolding inner_from
-  added-all h = (
+  added_all h = (
     omega (arith, g.sums, ap (λ (x : List ℕ). inner_from k before x (drop passed ws)) (drop_of_length-le ends h)),
     omega (arith, g.few, g.walk.left),
     omega (arith, g.some),

@@ -51,8 +51,8 @@ module _ {w b p : ℕ} (d : Doubling w b p) where
       }
 
   -- enough bits
-  pub doubled-enough : w ≤ p → b ≡ bits_for w
-  doubled-enough l = sym (from_here (w - b) b w (omega (arith, d.power))) ∙ d.rest
+  pub doubled_enough : w ≤ p → b ≡ bits_for w
+  doubled_enough l = sym (from_here (w - b) b w (omega (arith, d.power))) ∙ d.rest
 
 -- ─── the least ───────────────────────────────────────────────────────────────
 

@@ -21,18 +21,18 @@ module _ (bytes text : List ℕ) {n : ℕ} (e : n ≡ length bytes) {v : Verdict
   verdict = judged ∙ ap (room_verdict (length text)) e
 
   -- no room: the table stays
-  pub written-refused : {number place : ℕ} → v ≡ Bad number place → outcome (answer.Refused number place) text ≡ written_of bytes text
+  pub written_refused : {number place : ℕ} → v ≡ Bad number place → outcome (answer.Refused number place) text ≡ written_of bytes text
   unfolding written_of
-  written-refused q = refused (λ number place. outcome (answer.Refused number place) text) _ (sym verdict ∙ q)
+  written_refused q = refused (λ number place. outcome (answer.Refused number place) text) _ (sym verdict ∙ q)
 
   -- room
-  pub written-room : v ≡ Good → length bytes ≤ length text
-  written-room q = room_good _ _ (sym verdict ∙ q)
+  pub written_room : v ≡ Good → length bytes ≤ length text
+  written_room q = room_good _ _ (sym verdict ∙ q)
 
   -- the stored bytes are what writing leaves
-  pub written-done : v ≡ Good → {p : ℕ} {text' : List ℕ} → p ≡ length bytes → text' ≡ fill bytes text → outcome (answer.Written p) text' ≡ written_of bytes text
+  pub written_done : v ≡ Good → {p : ℕ} {text' : List ℕ} → p ≡ length bytes → text' ≡ fill bytes text → outcome (answer.Written p) text' ≡ written_of bytes text
   unfolding written_of
-  written-done q x y = settled (λ number place. outcome (answer.Refused number place) text) (λ i. outcome (answer.Written (x i)) (y i)) (sym verdict ∙ q)
+  written_done q x y = settled (λ number place. outcome (answer.Refused number place) text) (λ i. outcome (answer.Written (x i)) (y i)) (sym verdict ∙ q)
 
 -- the text of each kind of summary
 text_counted : {s : Summary} {n : Numbers} → s ≡ Counted n → text_for s ≡ counted_text n
@@ -45,11 +45,11 @@ text_refused {place = place} q n = ap text_for q ∙ ap (λ (x : ℕ). refused_t
 
 -- what is promised of the text is promised of the summary
 module _ (text : List ℕ) {s : Summary} {o : Outcome} {most : ℕ} where
-  pub of-counted : {n : Numbers} → s ≡ Counted n → (o ≡ written_of (counted_text n) text) × (length (counted_text n) ≤ most)
+  pub of_counted : {n : Numbers} → s ≡ Counted n → (o ≡ written_of (counted_text n) text) × (length (counted_text n) ≤ most)
       → (o ≡ written_of (text_for s) text) × (length (text_for s) ≤ most)
-  of-counted q w = subst (λ (t : List ℕ). (o ≡ written_of t text) × (length t ≤ most)) (sym (text_counted q)) w
+  of_counted q w = subst (λ (t : List ℕ). (o ≡ written_of t text) × (length t ≤ most)) (sym (text_counted q)) w
 
-  pub of-refused : {number number' place : ℕ} → s ≡ Refused number place → number' ≡ number
+  pub of_refused : {number number' place : ℕ} → s ≡ Refused number place → number' ≡ number
       → (o ≡ written_of (refused_text number' place) text) × (length (refused_text number' place) ≤ most)
       → (o ≡ written_of (text_for s) text) × (length (text_for s) ≤ most)
-  of-refused q n w = subst (λ (t : List ℕ). (o ≡ written_of t text) × (length t ≤ most)) (sym (text_refused q n)) w
+  of_refused q n w = subst (λ (t : List ℕ). (o ≡ written_of t text) × (length t ≤ most)) (sym (text_refused q n)) w

@@ -7,10 +7,10 @@ use lib.ListN.{length, take, drop, set, length-append}
 use lib.Seq.{take_all}
 use Rattle.lists.specs.Fill.{put, fill}
 use Rattle.lists.proofs.Puts.{put_only}
-use Rattle.lists.proofs.Storing.{Storing, begin-at, begin, inside, store, restated, stored}
+use Rattle.lists.proofs.Storing.{Storing, begin_at, begin, inside, store, restated, stored}
 use Rattle.text.specs.Numbers.{digits}
 use Rattle.text.specs.Parts.{tab, feed}
-use Rattle.text.proofs.Blocks.{block_room, store-block}
+use Rattle.text.proofs.Blocks.{block_room, store_block}
 use Rattle.summary_text.specs.declared.Numbers.{Numbers}
 use Rattle.summary_text.specs.Text.{
   entry,
@@ -57,33 +57,33 @@ module _ (l₁ : List ℕ) (n₁ : ℕ) (l₂ : List ℕ) (n₂ : ℕ) (l₃ : L
   abbrev three : List (List ℕ × ℕ)
   three = (l₁, n₁) ∷ (l₂, n₂) ∷ (l₃, n₃) ∷ []
 
-  three-lines : length (lines three) ≡ length (line l₁ n₁) + length (line l₂ n₂) + length (line l₃ n₃)
-  three-lines = omega (arith, lines_more l₁ n₁ ((l₂, n₂) ∷ (l₃, n₃) ∷ []), lines_more l₂ n₂ ((l₃, n₃) ∷ []), lines_more l₃ n₃ [], lines_none)
+  three_lines : length (lines three) ≡ length (line l₁ n₁) + length (line l₂ n₂) + length (line l₃ n₃)
+  three_lines = omega (arith, lines_more l₁ n₁ ((l₂, n₂) ∷ (l₃, n₃) ∷ []), lines_more l₂ n₂ ((l₃, n₃) ∷ []), lines_more l₃ n₃ [], lines_none)
 
-  three-length : length (lines three) ≡ length l₁ + length l₂ + length l₃ + (length (digits n₁) + length (digits n₂) + length (digits n₃) + 6)
-  three-length = omega (arith, three-lines, line-length l₁ n₁, line-length l₂ n₂, line-length l₃ n₃)
+  three_length : length (lines three) ≡ length l₁ + length l₂ + length l₃ + (length (digits n₁) + length (digits n₂) + length (digits n₃) + 6)
+  three_length = omega (arith, three_lines, line-length l₁ n₁, line-length l₂ n₂, line-length l₃ n₃)
 
 module _ (n : Numbers) where
   abbrev first_three : List (List ℕ × ℕ)
   first_three = three strings_label n.strings kmers_label n.kmers total_label n.total
 
-  abbrev next-three : List (List ℕ × ℕ)
-  next-three = three inner_label n.inner given_label n.given paths_label n.paths
+  abbrev next_three : List (List ℕ × ℕ)
+  next_three = three inner_label n.inner given_label n.given paths_label n.paths
 
-  abbrev last-three : List (List ℕ × ℕ)
-  last-three = three least_label n.least distinct_label n.distinct bits_label n.bits
+  abbrev last_three : List (List ℕ × ℕ)
+  last_three = three least_label n.least distinct_label n.distinct bits_label n.bits
 
   -- the nine lines are three times three
-  nine-parts : counted_text n ≡ lines first_three ++ (lines next-three ++ lines last-three)
+  nine_parts : counted_text n ≡ lines first_three ++ (lines next_three ++ lines last_three)
   unfolding counted_text
-  nine-parts = lines-append first_three (next-three ++ last-three) ∙ ap (λ (r : List ℕ). lines first_three ++ r) (lines-append next-three last-three)
+  nine_parts = lines-append first_three (next_three ++ last_three) ∙ ap (λ (r : List ℕ). lines first_three ++ r) (lines-append next_three last_three)
 
-  nine-lines : length (counted_text n) ≡ length (lines first_three) + (length (lines next-three) + length (lines last-three))
-  nine-lines = omega (
+  nine_lines : length (counted_text n) ≡ length (lines first_three) + (length (lines next_three) + length (lines last_three))
+  nine_lines = omega (
     arith,
-    ap length nine-parts,
-    length-append (lines first_three) (lines next-three ++ lines last-three),
-    length-append (lines next-three) (lines last-three),
+    ap length nine_parts,
+    length-append (lines first_three) (lines next_three ++ lines last_three),
+    length-append (lines next_three) (lines last_three),
   )
 
   -- the nine labels have 49 letters
@@ -97,10 +97,10 @@ module _ (n : Numbers) where
         p,
         q,
         r,
-        nine-lines,
-        three-length strings_label n.strings kmers_label n.kmers total_label n.total,
-        three-length inner_label n.inner given_label n.given paths_label n.paths,
-        three-length least_label n.least distinct_label n.distinct bits_label n.bits,
+        nine_lines,
+        three_length strings_label n.strings kmers_label n.kmers total_label n.total,
+        three_length inner_label n.inner given_label n.given paths_label n.paths,
+        three_length least_label n.least distinct_label n.distinct bits_label n.bits,
       )
 
 -- `refused`, two tabs and a feed are ten bytes
@@ -115,55 +115,55 @@ whole : (l : List ℕ) → take (length l - 0) (drop 0 l) ≡ l
 whole l = take_all (length l - 0) l (omega arith)
 
 module _ (label : List ℕ) (n at : ℕ) (out : List ℕ) (room : at + length (entry label n) ≤ length out) where
-  entry-begun : Storing (length out) out (put at (entry label n) out) (label ++ (tab ∷ digits n)) at
+  entry_begun : Storing (length out) out (put at (entry label n) out) (label ++ (tab ∷ digits n)) at
   unfolding entry
-  entry-begun = begin-at at out (entry label n) room
+  entry_begun = begin_at at out (entry label n) room
 
   -- the label fits, then the tab, then the number
-  pub label-room : at + (length label - 0) ≤ length out
-  label-room = omega (arith, entry_length label n)
+  pub label_room : at + (length label - 0) ≤ length out
+  label_room = omega (arith, entry_length label n)
 
   module _ {out₁ : List ℕ} (f : out₁ ≡ put at (take (length label - 0) (drop 0 label)) out) where
     labelled : Storing (length out) out₁ (put at (entry label n) out) (tab ∷ digits n) (at + length label)
-    labelled = store-block label (tab ∷ digits n) entry-begun (f ∙ ap (λ (l : List ℕ). put at l out) (whole label)) refl
+    labelled = store_block label (tab ∷ digits n) entry_begun (f ∙ ap (λ (l : List ℕ). put at l out) (whole label)) refl
 
-    pub tab-inside : at + length label < length out₁
-    tab-inside = inside labelled
+    pub tab_inside : at + length label < length out₁
+    tab_inside = inside labelled
 
-    pub digits-room : at + length label + 1 + length (digits n) ≤ length (set out₁ (at + length label) tab)
-    digits-room = (store labelled).room
+    pub digits_room : at + length label + 1 + length (digits n) ≤ length (set out₁ (at + length label) tab)
+    digits_room = (store labelled).room
 
     -- the table keeps its length
-    pub entry-size : {out₂ : List ℕ} → out₂ ≡ put (at + length label + 1) (digits n) (set out₁ (at + length label) tab) → length out₂ ≡ length out
-    entry-size g = ap length g ∙ ((put_only (at + length label + 1) (digits n) (set out₁ (at + length label) tab) digits-room).size ∙ (store labelled).size_kept)
+    pub entry_size : {out₂ : List ℕ} → out₂ ≡ put (at + length label + 1) (digits n) (set out₁ (at + length label) tab) → length out₂ ≡ length out
+    entry_size g = ap length g ∙ ((put_only (at + length label + 1) (digits n) (set out₁ (at + length label) tab) digits_room).size ∙ (store labelled).size_kept)
 
     -- label, tab and number are the entry
-    pub entry-end : {p : ℕ} {out₂ : List ℕ} → p ≡ at + length label + 1 + length (digits n)
+    pub entry_end : {p : ℕ} {out₂ : List ℕ} → p ≡ at + length label + 1 + length (digits n)
         → out₂ ≡ put (at + length label + 1) (digits n) (set out₁ (at + length label) tab)
         → (p ≡ at + length (entry label n)) × (out₂ ≡ put at (entry label n) out)
-    entry-end q g = (omega (arith, q, entry_length label n), g ∙ (store labelled).ends)
+    entry_end q g = (omega (arith, q, entry_length label n), g ∙ (store labelled).ends)
 
 -- ─── a line ──────────────────────────────────────────────────────────────────
 
 module _ (label : List ℕ) (n at : ℕ) (out : List ℕ) (room : at + length (line label n) ≤ length out) where
-  line-begun : Storing (length out) out (put at (line label n) out) (entry label n ++ (feed ∷ [])) at
+  line_begun : Storing (length out) out (put at (line label n) out) (entry label n ++ (feed ∷ [])) at
   unfolding line
-  line-begun = begin-at at out (line label n) room
+  line_begun = begin_at at out (line label n) room
 
   -- the entry fits, then the line feed
-  pub entry-room : at + length (entry label n) ≤ length out
-  entry-room = block_room (entry label n) (feed ∷ []) line-begun
+  pub entry_room : at + length (entry label n) ≤ length out
+  entry_room = block_room (entry label n) (feed ∷ []) line_begun
 
   module _ {p : ℕ} {out₁ : List ℕ} (q : p ≡ at + length (entry label n)) (f : out₁ ≡ put at (entry label n) out) where
     ended : Storing (length out) out₁ (put at (line label n) out) (feed ∷ []) p
-    ended = store-block (entry label n) (feed ∷ []) line-begun f q
+    ended = store_block (entry label n) (feed ∷ []) line_begun f q
 
-    pub feed-inside : p < length out₁
-    feed-inside = inside ended
+    pub feed_inside : p < length out₁
+    feed_inside = inside ended
 
     -- they are the line
-    pub line-end : (p + 1 ≡ at + length (line label n)) × (set out₁ p feed ≡ put at (line label n) out)
-    line-end = (omega (arith, q, entry_length label n, line-length label n), stored (store ended))
+    pub line_end : (p + 1 ≡ at + length (line label n)) × (set out₁ p feed ≡ put at (line label n) out)
+    line_end = (omega (arith, q, entry_length label n, line-length label n), stored (store ended))
 
 -- ─── lines ───────────────────────────────────────────────────────────────────
 
@@ -175,7 +175,7 @@ pub record Lining (size total : ℕ) (target : List ℕ) (ls : List (List ℕ ×
 -- at the start none is stored
 pub lining : (ls : List (List ℕ × ℕ)) (at : ℕ) (out : List ℕ) → at + length (lines ls) ≤ length out
     → Lining (length out) (at + length (lines ls)) (put at (lines ls) out) ls out at
-lining ls at out h = record { storing = begin-at at out (lines ls) h; place = refl }
+lining ls at out h = record { storing = begin_at at out (lines ls) h; place = refl }
 
 module _ {size total : ℕ} {target : List ℕ} {label : List ℕ} {n : ℕ} {ls : List (List ℕ × ℕ)} {out : List ℕ} {p : ℕ}
     (s : Lining size total target ((label, n) ∷ ls) out p) where
@@ -183,12 +183,12 @@ module _ {size total : ℕ} {target : List ℕ} {label : List ℕ} {n : ℕ} {ls
   unfolding lines
   here = s.storing
 
-  pub line-room : p + length (line label n) ≤ length out
-  line-room = block_room (line label n) (lines ls) here
+  pub line_room : p + length (line label n) ≤ length out
+  line_room = block_room (line label n) (lines ls) here
 
   -- one line more is stored
   pub lined : {p' : ℕ} {out' : List ℕ} → p' ≡ p + length (line label n) → out' ≡ put p (line label n) out → Lining size total target ls out' p'
-  lined q f = record { storing = store-block (line label n) (lines ls) here f q; place = omega (arith, q, s.place, lines_more label n ls) }
+  lined q f = record { storing = store_block (line label n) (lines ls) here f q; place = omega (arith, q, s.place, lines_more label n ls) }
 
 -- at the end all are
 pub lined_all : {size total : ℕ} {target out : List ℕ} {p : ℕ} → Lining size total target [] out p → (p ≡ total) × (out ≡ target)
@@ -201,61 +201,61 @@ module _ (n : Numbers) (text : List ℕ) (room : length (counted_text n) ≤ len
   abbrev target : List ℕ
   target = fill (counted_text n) text
 
-  abbrev first-lines : List ℕ
-  first-lines = lines (three strings_label n.strings kmers_label n.kmers total_label n.total)
+  abbrev first_lines : List ℕ
+  first_lines = lines (three strings_label n.strings kmers_label n.kmers total_label n.total)
 
-  abbrev next-lines : List ℕ
-  next-lines = lines (three inner_label n.inner given_label n.given paths_label n.paths)
+  abbrev next_lines : List ℕ
+  next_lines = lines (three inner_label n.inner given_label n.given paths_label n.paths)
 
-  abbrev last-lines : List ℕ
-  last-lines = lines (three least_label n.least distinct_label n.distinct bits_label n.bits)
+  abbrev last_lines : List ℕ
+  last_lines = lines (three least_label n.least distinct_label n.distinct bits_label n.bits)
 
-  counted-begun : Storing (length text) text target (first-lines ++ (next-lines ++ last-lines)) 0
-  counted-begun = restated (nine-parts n) (begin text (counted_text n) room)
+  counted_begun : Storing (length text) text target (first_lines ++ (next_lines ++ last_lines)) 0
+  counted_begun = restated (nine_parts n) (begin text (counted_text n) room)
 
   -- each three of them fit
-  pub first-room : 0 + length first-lines ≤ length text
-  first-room = block_room first-lines (next-lines ++ last-lines) counted-begun
+  pub first_room : 0 + length first_lines ≤ length text
+  first_room = block_room first_lines (next_lines ++ last_lines) counted_begun
 
-  module _ {p₁ : ℕ} {text₁ : List ℕ} (q₁ : p₁ ≡ 0 + length first-lines) (f₁ : text₁ ≡ put 0 first-lines text) where
-    first-stored : Storing (length text) text₁ target (next-lines ++ last-lines) p₁
-    first-stored = store-block first-lines (next-lines ++ last-lines) counted-begun f₁ q₁
+  module _ {p₁ : ℕ} {text₁ : List ℕ} (q₁ : p₁ ≡ 0 + length first_lines) (f₁ : text₁ ≡ put 0 first_lines text) where
+    first_stored : Storing (length text) text₁ target (next_lines ++ last_lines) p₁
+    first_stored = store_block first_lines (next_lines ++ last_lines) counted_begun f₁ q₁
 
-    pub next-room : p₁ + length next-lines ≤ length text₁
-    next-room = block_room next-lines last-lines first-stored
+    pub next_room : p₁ + length next_lines ≤ length text₁
+    next_room = block_room next_lines last_lines first_stored
 
-    module _ {p₂ : ℕ} {text₂ : List ℕ} (q₂ : p₂ ≡ p₁ + length next-lines) (f₂ : text₂ ≡ put p₁ next-lines text₁) where
-      next-stored : Storing (length text) text₂ target last-lines p₂
-      next-stored = store-block next-lines last-lines first-stored f₂ q₂
+    module _ {p₂ : ℕ} {text₂ : List ℕ} (q₂ : p₂ ≡ p₁ + length next_lines) (f₂ : text₂ ≡ put p₁ next_lines text₁) where
+      next_stored : Storing (length text) text₂ target last_lines p₂
+      next_stored = store_block next_lines last_lines first_stored f₂ q₂
 
-      pub last-room : p₂ + length last-lines ≤ length text₂
-      last-room = next-stored.room
+      pub last_room : p₂ + length last_lines ≤ length text₂
+      last_room = next_stored.room
 
       -- all nine are the text
-      pub counted-end : {p₃ : ℕ} {text₃ : List ℕ} → p₃ ≡ p₂ + length last-lines → text₃ ≡ put p₂ last-lines text₂
+      pub counted_end : {p₃ : ℕ} {text₃ : List ℕ} → p₃ ≡ p₂ + length last_lines → text₃ ≡ put p₂ last_lines text₂
           → (p₃ ≡ length (counted_text n)) × (text₃ ≡ target)
-      counted-end q₃ f₃ = (omega (arith, q₁, q₂, q₃, nine-lines n), f₃ ∙ next-stored.ends)
+      counted_end q₃ f₃ = (omega (arith, q₁, q₂, q₃, nine_lines n), f₃ ∙ next_stored.ends)
 
 -- ─── a refusal ───────────────────────────────────────────────────────────────
 
 module _ (number place : ℕ) (text : List ℕ) (room : length (refused_text number place) ≤ length text) where
-  refused-begun : Storing (length text) text (fill (refused_text number place) text) (entry refused_label number ++ line [] place) 0
+  refused_begun : Storing (length text) text (fill (refused_text number place) text) (entry refused_label number ++ line [] place) 0
   unfolding refused_text
-  refused-begun = begin text (refused_text number place) room
+  refused_begun = begin text (refused_text number place) room
 
   -- the number fits, then the place
-  pub number-room : 0 + length (entry refused_label number) ≤ length text
-  number-room = block_room (entry refused_label number) (line [] place) refused-begun
+  pub number_room : 0 + length (entry refused_label number) ≤ length text
+  number_room = block_room (entry refused_label number) (line [] place) refused_begun
 
   module _ {p : ℕ} {text₁ : List ℕ} (q : p ≡ 0 + length (entry refused_label number)) (f : text₁ ≡ put 0 (entry refused_label number) text) where
-    number-stored : Storing (length text) text₁ (fill (refused_text number place) text) (line [] place) p
-    number-stored = store-block (entry refused_label number) (line [] place) refused-begun f q
+    number_stored : Storing (length text) text₁ (fill (refused_text number place) text) (line [] place) p
+    number_stored = store_block (entry refused_label number) (line [] place) refused_begun f q
 
-    pub place-room : p + length (line [] place) ≤ length text₁
-    place-room = number-stored.room
+    pub place_room : p + length (line [] place) ≤ length text₁
+    place_room = number_stored.room
 
     -- they are the text of a refusal
     pub refused_end : {p' : ℕ} {text₂ : List ℕ} → p' ≡ p + length (line [] place) → text₂ ≡ put p (line [] place) text₁
         → (p' ≡ length (refused_text number place)) × (text₂ ≡ fill (refused_text number place) text)
     unfolding refused_text
-    refused_end q' f' = (omega (arith, q, q', length-append (entry refused_label number) (line [] place)), f' ∙ number-stored.ends)
+    refused_end q' f' = (omega (arith, q, q', length-append (entry refused_label number) (line [] place)), f' ∙ number_stored.ends)

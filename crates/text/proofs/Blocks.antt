@@ -13,6 +13,6 @@ module _ {A : Type 0} {size at : ℕ} {table target : List A} (xs rest : List A)
   block_room = omega (arith, s.room, length-append xs rest)
 
   -- what is left to store after the block
-  pub store-block : {at' : ℕ} {table' : List A} → table' ≡ put at xs table → at' ≡ at + length xs → Storing size table' target rest at'
-  store-block {at'} {table'} e g =
+  pub store_block : {at' : ℕ} {table' : List A} → table' ≡ put at xs table → at' ≡ at + length xs → Storing size table' target rest at'
+  store_block {at'} {table'} e g =
       subst (λ (t : List A). Storing size t target rest at') (sym e) (subst (λ (p : ℕ). Storing size (put at xs table) target rest p) (sym g) (store_many xs s))

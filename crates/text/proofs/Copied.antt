@@ -22,5 +22,5 @@ module _ (s : List ℕ) (e i : ℕ) where
       ap (λ (x : ℕ). take x (drop i s)) n
 
   -- how many there are
-  pub take-size : i ≤ e → e ≤ length s → length (take (e - i) (drop i s)) ≡ e - i
-  take-size l h = length-take-le (e - i) (drop i s) (omega (arith, length-drop i s))
+  pub take_size : i ≤ e → e ≤ length s → length (take (e - i) (drop i s)) ≡ e - i
+  take_size l h = length-take-le (e - i) (drop i s) (omega (arith, length-drop i s))

@@ -19,7 +19,7 @@ use Rattle.text.specs.declared.Number.{Number}
 use Rattle.text.specs.declared.Number.TheVariants.{Good, Wrong}
 use Rattle.lists.proofs.Refuted.{never}
 use Rattle.text.proofs.Tests.{both, digit_range}
-use Rattle.text.proofs.Parts.{up_next, up-stop}
+use Rattle.text.proofs.Parts.{up_next, up_stop}
 
 -- ─── ranges ──────────────────────────────────────────────────────────────────
 
@@ -64,53 +64,53 @@ module _ (most : ℕ) where
   unfolding number_from every value_from
   rest_end v i = ap (λ (x : ℕ). choose (in_range most v) (Good v x) Wrong) (sym (add-zero i))
 
-  rest-heavy : (v i : ℕ) (f : List ℕ) → 1 ≤ v → in_range most v ≡ false → Wrong ≡ rest_of v i f
-  rest-heavy v i f l h =
+  rest_heavy : (v i : ℕ) (f : List ℕ) → 1 ≤ v → in_range most v ≡ false → Wrong ≡ rest_of v i f
+  rest_heavy v i f l h =
       let u = value_up v f in
       let b = out_of_range most v l h in
       rw (above_range most (value_from v f) (omega arith) (omega arith), and-false)
 
-  rest-next : (v i b : ℕ) (f : List ℕ) → is_digit b ≡ true → rest_of (v * 10 + (b - 48)) (i + 1) f ≡ rest_of v i (b ∷ f)
+  rest_next : (v i b : ℕ) (f : List ℕ) → is_digit b ≡ true → rest_of (v * 10 + (b - 48)) (i + 1) f ≡ rest_of v i (b ∷ f)
   unfolding every value_from
-  rest-next v i b f h =
+  rest_next v i b f h =
       let n : i + 1 + length f ≡ i + suc (length f) = omega arith in
       rw (h, n)
 
-  rest-stop : (v i b : ℕ) (f : List ℕ) → is_digit b ≡ false → Wrong ≡ rest_of v i (b ∷ f)
+  rest_stop : (v i b : ℕ) (f : List ℕ) → is_digit b ≡ false → Wrong ≡ rest_of v i (b ∷ f)
   unfolding every
-  rest-stop v i b f h = rw h
+  rest_stop v i b f h = rw h
 
   module _ (v i b : ℕ) (f : List ℕ) where
-    step-go : is_digit b ≡ true → in_range most (v * 10 + (b - 48)) ≡ true → number_from v i (b ∷ f) ≡ number_from (v * 10 + (b - 48)) (i + 1) f
+    step_go : is_digit b ≡ true → in_range most (v * 10 + (b - 48)) ≡ true → number_from v i (b ∷ f) ≡ number_from (v * 10 + (b - 48)) (i + 1) f
     unfolding number_from
-    step-go h g = rw (h, g)
+    step_go h g = rw (h, g)
 
-    step-bad : is_digit b ≡ true → in_range most (v * 10 + (b - 48)) ≡ false → number_from v i (b ∷ f) ≡ Wrong
+    step_bad : is_digit b ≡ true → in_range most (v * 10 + (b - 48)) ≡ false → number_from v i (b ∷ f) ≡ Wrong
     unfolding number_from
-    step-bad h g = rw (h, g)
+    step_bad h g = rw (h, g)
 
-    step-stop : is_digit b ≡ false → number_from v i (b ∷ f) ≡ Wrong
+    step_stop : is_digit b ≡ false → number_from v i (b ∷ f) ≡ Wrong
     unfolding number_from
-    step-stop h = rw h
+    step_stop h = rw h
 
   -- the walk finds what is left of the field
-  walk-rest : (v i : ℕ) (f : List ℕ) → 1 ≤ v → number_from v i f ≡ rest_of v i f
-  walk-rest v i [] h = rest_end v i
-  walk-rest v i (b ∷ f) h = go (is_digit b) refl (in_range most (v * 10 + (b - 48))) refl (walk-rest (v * 10 + (b - 48)) (i + 1) f) where
+  walk_rest : (v i : ℕ) (f : List ℕ) → 1 ≤ v → number_from v i f ≡ rest_of v i f
+  walk_rest v i [] h = rest_end v i
+  walk_rest v i (b ∷ f) h = go (is_digit b) refl (in_range most (v * 10 + (b - 48))) refl (walk_rest (v * 10 + (b - 48)) (i + 1) f) where
     go : (t : Bool) → is_digit b ≡ t → (u : Bool) → in_range most (v * 10 + (b - 48)) ≡ u
         → (1 ≤ v * 10 + (b - 48) → number_from (v * 10 + (b - 48)) (i + 1) f ≡ rest_of (v * 10 + (b - 48)) (i + 1) f)
         → number_from v i (b ∷ f) ≡ rest_of v i (b ∷ f)
-    go true e true g r = step-go v i b f e g ∙ (r (omega arith) ∙ rest-next v i b f e)
-    go true e false g r = step-bad v i b f e g ∙ (rest-heavy (v * 10 + (b - 48)) (i + 1) f (omega arith) g ∙ rest-next v i b f e)
-    go false e u g r = step-stop v i b f e ∙ rest-stop v i b f e
+    go true e true g r = step_go v i b f e g ∙ (r (omega arith) ∙ rest_next v i b f e)
+    go true e false g r = step_bad v i b f e g ∙ (rest_heavy (v * 10 + (b - 48)) (i + 1) f (omega arith) g ∙ rest_next v i b f e)
+    go false e u g r = step_stop v i b f e ∙ rest_stop v i b f e
 
   -- ─── a whole field ─────────────────────────────────────────────────────────
 
   -- behind a digit other than 0 any digits make a number
-  led-by : (b : ℕ) (f : List ℕ) → is_digit b ≡ true → (b ≡ 48 → ⊥) → is_number (b ∷ f) ≡ every is_digit f
+  led_by : (b : ℕ) (f : List ℕ) → is_digit b ≡ true → (b ≡ 48 → ⊥) → is_number (b ∷ f) ≡ every is_digit f
   unfolding is_number every
-  led-by b [] h z = h
-  led-by b (c ∷ f) h z = rw (h, ne_eqb b 48 z)
+  led_by b [] h z = h
+  led_by b (c ∷ f) h z = rw (h, ne_eqb b 48 z)
 
   -- a field that begins with 0 is no number from 1 on
   zero_led : (i : ℕ) (f : List ℕ) → Wrong ≡ number_of most i (48 ∷ f)
@@ -124,11 +124,11 @@ module _ (most : ℕ) where
   stopped i b [] h = rw h
   stopped i b (c ∷ f) h = rw h
 
-  first-digit : (i b : ℕ) (f : List ℕ) → is_digit b ≡ true → (b ≡ 48 → ⊥) → rest_of (0 * 10 + (b - 48)) (i + 1) f ≡ number_of most i (b ∷ f)
+  first_digit : (i b : ℕ) (f : List ℕ) → is_digit b ≡ true → (b ≡ 48 → ⊥) → rest_of (0 * 10 + (b - 48)) (i + 1) f ≡ number_of most i (b ∷ f)
   unfolding number_of value_from
-  first-digit i b f h z =
+  first_digit i b f h z =
       let n : i + 1 + length f ≡ i + suc (length f) = omega arith in
-      rw (led-by b f h z, n)
+      rw (led_by b f h z, n)
 
   nothing : (i : ℕ) → number_from 0 i [] ≡ number_of most i []
   unfolding number_from number_of is_number
@@ -139,16 +139,16 @@ module _ (most : ℕ) where
   walk_field m i [] = nothing i
   walk_field m i (b ∷ f) = go (is_digit b) refl (eqb b 48) refl where
     go : (t : Bool) → is_digit b ≡ t → (u : Bool) → eqb b 48 ≡ u → number_from 0 i (b ∷ f) ≡ number_of most i (b ∷ f)
-    go false e u g = step-stop 0 i b f e ∙ stopped i b f e
+    go false e u g = step_stop 0 i b f e ∙ stopped i b f e
     go true e true g =
         let q = eqb-true b 48 g in
         let w : in_range most (0 * 10 + (b - 48)) ≡ false = ap (λ (x : ℕ). in_range most (0 * 10 + (x - 48))) q in
-        step-bad 0 i b f e w ∙ (zero_led i f ∙ ap (λ (x : ℕ). number_of most i (x ∷ f)) (sym q))
+        step_bad 0 i b f e w ∙ (zero_led i f ∙ ap (λ (x : ℕ). number_of most i (x ∷ f)) (sym q))
     go true e false g =
         let z = eqb-false b 48 g in
         let d = digit_range b e in
         let l : 1 ≤ 0 * 10 + (b - 48) = omega arith in
-        step-go 0 i b f e (range_is most _ l (omega arith)) ∙ (walk-rest (0 * 10 + (b - 48)) (i + 1) f l ∙ first-digit i b f e z)
+        step_go 0 i b f e (range_is most _ l (omega arith)) ∙ (walk_rest (0 * 10 + (b - 48)) (i + 1) f l ∙ first_digit i b f e z)
 
 -- ─── the field at a place ────────────────────────────────────────────────────
 
@@ -164,69 +164,69 @@ module _ (sep : ℕ) where
     go true e r = never (sym r)
     go false e r = (eqb-false b sep e, eqb-false b feed r)
 
-  sep-next : (b : ℕ) (l : List ℕ) → (b ≡ sep → ⊥) → up_to sep (b ∷ l) ≡ b ∷ up_to sep l
+  sep_next : (b : ℕ) (l : List ℕ) → (b ≡ sep → ⊥) → up_to sep (b ∷ l) ≡ b ∷ up_to sep l
   unfolding up_to
-  sep-next b l h = rw (ne_eqb b sep h)
+  sep_next b l h = rw (ne_eqb b sep h)
 
-  sep-stop : (b : ℕ) (l : List ℕ) → b ≡ sep → up_to sep (b ∷ l) ≡ []
+  sep_stop : (b : ℕ) (l : List ℕ) → b ≡ sep → up_to sep (b ∷ l) ≡ []
   unfolding up_to
-  sep-stop b l h = rw (eq-eqb b sep h)
+  sep_stop b l h = rw (eq-eqb b sep h)
 
-  none-up : up_to sep [] ≡ []
+  none_up : up_to sep [] ≡ []
   unfolding up_to
-  none-up = refl
+  none_up = refl
 
   module _ (s : List ℕ) (i : ℕ) (h : i < length s) where
     field_next : (get_or s i 0 ≡ sep → ⊥) → (get_or s i 0 ≡ feed → ⊥) → field sep (drop i s) ≡ get_or s i 0 ∷ field sep (drop (i + 1) s)
     unfolding field
-    field_next p q = ap (up_to sep) (up_next feed s i h q) ∙ sep-next (get_or s i 0) _ p
+    field_next p q = ap (up_to sep) (up_next feed s i h q) ∙ sep_next (get_or s i 0) _ p
 
     field-feed : get_or s i 0 ≡ feed → field sep (drop i s) ≡ []
     unfolding field
-    field-feed p = ap (up_to sep) (up-stop feed s i h p) ∙ none-up
+    field-feed p = ap (up_to sep) (up_stop feed s i h p) ∙ none_up
 
-    field-sep : get_or s i 0 ≡ sep → (t : Bool) → eqb (get_or s i 0) feed ≡ t → field sep (drop i s) ≡ []
+    field_sep : get_or s i 0 ≡ sep → (t : Bool) → eqb (get_or s i 0) feed ≡ t → field sep (drop i s) ≡ []
     unfolding field
-    field-sep p true e = field-feed (eqb-true _ _ e)
-    field-sep p false e = ap (up_to sep) (up_next feed s i h (eqb-false _ _ e)) ∙ sep-stop (get_or s i 0) _ p
+    field_sep p true e = field-feed (eqb-true _ _ e)
+    field_sep p false e = ap (up_to sep) (up_next feed s i h (eqb-false _ _ e)) ∙ sep_stop (get_or s i 0) _ p
 
     field_end : is_end sep (get_or s i 0) ≡ true → field sep (drop i s) ≡ []
     field_end e = go (eqb (get_or s i 0) sep) refl e where
       go : (t : Bool) → eqb (get_or s i 0) sep ≡ t → choose t true (eqb (get_or s i 0) feed) ≡ true → field sep (drop i s) ≡ []
-      go true e r = field-sep (eqb-true _ _ e) _ refl
+      go true e r = field_sep (eqb-true _ _ e) _ refl
       go false e r = field-feed (eqb-true _ _ r)
 
     module _ (most : ℕ) where
-      end-walk : (v : ℕ) (t : Bool) → is_end sep (get_or s i 0) ≡ t → is_digit (get_or s i 0) ≡ false
+      end_walk : (v : ℕ) (t : Bool) → is_end sep (get_or s i 0) ≡ t → is_digit (get_or s i 0) ≡ false
           → choose t (ended_at most v i) Wrong ≡ number_from most v i (field sep (drop i s))
       unfolding number_from
-      end-walk v true e d = sym (ap (number_from most v i) (field_end e))
-      end-walk v false e d =
+      end_walk v true e d = sym (ap (number_from most v i) (field_end e))
+      end_walk v false e d =
           let n = ends (get_or s i 0) e in
-          sym (ap (number_from most v i) (field_next n.0 n.1) ∙ step-stop most v i (get_or s i 0) (field sep (drop (i + 1) s)) d)
+          sym (ap (number_from most v i) (field_next n.0 n.1) ∙ step_stop most v i (get_or s i 0) (field sep (drop (i + 1) s)) d)
 
       -- a byte that is no digit ends the walk
       pub walk_end : (v : ℕ) → is_digit (get_or s i 0) ≡ false → number_end sep most (get_or s i 0) v i ≡ number_from most v i (field sep (drop i s))
-      walk_end v d = end-walk v (is_end sep (get_or s i 0)) refl d
+      walk_end v d = end_walk v (is_end sep (get_or s i 0)) refl d
 
       -- a digit is neither the separator nor a line feed
       module _ (apart : is_digit sep ≡ false) (d : is_digit (get_or s i 0) ≡ true) where
-        digit-field : field sep (drop i s) ≡ get_or s i 0 ∷ field sep (drop (i + 1) s)
-        digit-field =
+        digit_field : field sep (drop i s) ≡ get_or s i 0 ∷ field sep (drop (i + 1) s)
+        digit_field =
             let r = digit_range (get_or s i 0) d in
             field_next (λ e. never (sym apart ∙ (ap is_digit (sym e) ∙ d))) (λ e. omega arith)
 
         -- w is the value with the digit here
         module _ (v w : ℕ) (e : w ≡ v * 10 + (get_or s i 0 - 48)) where
           -- out of range, the walk ends
-          pub walk-bad : in_range most w ≡ false → number_from most v i (field sep (drop i s)) ≡ Wrong
-          walk-bad g = ap (number_from most v i) digit-field ∙ step-bad most v i (get_or s i 0) (field sep (drop (i + 1) s)) d (ap (in_range most) (sym e) ∙ g)
+          pub walk_bad : in_range most w ≡ false → number_from most v i (field sep (drop i s)) ≡ Wrong
+          walk_bad g = ap (number_from most v i) digit_field ∙ step_bad most v i (get_or s i 0) (field sep (drop (i + 1) s)) d (ap (in_range most) (sym e) ∙ g)
 
           -- else it goes on
-          pub walk-next : in_range most w ≡ true → number_from most v i (field sep (drop i s)) ≡ number_from most w (i + 1) (field sep (drop (i + 1) s))
-          walk-next g =
-              ap (number_from most v i) digit-field
-              ∙ (step-go most v i (get_or s i 0) (field sep (drop (i + 1) s)) d (ap (in_range most) (sym e) ∙ g)
+          pub walk_next : in_range most w ≡ true → number_from most v i (field sep (drop i s)) ≡ number_from most w (i + 1) (field sep (drop (i + 1) s))
+          walk_next g =
+              ap (number_from most v i) digit_field
+              ∙ (step_go most v i (get_or s i 0) (field sep (drop (i + 1) s)) d (ap (in_range most) (sym e) ∙ g)
               ∙ ap (λ (x : ℕ). number_from most x (i + 1) (field sep (drop (i + 1) s))) (sym e))
 
   -- at the end of the text

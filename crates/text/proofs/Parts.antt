@@ -41,12 +41,12 @@ join_parts sep (b ∷ bs) = go (eqb b sep) refl (join_parts sep bs) where
 
 module _ (sep : ℕ) where
   -- bytes without a separator are one part
-  pub up-last : (p : List ℕ) → Free sep p → up_to sep p ≡ p
+  pub up_last : (p : List ℕ) → Free sep p → up_to sep p ≡ p
   unfolding up_to every
-  up-last [] h = refl
-  up-last (b ∷ p) h =
+  up_last [] h = refl
+  up_last (b ∷ p) h =
       let t = both (not (eqb b sep)) _ h in
-      rw (not-true (eqb b sep) t.0, up-last p t.1)
+      rw (not-true (eqb b sep) t.0, up_last p t.1)
 
   pub later_last : (p : List ℕ) → Free sep p → later sep p ≡ []
   unfolding later every
@@ -78,28 +78,28 @@ module _ (sep : ℕ) where
     unfolding up_to
     up_next e = rw (drop-cons s i 0, ne_eqb _ _ e, add-one)
 
-    pub later-next : (get_or s i 0 ≡ sep → ⊥) → later sep (drop i s) ≡ later sep (drop (i + 1) s)
+    pub later_next : (get_or s i 0 ≡ sep → ⊥) → later sep (drop i s) ≡ later sep (drop (i + 1) s)
     unfolding later
-    later-next e = rw (drop-cons s i 0, ne_eqb _ _ e, add-one)
+    later_next e = rw (drop-cons s i 0, ne_eqb _ _ e, add-one)
 
     -- a separator ends it
-    pub up-stop : get_or s i 0 ≡ sep → up_to sep (drop i s) ≡ []
+    pub up_stop : get_or s i 0 ≡ sep → up_to sep (drop i s) ≡ []
     unfolding up_to
-    up-stop e = rw (drop-cons s i 0, eq-eqb _ _ e)
+    up_stop e = rw (drop-cons s i 0, eq-eqb _ _ e)
 
-    pub later-stop : get_or s i 0 ≡ sep → later sep (drop i s) ≡ parts sep (drop (i + 1) s)
+    pub later_stop : get_or s i 0 ≡ sep → later sep (drop i s) ≡ parts sep (drop (i + 1) s)
     unfolding later
-    later-stop e = rw (drop-cons s i 0, eq-eqb _ _ e, add-one)
+    later_stop e = rw (drop-cons s i 0, eq-eqb _ _ e, add-one)
 
 -- ─── what is left of the bytes ───────────────────────────────────────────────
 
 module _ (sep : ℕ) where
   -- inside the first part, what is left of it is the first part of what is left
-  pub inside-part : (n : ℕ) (r : List ℕ) → n ≤ length (up_to sep r) → (up_to sep (drop n r) ≡ drop n (up_to sep r)) × (later sep (drop n r) ≡ later sep r)
+  pub inside_part : (n : ℕ) (r : List ℕ) → n ≤ length (up_to sep r) → (up_to sep (drop n r) ≡ drop n (up_to sep r)) × (later sep (drop n r) ≡ later sep r)
   unfolding up_to later
-  inside-part zero r h = (refl, refl)
-  inside-part (suc n) [] h = absurd (omega arith)
-  inside-part (suc n) (b ∷ r) h = go (eqb b sep) h (inside-part n r) where
+  inside_part zero r h = (refl, refl)
+  inside_part (suc n) [] h = absurd (omega arith)
+  inside_part (suc n) (b ∷ r) h = go (eqb b sep) h (inside_part n r) where
     go : (t : Bool) → suc n ≤ length (choose t [] (b ∷ up_to sep r))
         → (n ≤ length (up_to sep r) → (up_to sep (drop n r) ≡ drop n (up_to sep r)) × (later sep (drop n r) ≡ later sep r))
         → (up_to sep (drop n r) ≡ drop (suc n) (choose t [] (b ∷ up_to sep r))) × (later sep (drop n r) ≡ choose t (parts sep r) (later sep r))
@@ -107,11 +107,11 @@ module _ (sep : ℕ) where
     go false g w = w (omega arith)
 
   -- the later parts are the parts of what stands behind the first separator
-  pub past-sep : (r m : List ℕ) (ms : List (List ℕ)) → later sep r ≡ m ∷ ms
+  pub past_sep : (r m : List ℕ) (ms : List (List ℕ)) → later sep r ≡ m ∷ ms
       → (parts sep (drop (suc (length (up_to sep r))) r) ≡ later sep r) × (suc (length (up_to sep r)) ≤ length r)
   unfolding up_to later
-  past-sep [] m ms h = absurd (omega (arith, ap length h))
-  past-sep (b ∷ r) m ms h = go (eqb b sep) h (past-sep r m ms) where
+  past_sep [] m ms h = absurd (omega (arith, ap length h))
+  past_sep (b ∷ r) m ms h = go (eqb b sep) h (past_sep r m ms) where
     go : (t : Bool) → choose t (parts sep r) (later sep r) ≡ m ∷ ms
         → (later sep r ≡ m ∷ ms → (parts sep (drop (suc (length (up_to sep r))) r) ≡ later sep r) × (suc (length (up_to sep r)) ≤ length r))
         → (parts sep (drop (length (choose t [] (b ∷ up_to sep r))) r) ≡ choose t (parts sep r) (later sep r))
@@ -121,36 +121,36 @@ module _ (sep : ℕ) where
 
   -- ─── how long parts are ────────────────────────────────────────────────────
 
-  joined-long : (ps : List (List ℕ)) → length ps ≤ length (joined sep ps)
+  joined_long : (ps : List (List ℕ)) → length ps ≤ length (joined sep ps)
   unfolding joined
-  joined-long [] = omega arith
-  joined-long (p ∷ ps) = omega (arith, length-append p (joined sep ps), joined-long ps)
+  joined_long [] = omega arith
+  joined_long (p ∷ ps) = omega (arith, length-append p (joined sep ps), joined_long ps)
 
   module _ (r : List ℕ) where
-    parts-size : length (up_to sep r) + length (joined sep (later sep r)) ≡ length r
-    parts-size = omega (arith, length-append (up_to sep r) (joined sep (later sep r)), ap length (join_parts sep r))
+    parts_size : length (up_to sep r) + length (joined sep (later sep r)) ≡ length r
+    parts_size = omega (arith, length-append (up_to sep r) (joined sep (later sep r)), ap length (join_parts sep r))
 
     -- a part is no longer than the bytes
-    pub up-short : length (up_to sep r) ≤ length r
-    up-short = omega (arith, parts-size)
+    pub up_short : length (up_to sep r) ≤ length r
+    up_short = omega (arith, parts_size)
 
     -- each later part has a separator of its own
-    pub later-short : length (up_to sep r) + length (later sep r) ≤ length r
-    later-short = omega (arith, parts-size, joined-long (later sep r))
+    pub later_short : length (up_to sep r) + length (later sep r) ≤ length r
+    later_short = omega (arith, parts_size, joined_long (later sep r))
 
     -- where there are bytes, the first part has some, or there is a later part
     pub some-part : 1 ≤ length r → 1 ≤ length (up_to sep r) + length (later sep r)
     unfolding joined
-    some-part h = go (later sep r) parts-size where
+    some-part h = go (later sep r) parts_size where
       go : (ps : List (List ℕ)) → length (up_to sep r) + length (joined sep ps) ≡ length r → 1 ≤ length (up_to sep r) + length ps
       go [] e = omega arith
       go (p ∷ ps) e = omega arith
 
     -- the first part is the front of the bytes
-    pub take-up : (n : ℕ) → n ≤ length (up_to sep r) → take n (up_to sep r) ≡ take n r
-    take-up n h = sym (take-append-le n (up_to sep r) (joined sep (later sep r)) h) ∙ ap (take n) (join_parts sep r)
+    pub take_up : (n : ℕ) → n ≤ length (up_to sep r) → take n (up_to sep r) ≡ take n r
+    take_up n h = sym (take-append-le n (up_to sep r) (joined sep (later sep r)) h) ∙ ap (take n) (join_parts sep r)
 
-    pub up-take : up_to sep r ≡ take (length (up_to sep r)) r
-    up-take =
+    pub up_take : up_to sep r ≡ take (length (up_to sep r)) r
+    up_take =
         let n : ℕ = length (up_to sep r) in
         sym (take_at (up_to sep r) (joined sep (later sep r)) n refl) ∙ ap (take n) (join_parts sep r)

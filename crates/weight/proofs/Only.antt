@@ -25,17 +25,17 @@ Columns vs gs rs = (vs ≡ map (λ r. r.0) rs) × (gs ≡ map (λ r. r.1) rs)
 
 -- the tables vs, gs follow a run (w, f) and start after handle h; they give the handles h to n the weights w ∷ us
 module _ (n : ℕ) where
-  later-only : (us : List ℕ) (h w f : ℕ) (vs gs : List ℕ) → h + length us ≡ n → all_follow n w f vs gs ≡ true → All (λ g. h < g) gs
+  later_only : (us : List ℕ) (h w f : ℕ) (vs gs : List ℕ) → h + length us ≡ n → all_follow n w f vs gs ≡ true → All (λ g. h < g) gs
       → ((handle : ℕ) → h ≤ handle → handle ≤ n → last_at handle w vs gs ≡ get_or (w ∷ us) (handle - h) 0) → Columns vs gs (later_runs h w us)
   unfolding all_follow last_at
-  later-only [] h w f [] [] e a b k = (ap (map (λ r. r.0)) (sym (later-nil h w)), ap (map (λ r. r.1)) (sym (later-nil h w)))
-  later-only [] h w f [] (g ∷ gs) e a b k = never a
-  later-only [] h w f (v ∷ vs) [] e a b k = never a
-  later-only [] h w f (v ∷ vs) (g ∷ gs) e a b k =
+  later_only [] h w f [] [] e a b k = (ap (map (λ r. r.0)) (sym (later-nil h w)), ap (map (λ r. r.1)) (sym (later-nil h w)))
+  later_only [] h w f [] (g ∷ gs) e a b k = never a
+  later_only [] h w f (v ∷ vs) [] e a b k = never a
+  later_only [] h w f (v ∷ vs) (g ∷ gs) e a b k =
       absurd (let z = (follow_good n w f (v ∷ vs) (g ∷ gs) a).within.0 in let y = b.0 in let x : ⊥ = omega arith in x)
-  later-only (u ∷ us) h w f [] [] e a b k =
+  later_only (u ∷ us) h w f [] [] e a b k =
       let d : u ≡ w = sym (k (suc h) (omega arith) (omega arith) ∙ at_next) in
-      let r = later-only us (suc h) w f [] [] (omega arith) a tt (λ handle l m. later handle l m d) in
+      let r = later_only us (suc h) w f [] [] (omega arith) a tt (λ handle l m. later handle l m d) in
       (r.0 ∙ ap (map (λ r. r.0)) (sym (later_equal h w u us d)), r.1 ∙ ap (map (λ r. r.1)) (sym (later_equal h w u us d)))
     where
       at_next : get_or (w ∷ (u ∷ us)) (suc h - h) 0 ≡ u
@@ -45,11 +45,11 @@ module _ (n : ℕ) where
       later handle l m d =
           let z : handle - h ≡ suc (handle - suc h) = omega arith in
           k handle (omega arith) m ∙ (ap (λ (i : ℕ). get_or (w ∷ (u ∷ us)) i 0) z ∙ ap (λ (x : ℕ). get_or (x ∷ us) (handle - suc h) 0) d)
-  later-only (u ∷ us) h w f [] (g ∷ gs) e a b k = never a
-  later-only (u ∷ us) h w f (v ∷ vs) [] e a b k = never a
-  later-only (u ∷ us) h w f (v ∷ vs) (g ∷ gs) e a b k =
-      go (ℕ_discrete g (suc h)) (later-only us (suc h) w f (v ∷ vs) (g ∷ gs) (omega arith) a)
-      (later-only us (suc h) v g vs gs (omega arith) (and_right (follows n w f v g) (all_follow n v g vs gs) a))
+  later_only (u ∷ us) h w f [] (g ∷ gs) e a b k = never a
+  later_only (u ∷ us) h w f (v ∷ vs) [] e a b k = never a
+  later_only (u ∷ us) h w f (v ∷ vs) (g ∷ gs) e a b k =
+      go (ℕ_discrete g (suc h)) (later_only us (suc h) w f (v ∷ vs) (g ∷ gs) (omega arith) a)
+      (later_only us (suc h) v g vs gs (omega arith) (and_right (follows n w f v g) (all_follow n v g vs gs) a))
     where
       at_next : get_or (w ∷ (u ∷ us)) (suc h - h) 0 ≡ u
       at_next = let z : suc h - h ≡ 1 = omega arith in ap (λ (i : ℕ). get_or (w ∷ (u ∷ us)) i 0) z
@@ -117,7 +117,7 @@ runs_only (w ∷ ws) (v ∷ vs) (g ∷ gs) a k =
     → last_at handle 0 (v ∷ vs) (g ∷ gs) ≡ last_at handle v vs gs =
     λ handle l. ap (λ (t : Bool). last_at handle (choose t v 0) vs gs) (le-leb g handle (omega arith)) in
     let d : v ≡ w = sym (last_none 1 v vs gs q) ∙ (sym (here 1 (omega arith)) ∙ k 1 (omega arith) (omega arith)) in
-    let c = later-only n ws 1 v g vs gs (omega arith) f q
+    let c = later_only n ws 1 v g vs gs (omega arith) f q
     (λ handle l m. sym (here handle l) ∙ (k handle l m ∙ ap (λ (x : ℕ). get_or (x ∷ ws) (handle - 1) 0) (sym d))) in (
       ap₂ (λ (x : ℕ) (l : List ℕ). x ∷ l) d (c.0 ∙ ap (λ (x : ℕ). map (λ r. r.0) (later_runs 1 x ws)) d),
       ap₂ (λ (x : ℕ) (l : List ℕ). x ∷ l) p (c.1 ∙ ap (λ (x : ℕ). map (λ r. r.1) (later_runs 1 x ws)) d),

@@ -14,7 +14,7 @@ use Rattle.lists.specs.Every.{All}
 use Rattle.lists.specs.Pairs.{Pairs}
 use Rattle.lists.specs.Limits.{most_letters}
 use Rattle.lists.proofs.Every.{and_left, and_right, all_map, at_all}
-use Rattle.lists.proofs.Pairs.{pairs-at}
+use Rattle.lists.proofs.Pairs.{pairs_at}
 use Rattle.lists.proofs.Refuted.{never}
 use Rattle.collection.specs.declared.Verdict.TheVariants.{Good}
 use Rattle.collection_faults.specs.Faults.{is_weight}
@@ -130,7 +130,7 @@ module _ {n : ℕ} {weights firsts : List ℕ} {handle : ℕ} (s : Listed n weig
       let q : high ≡ low + 1 = omega (arith, h.order) in
       sym
       (last_is handle 0 weights firsts low (omega (arith, h.order, h.inside, g.same_length)) (omega (arith, h.order, h.inside)) h.before
-      (λ j l m. go j l m (ℕ_discrete j high) (pairs-at (λ a b. a < b) firsts g.rise high j 0)))
+      (λ j l m. go j l m (ℕ_discrete j high) (pairs_at (λ a b. a < b) firsts g.rise high j 0)))
     where
       go : (j : ℕ) → low < j → j < length firsts → Dec (j ≡ high) → (high < j → j < length firsts → get_or firsts high 0 < get_or firsts j 0)
           → handle < get_or firsts j 0

@@ -71,12 +71,12 @@ good_follow s (r ∷ rs) e =
 
 module _ (n handle : ℕ) where
   -- the runs that were read are the run list of n k-mers
-  good-list : (rs : List Run)
+  good_list : (rs : List Run)
       → ((passed (started n handle) rs).good && ((passed (started n handle) rs).begun || eqb n 0))
       ≡ (leb n most_letters && is_run_list n (weights_in rs) (firsts_in rs))
   unfolding passed is_run_list
-  good-list [] = refl
-  good-list (r ∷ rs) =
+  good_list [] = refl
+  good_list (r ∷ rs) =
       ap (λ (b : Bool). (passed s rs).good && (b || eqb n 0)) (begun_stays s rs refl)
       ∙ (and_true (passed s rs).good
       ∙ (good_follow s rs refl
@@ -86,20 +86,20 @@ module _ (n handle : ℕ) where
       s = stepped (started n handle) r
 
   -- 12 is judged as in `runs`
-  verdict-list : (rs : List Run) → list_verdict (passed (started n handle) rs) ≡ run_list_verdict n (weights_in rs) (firsts_in rs)
+  verdict_list : (rs : List Run) → list_verdict (passed (started n handle) rs) ≡ run_list_verdict n (weights_in rs) (firsts_in rs)
   unfolding list_verdict run_list_verdict
-  verdict-list rs =
+  verdict_list rs =
       ap (λ (m : ℕ). choose ((passed (started n handle) rs).good && ((passed (started n handle) rs).begun || eqb m 0)) Good (Bad 12 0))
       (n_stays (started n handle) rs)
-      ∙ ap (λ (b : Bool). choose b Good (Bad 12 0)) (good-list rs)
+      ∙ ap (λ (b : Bool). choose b Good (Bad 12 0)) (good_list rs)
 
   -- one pass answers WEIGHT
-  pub passed-answers : (rs : List Run) → finished (passed (started n handle) rs) ≡ weight_answer (weights_in rs) (firsts_in rs) n handle
+  pub passed_answers : (rs : List Run) → finished (passed (started n handle) rs) ≡ weight_answer (weights_in rs) (firsts_in rs) n handle
   unfolding finished weight_answer
-  passed-answers rs =
+  passed_answers rs =
       ap (λ (v : Verdict). settle (and_then v (handle_verdict (passed (started n handle) rs).n (passed (started n handle) rs).handle)) Refused
       (Found (passed (started n handle) rs).found))
-      (verdict-list rs)
+      (verdict_list rs)
       ∙ (ap₂ (λ (m h : ℕ). settle (and_then (run_list_verdict n (weights_in rs) (firsts_in rs)) (handle_verdict m h)) Refused
       (Found (passed (started n handle) rs).found)) (n_stays (started n handle) rs)
       (handle_stays (started n handle) rs)

@@ -10,13 +10,13 @@ use Rattle.lists.specs.Every.{All}
 use Rattle.lists.specs.Limits.{most_k}
 use Rattle.lists.proofs.Cuts.{map_cut}
 use Rattle.lists.proofs.Every.{all_take, all_drop}
-use Rattle.lists.proofs.Mapped.{map-at-below}
+use Rattle.lists.proofs.Mapped.{map_at_below}
 use Rattle.alphabet.specs.Letter.{is_letter, two_bits}
 use Rattle.words.specs.Word.{Letters, code, word_at}
 use Rattle.words.specs.Turned.{rolled}
 use Rattle.words.proofs.Codes.{code_lt, code_room}
 use Rattle.words.proofs.Spelled.{spell_bits}
-use Rattle.words.proofs.Rolling.{code_at, length_at, letters-at, bits_letters, code-rolls, code-tail}
+use Rattle.words.proofs.Rolling.{code_at, length_at, letters_at, bits_letters, code_rolls, code_tail}
 
 -- c ends in the k - 1 bytes before the next k-mer
 pub record Rolls (k : ℕ) (letters : List ℕ) (a c : ℕ) : Type 0 where
@@ -35,13 +35,13 @@ module _ (k : ℕ) (letters : List ℕ) (k_low : 1 ≤ k) (k_high : k ≤ most_k
   cut j a = ap code (map_cut two_bits j a letters)
 
   -- the code of the k - 1 bytes from `at` on is where a pass begins
-  pub rolls-begin : (at c : ℕ) → at + (k - 1) ≤ length letters → c ≡ code (map two_bits (take (at + (k - 1) - at) (drop at letters)))
+  pub rolls_begin : (at c : ℕ) → at + (k - 1) ≤ length letters → c ≡ code (map two_bits (take (at + (k - 1) - at) (drop at letters)))
       → Rolls k letters (at + 0) c
-  rolls-begin at c l e =
+  rolls_begin at c l e =
       let q : at + (k - 1) - at ≡ k - 1 = omega arith in
       let m : c ≡ code_at bits (k - 1) at = e ∙ (ap (λ (n : ℕ). code (map two_bits (take n (drop at letters)))) q ∙ cut (k - 1) at) in
       let n : length (take (k - 1) (drop at bits)) ≡ k - 1 = length_at bits (k - 1) at (omega (arith, size)) in
-      let g : Letters (take (k - 1) (drop at bits)) = letters-at bits (bits_letters letters) (k - 1) at in
+      let g : Letters (take (k - 1) (drop at bits)) = letters_at bits (bits_letters letters) (k - 1) at in
       let s : code_at bits (k - 1) at < 4 ^ (k - 1) = subst (λ (n : ℕ). code_at bits (k - 1) at < 4 ^ n) n (code_lt (take (k - 1) (drop at bits)) g) in
       record {
         low = ap (λ (n : ℕ). n % 4 ^ (k - 1)) m ∙ (mod-eq_of_lt s ∙ ap (λ (n : ℕ). code_at bits (k - 1) n) (sym (add-zero at)));
@@ -49,20 +49,20 @@ module _ (k : ℕ) (letters : List ℕ) (k_low : 1 ≤ k) (k_high : k ≤ most_k
       }
 
   -- the code of the next k bytes, which are the i-th from position `at` on
-  pub rolls-here : (at i c x : ℕ) → at + i + k ≤ length letters → Rolls k letters (at + i) c → x ≡ two_bits (get_or letters (at + (k - 1) + i) 0)
+  pub rolls_here : (at i c x : ℕ) → at + i + k ≤ length letters → Rolls k letters (at + i) c → x ≡ two_bits (get_or letters (at + (k - 1) + i) 0)
       → rolled k c x ≡ code (map two_bits (take k (drop (at + i) letters)))
-  rolls-here at i c x l r e =
+  rolls_here at i c x l r e =
       let q : suc (k - 1) ≡ k = omega arith in
       let p : at + (k - 1) + i ≡ at + i + (k - 1) = omega arith in
       let y : x ≡ get_or bits (at + i + (k - 1)) 0 =
-      e ∙ (ap (λ (j : ℕ). two_bits (get_or letters j 0)) p ∙ sym (map-at-below two_bits 0 0 letters (at + i + (k - 1)) (omega arith))) in
+      e ∙ (ap (λ (j : ℕ). two_bits (get_or letters j 0)) p ∙ sym (map_at_below two_bits 0 0 letters (at + i + (k - 1)) (omega arith))) in
       ap₂ (λ (m n : ℕ). rolled m c n) (sym q) y
-      ∙ (code-rolls bits (bits_letters letters) (k - 1) (at + i) c (omega (arith, size)) r.low
+      ∙ (code_rolls bits (bits_letters letters) (k - 1) (at + i) c (omega (arith, size)) r.low
       ∙ (ap (λ (n : ℕ). code_at bits n (at + i)) q ∙ sym (cut k (at + i))))
 
   -- and with it the pass goes on
-  pub rolls-on : (at i c : ℕ) → at + i + k ≤ length letters → c ≡ code (map two_bits (take k (drop (at + i) letters))) → Rolls k letters (at + (i + 1)) c
-  rolls-on at i c l e =
+  pub rolls_on : (at i c : ℕ) → at + i + k ≤ length letters → c ≡ code (map two_bits (take k (drop (at + i) letters))) → Rolls k letters (at + (i + 1)) c
+  rolls_on at i c l e =
       let q : suc (k - 1) ≡ k = omega arith in
       let p : suc (at + i) ≡ at + (i + 1) = omega arith in
       let m : c ≡ code_at bits k (at + i) = e ∙ cut k (at + i) in
@@ -70,23 +70,23 @@ module _ (k : ℕ) (letters : List ℕ) (k_low : 1 ≤ k) (k_high : k ≤ most_k
       record {
         low =
             ap (λ (n : ℕ). n % 4 ^ (k - 1)) (m ∙ ap (λ (n : ℕ). code_at bits n (at + i)) (sym q))
-            ∙ (code-tail bits (bits_letters letters) (k - 1) (at + i) (omega (arith, size)) ∙ ap (code_at bits (k - 1)) p);
+            ∙ (code_tail bits (bits_letters letters) (k - 1) (at + i) (omega (arith, size)) ∙ ap (code_at bits (k - 1)) p);
         small = subst (λ (n : ℕ). n < 4 ^ most_k) (sym m)
-            (code_room (take k (drop (at + i) bits)) (letters-at bits (bits_letters letters) k (at + i)) (omega (arith, n)));
+            (code_room (take k (drop (at + i) bits)) (letters_at bits (bits_letters letters) k (at + i)) (omega (arith, n)));
       }
 
 -- ─── along judged letters ────────────────────────────────────────────────────
 
 module _ (k : ℕ) (letters : List ℕ) (k_low : 1 ≤ k) (k_high : k ≤ most_k) (good : All (λ b. is_letter b ≡ true) letters) where
   -- the bytes from a on spell a word
-  bits-word : (a : ℕ) → code (map two_bits (take k (drop a letters))) ≡ code (word_at k letters a)
-  bits-word a = ap code (spell_bits (take k (drop a letters)) (all_take _ k (drop a letters) (all_drop _ a letters good)))
+  bits_word : (a : ℕ) → code (map two_bits (take k (drop a letters))) ≡ code (word_at k letters a)
+  bits_word a = ap code (spell_bits (take k (drop a letters)) (all_take _ k (drop a letters) (all_drop _ a letters good)))
 
   -- the code of the next word, which is the i-th from position `at` on
-  pub word-here : (at i c x : ℕ) → at + i + k ≤ length letters → Rolls k letters (at + i) c → x ≡ two_bits (get_or letters (at + (k - 1) + i) 0)
+  pub word_here : (at i c x : ℕ) → at + i + k ≤ length letters → Rolls k letters (at + i) c → x ≡ two_bits (get_or letters (at + (k - 1) + i) 0)
       → rolled k c x ≡ code (word_at k letters (at + i))
-  word-here at i c x l r e = rolls-here k letters k_low k_high at i c x l r e ∙ bits-word (at + i)
+  word_here at i c x l r e = rolls_here k letters k_low k_high at i c x l r e ∙ bits_word (at + i)
 
   -- and with it the pass goes on
   pub word_on : (at i c : ℕ) → at + i + k ≤ length letters → c ≡ code (word_at k letters (at + i)) → Rolls k letters (at + (i + 1)) c
-  word_on at i c l e = rolls-on k letters k_low k_high at i c l (e ∙ sym (bits-word (at + i)))
+  word_on at i c l e = rolls_on k letters k_low k_high at i c l (e ∙ sym (bits_word (at + i)))

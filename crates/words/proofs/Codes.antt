@@ -23,10 +23,10 @@ code_from_lem high [] = omega arith
 code_from_lem high (x ∷ w) =
     code_from_lem (high * 4 + x) w
     ∙ (spread high x (4 ^ length w) (code w)
-    ∙ ap₂ (λ (p q : ℕ). high * p + q) (sym (pow-suc (length w))) (sym (code_from_lem (0 * 4 + x) w)))
+    ∙ ap₂ (λ (p q : ℕ). high * p + q) (sym (pow_suc (length w))) (sym (code_from_lem (0 * 4 + x) w)))
   where
-    pow-suc : (n : ℕ) → 4 ^ suc n ≡ 4 * 4 ^ n
-    pow-suc n = omega arith
+    pow_suc : (n : ℕ) → 4 ^ suc n ≡ 4 * 4 ^ n
+    pow_suc n = omega arith
 
     spread : (a x m c : ℕ) → (a * 4 + x) * m + c ≡ a * (4 * m) + ((0 * 4 + x) * m + c)
     spread a x m c = rw (add-mul (a * 4) x m, mul_assoc a 4 m, zero-mul 4, zero-add x) (add_assoc (a * (4 * m)) (x * m) c)

@@ -16,7 +16,7 @@ use lib.Seq.{take-suc, drop-cons, get_or-drop, length-take-le}
 use Rattle.lists.specs.Every.{All}
 use Rattle.lists.specs.Limits.{most_k}
 use Rattle.lists.proofs.Cuts.{map_cut}
-use Rattle.lists.proofs.Every.{all_take, all_drop, all-at}
+use Rattle.lists.proofs.Every.{all_take, all_drop, all_at}
 use Rattle.alphabet.specs.Letter.{is_letter, letter, two_bits, paired}
 use Rattle.words.specs.Word.{Letters, code, turn, spell, word_at}
 use Rattle.words.specs.Turned.{rolled, rolled_turned}
@@ -61,33 +61,33 @@ module _ (xs : List ℕ) where
       let l : j < length (drop a xs) = rw (length-drop a xs) (omega arith) in
       take-suc (drop a xs) j 0 l ∙ ap (λ (x : ℕ). take j (drop a xs) ++ (x ∷ [])) (get_or-drop a xs j 0)
 
-  take-tail : (j a : ℕ) → a < length xs → take (suc j) (drop a xs) ≡ get_or xs a 0 ∷ take j (drop (suc a) xs)
-  take-tail j a h = ap (take (suc j)) (drop-cons xs a 0 h)
+  take_tail : (j a : ℕ) → a < length xs → take (suc j) (drop a xs) ≡ get_or xs a 0 ∷ take j (drop (suc a) xs)
+  take_tail j a h = ap (take (suc j)) (drop-cons xs a 0 h)
 
   -- j letters from a on
   pub length_at : (j a : ℕ) → a + j ≤ length xs → length (take j (drop a xs)) ≡ j
   length_at j a h = length-take-le j (drop a xs) (rw (length-drop a xs) (omega arith))
 
   -- which are letters
-  pub letters-at : Letters xs → (j a : ℕ) → Letters (take j (drop a xs))
-  letters-at h j a = all_take (λ x. x < 4) j (drop a xs) (all_drop (λ x. x < 4) a xs h)
+  pub letters_at : Letters xs → (j a : ℕ) → Letters (take j (drop a xs))
+  letters_at h j a = all_take (λ x. x < 4) j (drop a xs) (all_drop (λ x. x < 4) a xs h)
 
   -- one letter more
-  pub code-more : (j a : ℕ) → a + j < length xs → code_at (suc j) a ≡ code_at j a * 4 + get_or xs (a + j) 0
-  code-more j a h = ap code (take_more j a h) ∙ code-snoc (take j (drop a xs)) (get_or xs (a + j) 0)
+  pub code_more : (j a : ℕ) → a + j < length xs → code_at (suc j) a ≡ code_at j a * 4 + get_or xs (a + j) 0
+  code_more j a h = ap code (take_more j a h) ∙ code-snoc (take j (drop a xs)) (get_or xs (a + j) 0)
 
   -- c ends in the j letters from a on: with the next letter it is the code of j + 1 letters
-  pub code-rolls : Letters xs → (j a c : ℕ) → a + j < length xs → c % 4 ^ j ≡ code_at j a → rolled (suc j) c (get_or xs (a + j) 0) ≡ code_at (suc j) a
-  code-rolls h j a c l e =
-      mod-step j c (get_or xs (a + j) 0) (all-at (λ x. x < 4) xs h (a + j) 0 l) ∙ (ap (λ (n : ℕ). n * 4 + get_or xs (a + j) 0) e ∙ sym (code-more j a l))
+  pub code_rolls : Letters xs → (j a c : ℕ) → a + j < length xs → c % 4 ^ j ≡ code_at j a → rolled (suc j) c (get_or xs (a + j) 0) ≡ code_at (suc j) a
+  code_rolls h j a c l e =
+      mod-step j c (get_or xs (a + j) 0) (all_at (λ x. x < 4) xs h (a + j) 0 l) ∙ (ap (λ (n : ℕ). n * 4 + get_or xs (a + j) 0) e ∙ sym (code_more j a l))
 
   -- and that ends in the j letters from a + 1 on
-  pub code-tail : Letters xs → (j a : ℕ) → a + j < length xs → code_at (suc j) a % 4 ^ j ≡ code_at j (suc a)
-  code-tail h j a l =
+  pub code_tail : Letters xs → (j a : ℕ) → a + j < length xs → code_at (suc j) a % 4 ^ j ≡ code_at j (suc a)
+  code_tail h j a l =
       let n = length_at j (suc a) (omega arith) in
-      ap (λ (w : List ℕ). code w % 4 ^ j) (take-tail j a (omega arith))
+      ap (λ (w : List ℕ). code w % 4 ^ j) (take_tail j a (omega arith))
       ∙ (ap (λ (m : ℕ). code (get_or xs a 0 ∷ take j (drop (suc a) xs)) % 4 ^ m) (sym n)
-      ∙ tail_code (get_or xs a 0) (take j (drop (suc a) xs)) (letters-at h j (suc a)))
+      ∙ tail_code (get_or xs a 0) (take j (drop (suc a) xs)) (letters_at h j (suc a)))
 
 -- the word at a position is a part of the word that all letters spell
 pub word_part : (k : ℕ) (letters : List ℕ) (a : ℕ) → word_at k letters a ≡ take k (drop a (spell letters))
@@ -99,7 +99,7 @@ length_word k letters a l = ap length (word_part k letters a) ∙ length_at (spe
 
 -- and each is the code of a letter, where the bytes are letters
 pub letters_word : (k : ℕ) (letters : List ℕ) (a : ℕ) → All (λ b. is_letter b ≡ true) letters → Letters (word_at k letters a)
-letters_word k letters a good = subst Letters (sym (word_part k letters a)) (letters-at (spell letters) (spell-letters letters good) k a)
+letters_word k letters a good = subst Letters (sym (word_part k letters a)) (letters_at (spell letters) (spell-letters letters good) k a)
 
 -- ─── masks and shifts ────────────────────────────────────────────────────────
 

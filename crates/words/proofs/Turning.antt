@@ -152,8 +152,8 @@ module _ (e k c left rest turned t : ℕ) (s : Turning k c left rest turned) (h 
       subst (λ (n : ℕ). turned * 4 ^ e + t < n) (sym (pow-add 4 (k - left) e) ∙ ap (λ (n : ℕ). 4 ^ n) q) (digits_lt s.small l)
 
   -- e letters more fit
-  pub turning-fits : turned * 4 ^ e + t < 18446744073709551616
-  turning-fits =
+  pub turning_fits : turned * 4 ^ e + t < 18446744073709551616
+  turning_fits =
       lt_of_lt_of_le grown
       (le_trans (pow-le-pow_right (lit< tt) {j = most_k} (omega (arith, s.left_high, s.k_high))) (lit≤ {m = 4 ^ most_k} {n = 18446744073709551616} tt))
 
@@ -161,28 +161,28 @@ module _ (e k c left rest turned t : ℕ) (s : Turning k c left rest turned) (h 
   step rest' q = record { left_high = omega (arith, s.left_high); k_high = s.k_high; small = grown; ends = q ∙ s.ends }
 
 module _ (k c left rest turned : ℕ) (s : Turning k c left rest turned) where
-  pub four-fit : 4 ≤ left → (t : ℕ) → t ≡ turned_code 4 (rest % 256) → turned * 256 + t < 18446744073709551616
-  four-fit h t e = turning-fits 4 k c left rest turned t s h (subst (λ (n : ℕ). n < 256) (sym e) (turned_four_lt (rest % 256)))
+  pub four_fit : 4 ≤ left → (t : ℕ) → t ≡ turned_code 4 (rest % 256) → turned * 256 + t < 18446744073709551616
+  four_fit h t e = turning_fits 4 k c left rest turned t s h (subst (λ (n : ℕ). n < 256) (sym e) (turned_four_lt (rest % 256)))
 
-  pub four-turned : 4 ≤ left → (t : ℕ) → t ≡ turned_code 4 (rest % 256) → Turning k c (left - 4) (rest / 256) (turned * 256 + t)
-  four-turned h t e =
+  pub four_turned : 4 ≤ left → (t : ℕ) → t ≡ turned_code 4 (rest % 256) → Turning k c (left - 4) (rest / 256) (turned * 256 + t)
+  four_turned h t e =
       let q : left ≡ suc (suc (suc (suc (left - 4)))) = omega arith in
       step 4 k c left rest turned t s h (subst (λ (n : ℕ). n < 256) (sym e) (turned_four_lt (rest % 256))) (rest / 256)
       (sym (ap (λ (n : ℕ). turn_from n rest turned) q ∙ four_more (left - 4) rest turned t (e ∙ turned_from 4 (rest % 256))))
 
-  pub one-fits : 1 ≤ left → turned * 4 + (3 - rest % 4) < 18446744073709551616
-  one-fits h = turning-fits 1 k c left rest turned (3 - rest % 4) s h (omega arith)
+  pub one_fits : 1 ≤ left → turned * 4 + (3 - rest % 4) < 18446744073709551616
+  one_fits h = turning_fits 1 k c left rest turned (3 - rest % 4) s h (omega arith)
 
   -- one letter turned
-  pub one-turned : 1 ≤ left → Turning k c (left - 1) (rest / 4) (turned * 4 + (3 - rest % 4))
+  pub one_turned : 1 ≤ left → Turning k c (left - 1) (rest / 4) (turned * 4 + (3 - rest % 4))
   unfolding turn_from
-  one-turned h =
+  one_turned h =
       let q : left ≡ suc (left - 1) = omega arith in
       step 1 k c left rest turned (3 - rest % 4) s h (omega arith) (rest / 4) (sym (ap (λ (n : ℕ). turn_from n rest turned) q))
 
   -- all letters turned
-  pub turning-ends : left ≤ 0 → turned ≡ turned_code k c
+  pub turning_ends : left ≤ 0 → turned ≡ turned_code k c
   unfolding turn_from
-  turning-ends h =
+  turning_ends h =
       let q : left ≡ 0 = omega arith in
       sym (ap (λ (n : ℕ). turn_from n rest turned) q) ∙ s.ends

@@ -1,5 +1,5 @@
 -- `apply` meets its contract: the tables judged, then the places. Assumes nothing.
-use Rattle.apply.proofs.Applying.{tables_good, apply-refused, apply-goes-on}
+use Rattle.apply.proofs.Applying.{tables_good, apply_refused, apply_goes_on}
 use Rattle.apply.specs.Apply.{Lent, lent}
 use Rattle.collection.specs.Collection.{Collection, collection}
 use Rattle.collection.specs.Tables.{tables}
@@ -22,7 +22,7 @@ pub returns-in-Bad : goal.returns-in-Bad
 returns-in-Bad c =
     let j = c.before in
     let s = j in
-    apply-refused (strings s.before.before.before.before.before.before.before.before.before) s.args.signed.now (lents s.before.before.before.before.before.before.before.before.before) j.judge_tables-v.ensures c.in-Bad.is
+    apply_refused (strings s.before.before.before.before.before.before.before.before.before) s.args.signed.now (lents s.before.before.before.before.before.before.before.before.before) j.judge_tables-v.ensures c.in-Bad.is
 
 pub apply_places-requires : goal.apply_places-requires
 apply_places-requires c =
@@ -36,4 +36,4 @@ returns c =
     let g = p in
     let j = g in
     let s = j in
-    apply-goes-on (strings s.before.before.before.before.before.before.before.before.before.before.before.before.before.before.before.before.before.before.before.before.before.before) s.args.signed.now (lents s.before.before.before.before.before.before.before.before.before.before.before.before.before.before.before.before.before.before.before.before.before.before) j.judge_tables-v.ensures g.in_default.is p.apply_places.ensures
+    apply_goes_on (strings s.before.before.before.before.before.before.before.before.before.before.before.before.before.before.before.before.before.before.before.before.before.before) s.args.signed.now (lents s.before.before.before.before.before.before.before.before.before.before.before.before.before.before.before.before.before.before.before.before.before.before) j.judge_tables-v.ensures g.in_default.is p.apply_places.ensures

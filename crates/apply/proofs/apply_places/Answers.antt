@@ -1,5 +1,5 @@
 -- `apply_places` meets its contract: the places judged, then the strings written, and work zeroed. Assumes nothing.
-use Rattle.apply.proofs.Applying.{places-refused, placeable, places-filled}
+use Rattle.apply.proofs.Applying.{places_refused, placeable, places_filled}
 use Rattle.apply.specs.Apply.{Lent, lent}
 use Rattle.collection.specs.Collection.{Collection, collection}
 use Rattle.collection.specs.Tables.{tables}
@@ -23,7 +23,7 @@ returns-in-Bad c =
     let v = c.before in
     let j = v in
     let s = j in
-    places-refused (strings s.before.before.before.before.before.before.before.before.before.before.before.before.before.before.before.before) s.args.signed.now (lents s.before.before.before.before.before.before.before.before.before.before.before.before.before.before.before.before) j.judge_places-v.ensures v.in-Bad.is c.zero_first.ensures
+    places_refused (strings s.before.before.before.before.before.before.before.before.before.before.before.before.before.before.before.before) s.args.signed.now (lents s.before.before.before.before.before.before.before.before.before.before.before.before.before.before.before.before) j.judge_places-v.ensures v.in-Bad.is c.zero_first.ensures
 
 pub place_strings-requires : goal.place_strings-requires
 place_strings-requires c =
@@ -38,5 +38,5 @@ returns c =
     let g = p in
     let j = g in
     let s = j in
-    places-filled (strings s.before.before.before.before.before.before.before.before.before.before.before.before.before.before.before.before.before.before.before.before.before.before.before.before.before.before) s.args.signed.now (lents s.before.before.before.before.before.before.before.before.before.before.before.before.before.before.before.before.before.before.before.before.before.before.before.before.before.before) j.judge_places-v.ensures g.in_default.is p.place_strings.ensures
+    places_filled (strings s.before.before.before.before.before.before.before.before.before.before.before.before.before.before.before.before.before.before.before.before.before.before.before.before.before.before) s.args.signed.now (lents s.before.before.before.before.before.before.before.before.before.before.before.before.before.before.before.before.before.before.before.before.before.before.before.before.before.before) j.judge_places-v.ensures g.in_default.is p.place_strings.ensures
     c.zero_first-2.ensures

@@ -5,7 +5,7 @@ use Rattle.collection.specs.Collection.{collection}
 use Rattle.collection.specs.declared.Verdict.TheVariants.{Good}
 use Rattle.collection.proofs.Strung.{judged_strung}
 use Rattle.cover.specs.Cover.{cover_verdict}
-use Rattle.cover.proofs.Promised.{Roomy, cover_good, work-fits, places-fit, cover-refused, cover_none, cover_all}
+use Rattle.cover.proofs.Promised.{Roomy, cover_good, work_fits, places_fit, cover_refused, cover_none, cover_all}
 use Rattle.cover.proofs.cover.Goals as goal
 use Rattle.cover.proofs.cover.Lts as lts
 use Rattle.cover.proofs.cover.Tie as tie
@@ -25,7 +25,7 @@ roomy : (c : Place-After-enum_told)
 roomy c = cover_good _ _ _ (good c)
 
 pub returns-in-Bad : goal.returns-in-Bad
-returns-in-Bad c = cover-refused (sym c.judge_cover-v.ensures ∙ c.in-Bad.is)
+returns-in-Bad c = cover_refused (sym c.judge_cover-v.ensures ∙ c.in-Bad.is)
 
 pub returns-then-m-eq0 : goal.returns-then-m-eq0
 returns-then-m-eq0 c = cover_none _ _ _ _ (good c.before.before) c.if-m-eq0.true
@@ -37,18 +37,18 @@ pub slice_bounds-cover_strings-end : goal.slice_bounds-cover_strings-end
 slice_bounds-cover_strings-end c = (roomy c.before.before).places_room
 
 pub slice_bounds-cover_strings-end-2 : goal.slice_bounds-cover_strings-end-2
-slice_bounds-cover_strings-end-2 c = sym (places-fit (roomy c.before.before.before))
+slice_bounds-cover_strings-end-2 c = sym (places_fit (roomy c.before.before.before))
 
 pub slice_bounds-cover_strings-end-3 : goal.slice_bounds-cover_strings-end-3
 slice_bounds-cover_strings-end-3 c = (roomy c.before.before.before).work_room
 
 pub slice_bounds-cover_strings-end-4 : goal.slice_bounds-cover_strings-end-4
-slice_bounds-cover_strings-end-4 c = sym (work-fits (roomy c.before.before.before.before) c.if-m-eq0.false).size
+slice_bounds-cover_strings-end-4 c = sym (work_fits (roomy c.before.before.before.before) c.if-m-eq0.false).size
 
 pub cover_strings-paths-requires : goal.cover_strings-paths-requires
 cover_strings-paths-requires c =
     let r = roomy c.before.before.before.before in
-    (judged_strung r.judged, work-fits r c.if-m-eq0.false, places-fit r)
+    (judged_strung r.judged, work_fits r c.if-m-eq0.false, places_fit r)
 
 pub returns : goal.returns
 returns c =

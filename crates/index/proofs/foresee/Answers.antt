@@ -9,7 +9,7 @@ use Rattle.collection.proofs.Judged.{collection_good}
 use Rattle.collection.proofs.Ready.{judged_ready}
 use Rattle.index_minimizers.specs.Minimizer.{sizes_verdict}
 use Rattle.index_minimizers.proofs.Sizes.{sizes_good, words_few}
-use Rattle.index.proofs.Indexed.{sizes-refused, collection-refused, room-enough, room-refused}
+use Rattle.index.proofs.Indexed.{sizes_refused, collection_refused, room_enough, room_refused}
 use Rattle.index.proofs.foresee.Goals as goal
 use Rattle.index.proofs.foresee.Lts as lts
 use Rattle.index.proofs.foresee.Tie as tie
@@ -36,11 +36,11 @@ passes : (c : Place-After-enum_told2) → Passes (strings c.before.before.before
 passes c = sym c.judge_collection-b.ensures ∙ c.in_default-b.is
 
 pub returns-in-Bad : goal.returns-in-Bad
-returns-in-Bad c = λ t s. sizes-refused _ _ (sym c.judge_sizes-a.ensures ∙ c.in-Bad.is) t
+returns-in-Bad c = λ t s. sizes_refused _ _ (sym c.judge_sizes-a.ensures ∙ c.in-Bad.is) t
 
 pub returns-in-Bad-b : goal.returns-in-Bad-b
 returns-in-Bad-b c =
-    λ t s. collection-refused _ _ (sizes c.before.before.before)
+    λ t s. collection_refused _ _ (sizes c.before.before.before)
     (sym c.judge_collection-b.ensures ∙ c.in-Bad-b.is) t
 
 pub count_all-stretches-requires : goal.count_all-stretches-requires
@@ -57,7 +57,7 @@ pub returns-then-stretches-firsts : goal.returns-then-stretches-firsts
 returns-then-stretches-firsts c =
     let g = c.before in
     let a = g.args in
-    room-enough (strings g.before.before.before.before.before.before.before.before.before.before) a.p (sizes g.before.before.before.before.before)
+    room_enough (strings g.before.before.before.before.before.before.before.before.before.before) a.p (sizes g.before.before.before.before.before)
     (passes c.before.before.before.before) c.count_all-stretches.ensures (ap (λ (d : ℕ). d + 1) c.word_count-starts.ensures)
     a.firsts a.positions a.numbers a.before a.work c.if-stretches-firsts.true
 
@@ -65,6 +65,6 @@ pub returns : goal.returns
 returns c =
     let g = c.before in
     let a = g.args in
-    room-refused (strings g.before.before.before.before.before.before.before.before.before.before) a.p (sizes g.before.before.before.before.before)
+    room_refused (strings g.before.before.before.before.before.before.before.before.before.before) a.p (sizes g.before.before.before.before.before)
     (passes c.before.before.before.before) c.count_all-stretches.ensures (ap (λ (d : ℕ). d + 1) c.word_count-starts.ensures)
     a.firsts a.positions a.numbers a.before a.work c.if-stretches-firsts.false

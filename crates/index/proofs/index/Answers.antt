@@ -2,7 +2,7 @@
 use mathlib.Core.Path.{◌≡◌, refl}
 use Rattle.index.specs.Indexing.{Lent, lent}
 use Rattle.index.specs.Judged.{foreseen}
-use Rattle.index.proofs.Indexed.{index-refused, foreseen-judged, index-goes-on}
+use Rattle.index.proofs.Indexed.{index_refused, foreseen_judged, index_goes_on}
 use Rattle.collection.specs.Collection.{Collection, collection}
 use Rattle.index.proofs.index.Goals as goal
 use Rattle.index.proofs.index.Lts as lts
@@ -31,19 +31,19 @@ pub returns-in_default : goal.returns-in_default
 returns-in_default c =
     let f = c.before in
     let s = f in
-    index-refused (strings s.before.before.before.before.before.before.before.before.before.before) s.args.p (tables s.before.before.before.before.before.before.before.before.before.before) (told f.before) c.in_default.is
+    index_refused (strings s.before.before.before.before.before.before.before.before.before.before) s.args.p (tables s.before.before.before.before.before.before.before.before.before.before) (told f.before) c.in_default.is
 
 pub index_judged-requires : goal.index_judged-requires
 index_judged-requires c =
     let g = c.before in
     let f = g in
     let s = f in
-    foreseen-judged (strings s.before.before.before.before.before.before.before.before.before.before.before.before.before.before.before) s.args.p (tables s.before.before.before.before.before.before.before.before.before.before.before.before.before.before.before) (told f.before.before.before.before.before.before) g.in-Indexed.is
+    foreseen_judged (strings s.before.before.before.before.before.before.before.before.before.before.before.before.before.before.before) s.args.p (tables s.before.before.before.before.before.before.before.before.before.before.before.before.before.before.before) (told f.before.before.before.before.before.before) g.in-Indexed.is
 
 pub returns : goal.returns
 returns c =
     let g = c.before in
     let f = g in
     let s = f in
-    index-goes-on (strings s.before.before.before.before.before.before.before.before.before.before.before.before.before.before.before.before.before.before.before.before.before.before.before.before.before.before) s.args.p (tables s.before.before.before.before.before.before.before.before.before.before.before.before.before.before.before.before.before.before.before.before.before.before.before.before.before.before) (told f.before.before.before.before.before.before.before.before.before.before.before.before.before.before.before.before.before) g.in-Indexed.is
+    index_goes_on (strings s.before.before.before.before.before.before.before.before.before.before.before.before.before.before.before.before.before.before.before.before.before.before.before.before.before.before) s.args.p (tables s.before.before.before.before.before.before.before.before.before.before.before.before.before.before.before.before.before.before.before.before.before.before.before.before.before.before) (told f.before.before.before.before.before.before.before.before.before.before.before.before.before.before.before.before.before) g.in-Indexed.is
     c.index_judged.ensures

@@ -4,7 +4,7 @@ use Prim.Native.Nat.{ℕ, ◌+◌}
 use native.Mathlib.Omega.{arith}
 use Rattle.repeats.proofs.Arranged.{few_kmers}
 use Rattle.index.specs.Indexing.{Lent, lent}
-use Rattle.index.proofs.Indexed.{repeat-refused, judged-still, index-made, work-still}
+use Rattle.index.proofs.Indexed.{repeat_refused, judged_still, index_made_lem, work_still}
 use Rattle.index.proofs.index_judged.Goals as goal
 use Rattle.index.proofs.index_judged.Lts as lts
 use Rattle.index.proofs.index_judged.Tie as tie
@@ -21,12 +21,12 @@ pub returns-then-repeat-ne0 : goal.returns-then-repeat-ne0
 returns-then-repeat-ne0 c =
     let t = c.before in
     let f = t in
-    repeat-refused (tables f.before.before.before.before.before.before.before.before.before.before.before.before.before.before.before.before) f.requires f.first_repeat-repeat.ensures t.if-repeat-ne0.true c.zero_first.ensures
+    repeat_refused (tables f.before.before.before.before.before.before.before.before.before.before.before.before.before.before.before.before) f.requires f.first_repeat-repeat.ensures t.if-repeat-ne0.true c.zero_first.ensures
 
 pub build-requires : goal.build-requires
 build-requires c =
     let f = c.before in
-    judged-still (tables f.before.before.before.before.before.before.before.before.before.before.before.before.before.before.before.before.before) f.requires f.first_repeat-repeat.ensures
+    judged_still (tables f.before.before.before.before.before.before.before.before.before.before.before.before.before.before.before.before.before) f.requires f.first_repeat-repeat.ensures
 
 pub overflow_mul-n-2 : goal.overflow_mul-n-2
 overflow_mul-n-2 c =
@@ -37,7 +37,7 @@ pub zero_first-requires-2 : goal.zero_first-requires-2
 zero_first-requires-2 c =
     let b = c.before in
     let f = b in
-    work-still (tables f.before.before.before.before.before.before.before.before.before.before.before.before.before.before.before.before.before.before.before.before.before.before.before.before.before.before.before.before.before) f.requires f.first_repeat-repeat.ensures b.build.ensures
+    work_still (tables f.before.before.before.before.before.before.before.before.before.before.before.before.before.before.before.before.before.before.before.before.before.before.before.before.before.before.before.before.before) f.requires f.first_repeat-repeat.ensures b.build.ensures
 
 pub word_count-starts-requires : goal.word_count-starts-requires
 word_count-starts-requires c = c.requires.p_high
@@ -51,5 +51,5 @@ pub returns : goal.returns
 returns c =
     let b = c.before in
     let f = b in
-    index-made (tables f.before.before.before.before.before.before.before.before.before.before.before.before.before.before.before.before.before.before.before.before.before.before.before.before.before.before.before.before.before.before.before.before.before) f.requires f.first_repeat-repeat.ensures b.build.ensures c.if-repeat-ne0.false
+    index_made_lem (tables f.before.before.before.before.before.before.before.before.before.before.before.before.before.before.before.before.before.before.before.before.before.before.before.before.before.before.before.before.before.before.before.before.before) f.requires f.first_repeat-repeat.ensures b.build.ensures c.if-repeat-ne0.false
     c.zero_first-2.ensures (ap (λ (d : ℕ). d + 1) c.word_count-starts.ensures)

@@ -12,7 +12,7 @@ use Rattle.quick.specs.Quick.{quick_of, quick_verdict, ask_verdict, rows_verdict
 use Rattle.quick.specs.Asking.{question_of, asked_of}
 use Rattle.quick.specs.Judged.{Askable}
 use Rattle.index_minimizers.specs.Minimizer.{minimizer}
-use Rattle.quick.proofs.Asked.{ask_good, askable, asked-quick, row_below, other-below, rows_good}
+use Rattle.quick.proofs.Asked.{ask_good, askable, asked_quick, row_below, other_below, rows_good}
 use Rattle.quick.proofs.quick.Goals as goal
 use Rattle.quick.proofs.quick.Lts as lts
 use Rattle.quick.proofs.quick.Tie as tie
@@ -33,13 +33,13 @@ module _ (k p : ℕ) (word letters : List ℕ) (index : Index) (judged : ask_ver
   rows-below : (q.row < 4 ^ p) × (q.other < 4 ^ p)
   rows-below =
       subst (λ (x : Question). (x.row < 4 ^ p) × (x.other < 4 ^ p)) (sym is)
-      (row_below (ask_good k p word (length letters) judged), other-below (ask_good k p word (length letters) judged))
+      (row_below (ask_good k p word (length letters) judged), other_below (ask_good k p word (length letters) judged))
 
   can-ask : Askable k letters q
   can-ask = subst (Askable k letters) (sym is) (askable (ask_good k p word (length letters) judged) letters refl)
 
   asked : asked_of k letters index q ≡ quick_found (minimizer p) k letters index (spell word)
-  asked = ap (asked_of k letters index) is ∙ asked-quick (ask_good k p word (length letters) judged) letters index
+  asked = ap (asked_of k letters index) is ∙ asked_quick (ask_good k p word (length letters) judged) letters index
 
   verdict : rows_verdict (4 ^ p) k (length letters) index q.row q.other ≡ quick_verdict k p word letters index
   unfolding quick_verdict

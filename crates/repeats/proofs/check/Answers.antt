@@ -4,13 +4,13 @@ use Prim.Native.Nat.{ℕ, ◌*◌}
 use native.Mathlib.Omega.{arith}
 use lib.ListN.{length, replicate, length-replicate}
 use Rattle.lists.specs.Fill.{fill}
-use Rattle.lists.proofs.Zeroed.{only-fill}
+use Rattle.lists.proofs.Zeroed.{only_fill}
 use Rattle.collection.specs.Collection.{collection}
 use Rattle.collection.specs.Verdict.{at_place, settle}
 use Rattle.collection.proofs.Verdicts.{refused, settled}
 use Rattle.repeats.specs.declared.CheckAnswer.TheVariants.{Checked, Refused}
 use Rattle.repeats.specs.Check.{check_of, outcome}
-use Rattle.repeats.proofs.Checked.{Started, check-started}
+use Rattle.repeats.proofs.Checked.{Started, check_started}
 use Rattle.repeats.proofs.check.Goals as goal
 use Rattle.repeats.proofs.check.Lts as lts
 use Rattle.repeats.proofs.check.Tie as tie
@@ -22,7 +22,7 @@ Place-After-enum_told = lts.Past-After-enum_told tie.the-claims reads.Pre reads.
 -- the verdict is good
 started : (c : Place-After-enum_told)
     → let a = c.args in Started (collection a.k a.letters.now a.ends.now a.weights.now) (length a.work.now)
-started c = check-started _ _ (sym c.judge_check-v.ensures ∙ c.in_default.is)
+started c = check_started _ _ (sym c.judge_check-v.ensures ∙ c.in_default.is)
 
 pub returns-in-Bad : goal.returns-in-Bad
 unfolding check_of
@@ -50,7 +50,7 @@ returns c =
     settled _
     (ap₂ outcome (c.answer.ensures ∙ ap₂ (λ (p m : ℕ). settle (at_place 7 p) Refused (Checked m)) f.ensures.0 s.counted)
     (z.zero_first.ensures
-    ∙ (only-fill (4 * n) (replicate (4 * n) 0) a.work.now f.new.work (length-replicate (4 * n) 0)
+    ∙ (only_fill (4 * n) (replicate (4 * n) 0) a.work.now f.new.work (length-replicate (4 * n) 0)
     (omega (arith, s.enough, s.counted)) f.ensures.1
     ∙ ap (λ (m : ℕ). fill (replicate (4 * m) 0) a.work.now) s.counted)))
     (sym g.judge_check-v.ensures ∙ g.in_default.is)

@@ -1,16 +1,16 @@
 -- `put_refused` meets its contract: the number, then the place. Assumes nothing.
-use Rattle.summary_text.proofs.Stored.{number-room, place-room, refused_end}
+use Rattle.summary_text.proofs.Stored.{number_room, place_room, refused_end}
 use Rattle.summary_text.proofs.put_refused.Goals as goal
 
 pub put_entry-a-requires : goal.put_entry-a-requires
 put_entry-a-requires c =
     let g = c in
-    number-room _ _ g.args.text.now g.requires
+    number_room _ _ g.args.text.now g.requires
 
 pub put_line-requires : goal.put_line-requires
 put_line-requires c =
     let p = c in
-    place-room _ _ _ p.requires p.put_entry-a.ensures.0 p.put_entry-a.ensures.1
+    place_room _ _ _ p.requires p.put_entry-a.ensures.0 p.put_entry-a.ensures.1
 
 pub returns : goal.returns
 returns c =

@@ -2,7 +2,7 @@
 use native.Mathlib.Omega.{arith}
 use Rattle.summary_text.specs.Text.{counted_text}
 use Rattle.summary_text.proofs.Stored.{counted-length}
-use Rattle.summary_text.proofs.Outcomes.{written-refused, written-room, written-done}
+use Rattle.summary_text.proofs.Outcomes.{written_refused, written_room, written_done}
 use Rattle.summary_text.proofs.write_counted.Goals as goal
 
 pub returns-in-Bad : goal.returns-in-Bad
@@ -11,7 +11,7 @@ returns-in-Bad c =
     let z = j in
     let y = z in
     let x = y in
-    let n = counted-length x.args.n x.numbers_length-a.ensures.0 y.numbers_length-b.ensures.0 z.numbers_length-c.ensures.0 in record { text_after = written-refused _ _ n j.judge_room-v.ensures c.in-Bad.is; n_len_bound = omega (arith, n, x.numbers_length-a.ensures.1, y.numbers_length-b.ensures.1, z.numbers_length-c.ensures.1) }
+    let n = counted-length x.args.n x.numbers_length-a.ensures.0 y.numbers_length-b.ensures.0 z.numbers_length-c.ensures.0 in record { text_after = written_refused _ _ n j.judge_room-v.ensures c.in-Bad.is; n_len_bound = omega (arith, n, x.numbers_length-a.ensures.1, y.numbers_length-b.ensures.1, z.numbers_length-c.ensures.1) }
 
 pub put_counted-bytes-requires : goal.put_counted-bytes-requires
 put_counted-bytes-requires c =
@@ -22,7 +22,7 @@ put_counted-bytes-requires c =
     let n = counted-length x.args.n x.numbers_length-a.ensures.0 y.numbers_length-b.ensures.0 z.numbers_length-c.ensures.0 in
     let g = x in
     let a = g.args in
-    written-room (counted_text a.n) a.text.now n j.judge_room-v.ensures c.in_default.is
+    written_room (counted_text a.n) a.text.now n j.judge_room-v.ensures c.in_default.is
 
 pub returns : goal.returns
 returns c =
@@ -33,7 +33,7 @@ returns c =
     let x = y in
     let n = counted-length x.args.n x.numbers_length-a.ensures.0 y.numbers_length-b.ensures.0 z.numbers_length-c.ensures.0 in
     let p = c.before in record {
-      text_after = written-done _ _ n j.judge_room-v.ensures e.in_default.is p.put_counted-bytes.ensures.0
+      text_after = written_done _ _ n j.judge_room-v.ensures e.in_default.is p.put_counted-bytes.ensures.0
           p.put_counted-bytes.ensures.1;
       n_len_bound = omega (arith, n, x.numbers_length-a.ensures.1, y.numbers_length-b.ensures.1, z.numbers_length-c.ensures.1);
     }

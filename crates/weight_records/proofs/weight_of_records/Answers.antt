@@ -5,7 +5,7 @@ use native.Mathlib.Omega.{arith}
 use lib.ListN.{length, get_or}
 use Rattle.weight_records.specs.declared.State.{State}
 use Rattle.weight_records.specs.Pass.{started, stepped, finished}
-use Rattle.weight_records.proofs.Passes.{zeros, after, after_none, after_next, after_all, passed-answers}
+use Rattle.weight_records.proofs.Passes.{zeros, after, after_none, after_next, after_all, passed_answers}
 use Rattle.weight_records.proofs.weight_of_records.Goals as goal
 
 pub loop-i-init : goal.loop-i-init
@@ -24,4 +24,4 @@ returns c =
     let all : c.loop-i.i ≡ length c.args.runs.now = omega (arith, c.loop-i.invariant.0) in
     c.finish.ensures
     ∙ (ap finished (c.loop-i.invariant.1 ∙ (ap (after (started c.args.n c.args.handle) c.args.runs.now) all ∙ after_all _ _))
-    ∙ passed-answers _ _ _)
+    ∙ passed_answers _ _ _)

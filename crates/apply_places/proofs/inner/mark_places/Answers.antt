@@ -4,7 +4,7 @@ use native.Mathlib.Omega.{arith}
 use lib.IntN.{pos, nat_abs}
 use lib.ListN.{get_or}
 use Rattle.cover_trails.proofs.Signed.{kept}
-use Rattle.apply_places.proofs.Marking.{marking_begins, marking-stops, marking-used, marking-next, marking_ends, bad-zero, bad-high}
+use Rattle.apply_places.proofs.Marking.{marking_begins, marking_stops, marking_used, marking_next, marking_ends, bad_zero, bad_high}
 use Rattle.apply_places.proofs.inner.mark_places.Goals as goal
 use Rattle.apply_places.proofs.inner.mark_places.Lts as lts
 use Rattle.apply_places.proofs.inner.mark_places.Tie as tie
@@ -28,7 +28,7 @@ pub returns-then-a-eq0 : goal.returns-then-a-eq0
 returns-then-a-eq0 c =
     let l = c.loop-i in
     record {
-      first = marking-stops l.invariant c.loop-i-test.true _ (size c.before) (bad-zero _ _ _ c.if-a-eq0.true);
+      first = marking_stops l.invariant c.loop-i-test.true _ (size c.before) (bad_zero _ _ _ c.if-a-eq0.true);
       size = l.invariant.size;
       rest = l.invariant.rest;
       marked = λ q. absurd (let z : ⊥ = omega arith in z);
@@ -42,7 +42,7 @@ returns-then-m-a c =
     let s = c in
     let l = s.loop-i in
     record {
-      first = marking-stops l.invariant s.loop-i-test.true _ (size s.before.before) (bad-high _ _ _ c.if-a-eq0.false c.if-m-a.true);
+      first = marking_stops l.invariant s.loop-i-test.true _ (size s.before.before) (bad_high _ _ _ c.if-a-eq0.false c.if-m-a.true);
       size = l.invariant.size;
       rest = l.invariant.rest;
       marked = λ q. absurd (let z : ⊥ = omega arith in z);
@@ -60,10 +60,10 @@ pub returns-then-work-a-ne0 : goal.returns-then-work-a-ne0
 returns-then-work-a-ne0 c =
     let s = c.before in
     let l = s.loop-i in
-    let u = marking-used l.invariant s.loop-i-test.true _ (size s.before.before.before.before) c.if-a-eq0.false c.if-m-a.false
+    let u = marking_used l.invariant s.loop-i-test.true _ (size s.before.before.before.before) c.if-a-eq0.false c.if-m-a.false
     c.if-work-a-ne0.true in
     record {
-      first = marking-stops l.invariant s.loop-i-test.true _ (size s.before.before.before.before) u;
+      first = marking_stops l.invariant s.loop-i-test.true _ (size s.before.before.before.before) u;
       size = l.invariant.size;
       rest = l.invariant.rest;
       marked = λ q. absurd (let z : ⊥ = omega arith in z);
@@ -78,7 +78,7 @@ pub loop-i-preserved : goal.loop-i-preserved
 loop-i-preserved c =
     let s = c in
     let l = s.loop-i in
-    marking-next l.invariant s.loop-i-test.true _ (size s.before.before.before.before) c.if-a-eq0.false c.if-m-a.false
+    marking_next l.invariant s.loop-i-test.true _ (size s.before.before.before.before) c.if-a-eq0.false c.if-m-a.false
     (omega (arith, l.invariant.size, s.requires.1)) c.if-work-a-ne0.false s.loop-i-test.true
 
 pub shape_of-work : goal.shape_of-work

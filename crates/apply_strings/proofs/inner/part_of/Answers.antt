@@ -7,7 +7,7 @@ use lib.ListN.{get_or}
 use Rattle.collection.specs.Kmers.{within}
 use Rattle.cover_trails.specs.Places.{is_turned}
 use Rattle.cover_trails.proofs.Signed.{kept}
-use Rattle.apply_strings.proofs.Parts.{string-long, weights-before}
+use Rattle.apply_strings.proofs.Parts.{string_long, weights-before}
 use Rattle.apply_strings.proofs.inner.part_of.Goals as goal
 
 pub overflow_cast-end : goal.overflow_cast-end
@@ -17,7 +17,7 @@ pub overflow_mul-first : goal.overflow_mul-first
 overflow_mul-first c =
     let a = c.args in
     let g = c.requires in
-    omega (arith, c.start_of-start.ensures, c.shared_slice_known-2-1.given a.i, string-long g.0 a.i g.1, weights-before g.0 a.i g.1)
+    omega (arith, c.start_of-start.ensures, c.shared_slice_known-2-1.given a.i, string_long g.0 a.i g.1, weights-before g.0 a.i g.1)
 
 pub overflow_sub-first-2 : goal.overflow_sub-first-2
 overflow_sub-first-2 c =
@@ -33,12 +33,12 @@ overflow_add-result-2 c =
       arith,
       c.start_of-start.ensures,
       c.shared_slice_known-2-1.given c.args.i,
-      string-long g.0 c.args.i g.1,
+      string_long g.0 c.args.i g.1,
     )
 
 pub overflow_sub-result : goal.overflow_sub-result
 overflow_sub-result c =
-    let g = c.requires in omega (arith, c.start_of-start.ensures, string-long g.0 c.args.i g.1)
+    let g = c.requires in omega (arith, c.start_of-start.ensures, string_long g.0 c.args.i g.1)
 
 pub overflow_add-result-3 : goal.overflow_add-result-3
 overflow_add-result-3 c =
@@ -47,7 +47,7 @@ overflow_add-result-3 c =
       arith,
       c.start_of-start.ensures,
       c.shared_slice_known-2-1.given c.args.i,
-      string-long g.0 c.args.i g.1,
+      string_long g.0 c.args.i g.1,
     )
 
 pub returns : goal.returns

@@ -2,7 +2,7 @@
 use Prim.Native.Nat.{◌+◌, ◌-◌, ◌≤◌}
 use native.Mathlib.Omega.{arith}
 use lib.ListN.{length}
-use Rattle.apply_strings.proofs.Placements.{placing-begins, placing-next, placing-ends, named, part-asked, letters-inside, weights-inside, letters-asked, letters_room, weights_room, ends_room, at-few, kmer-few, few_strings, few_weights}
+use Rattle.apply_strings.proofs.Placements.{placing_begins, placing_next, placing_ends, named, part-asked, letters_inside, weights_inside, letters-asked, letters_room, weights_room, ends_room, at_few, kmer_few, few_strings, few_weights}
 use Rattle.apply_strings.proofs.inner.place_strings.Goals as goal
 use Rattle.apply_strings.proofs.inner.place_strings.Lts as lts
 use Rattle.apply_strings.proofs.inner.place_strings.Tie as tie
@@ -15,27 +15,27 @@ Place-After-part_of = lts.After-part_of tie.the-claims reads.Pre reads.Post goal
 letters-here : (c : Place-After-part_of)
     → let r = c.part_of-start.result in
     (r.start ≤ r.end) × (r.end ≤ length c.args.letters.now)
-letters-here c = letters-inside c.requires.placeable _ c.loop-j-test.true c.part_of-start.result c.part_of-start.ensures
+letters-here c = letters_inside c.requires.placeable _ c.loop-j-test.true c.part_of-start.result c.part_of-start.ensures
 
 weights-here : (c : Place-After-part_of)
     → let r = c.part_of-start.result in
     (r.first ≤ r.last) × (r.last ≤ length c.args.weights.now)
-weights-here c = weights-inside c.requires.placeable _ c.loop-j-test.true c.part_of-start.result c.part_of-start.ensures
+weights-here c = weights_inside c.requires.placeable _ c.loop-j-test.true c.part_of-start.result c.part_of-start.ensures
 
 at_here : (c : Place-After-part_of)
     → let r = c.part_of-start.result in
     c.loop-j.at + (r.end - r.start) ≤ 1048576
 at_here c =
-    at-few c.requires.placeable c.loop-j.invariant c.loop-j-test.true c.part_of-start.result c.part_of-start.ensures
+    at_few c.requires.placeable c.loop-j.invariant c.loop-j-test.true c.part_of-start.result c.part_of-start.ensures
 
 kmer-here : (c : Place-After-part_of)
     → let r = c.part_of-start.result in
     c.loop-j.kmer + (r.last - r.first) ≤ 1048576
 kmer-here c =
-    kmer-few c.requires.placeable c.loop-j.invariant c.loop-j-test.true c.part_of-start.result c.part_of-start.ensures
+    kmer_few c.requires.placeable c.loop-j.invariant c.loop-j-test.true c.part_of-start.result c.part_of-start.ensures
 
 pub loop-j-init : goal.loop-j-init
-loop-j-init c = let g = c.requires in placing-begins g.placeable g.room.0 g.room.1 g.room.2
+loop-j-init c = let g = c.requires in placing_begins g.placeable g.room.0 g.room.1 g.room.2
 
 pub bounds-work-j : goal.bounds-work-j
 bounds-work-j c = omega (arith, c.requires.placeable.work_room)
@@ -121,7 +121,7 @@ overflow_add-j c =
 pub loop-j-preserved : goal.loop-j-preserved
 loop-j-preserved c =
     let g = c.before in
-    placing-next g.requires.placeable g.loop-j.invariant g.loop-j-test.true g.part_of-start.result g.part_of-start.ensures
+    placing_next g.requires.placeable g.loop-j.invariant g.loop-j-test.true g.part_of-start.result g.part_of-start.ensures
     c.write_letters.ensures c.write_column.ensures
 
 pub shape_of-new_letters : goal.shape_of-new_letters
@@ -134,4 +134,4 @@ pub shape_of-new_weights : goal.shape_of-new_weights
 shape_of-new_weights c = c.loop-j.invariant.weights_left.size_kept
 
 pub returns : goal.returns
-returns c = placing-ends c.requires.placeable c.loop-j.invariant c.loop-j-test.false
+returns c = placing_ends c.requires.placeable c.loop-j.invariant c.loop-j-test.false

@@ -3,7 +3,7 @@ use mathlib.Core.Path.{◌≡◌, refl, sym, ap, ◌∙◌}
 use mathlib.Core.Bool.{not}
 use native.Mathlib.Omega.{arith}
 use Rattle.lists.proofs.Every.{every-all}
-use Rattle.lists.proofs.First.{first-here, first_next, first-end}
+use Rattle.lists.proofs.First.{first_here, first_next, first_end}
 use Rattle.alphabet.specs.Letter.{is_letter}
 use Rattle.collection_faults.proofs.Finding.{every_first}
 use Rattle.collection_faults.proofs.inner.first_other.Goals as goal
@@ -19,7 +19,7 @@ loop-i-init c = (omega arith, refl)
 pub returns-then-not-is_letter : goal.returns-then-not-is_letter
 returns-then-not-is_letter c =
     sym (c.loop-i.invariant.1
-    ∙ first-here (λ b. not (is_letter b)) _ _ 0 c.loop-i-test.true
+    ∙ first_here (λ b. not (is_letter b)) _ _ 0 c.loop-i-test.true
     (ap not (sym c.is_letter.ensures) ∙ (path.ap bool.not c.if-not-is_letter.true)))
 
 pub loop-i-preserved : goal.loop-i-preserved
@@ -30,4 +30,4 @@ loop-i-preserved c = (
 )
 
 pub returns : goal.returns
-returns c = sym (c.loop-i.invariant.1 ∙ first-end (λ b. not (is_letter b)) _ _ c.loop-i-test.false)
+returns c = sym (c.loop-i.invariant.1 ∙ first_end (λ b. not (is_letter b)) _ _ c.loop-i-test.false)

@@ -2,7 +2,7 @@
 use mathlib.Core.Path.{refl, sym, ◌∙◌}
 use native.Mathlib.Omega.{arith}
 use borrow.Author.Tests.{eqb-true}
-use Rattle.collection_faults.proofs.Finding.{short-here, short-next, short_end}
+use Rattle.collection_faults.proofs.Finding.{short_here, short_next, short_end}
 use Rattle.collection_faults.proofs.inner.first_short.Goals as goal
 
 pub returns-then-none_short : goal.returns-then-none_short
@@ -15,12 +15,12 @@ pub overflow_cast-e : goal.overflow_cast-e
 overflow_cast-e c = omega (arith, c.shared_slice_known-in-loop-i-1.given c.loop-i.i)
 
 pub returns-then-e-before : goal.returns-then-e-before
-returns-then-e-before c = sym (c.loop-i.invariant.1 ∙ short-here _ _ _ _ c.loop-i-test.true c.if-e-before.true)
+returns-then-e-before c = sym (c.loop-i.invariant.1 ∙ short_here _ _ _ _ c.loop-i-test.true c.if-e-before.true)
 
 pub loop-i-preserved : goal.loop-i-preserved
 loop-i-preserved c = (
   omega arith,
-  c.loop-i.invariant.1 ∙ short-next _ _ _ _ c.loop-i-test.true c.if-e-before.false,
+  c.loop-i.invariant.1 ∙ short_next _ _ _ _ c.loop-i-test.true c.if-e-before.false,
   omega (arith, c.shared_slice_known-in-loop-i-1.given c.loop-i.i),
 )
 

@@ -3,7 +3,7 @@ use mathlib.Core.Path.{◌≡◌, refl, sym, ap, ◌∙◌}
 use mathlib.Core.Bool.{not}
 use native.Mathlib.Omega.{arith}
 use Rattle.lists.proofs.Every.{every-all}
-use Rattle.lists.proofs.First.{first-here, first_next, first-end}
+use Rattle.lists.proofs.First.{first_here, first_next, first_end}
 use Rattle.collection_faults.specs.Faults.{is_weight}
 use Rattle.collection_faults.proofs.Finding.{every_first}
 use Rattle.collection_faults.proofs.inner.first_weight.Goals as goal
@@ -19,7 +19,7 @@ loop-i-init c = (omega arith, refl)
 pub returns-then-not-is_weight : goal.returns-then-not-is_weight
 returns-then-not-is_weight c =
     sym (c.loop-i.invariant.1
-    ∙ first-here (λ w. not (is_weight w)) _ _ 0 c.loop-i-test.true
+    ∙ first_here (λ w. not (is_weight w)) _ _ 0 c.loop-i-test.true
     (ap not (sym c.is_weight.ensures) ∙ (path.ap bool.not c.if-not-is_weight.true)))
 
 pub loop-i-preserved : goal.loop-i-preserved
@@ -30,4 +30,4 @@ loop-i-preserved c = (
 )
 
 pub returns : goal.returns
-returns c = sym (c.loop-i.invariant.1 ∙ first-end (λ w. not (is_weight w)) _ _ c.loop-i-test.false)
+returns c = sym (c.loop-i.invariant.1 ∙ first_end (λ w. not (is_weight w)) _ _ c.loop-i-test.false)

@@ -1,16 +1,16 @@
 -- `cover_strings` meets its contract: the table laid out, the walks, the places, and zeros (proofs/Covered).
 use native.Mathlib.Omega.{arith}
-use Rattle.cover.proofs.Covered.{start-low, paths-low, covering}
+use Rattle.cover.proofs.Covered.{start_low, paths_low, covering}
 use Rattle.cover.proofs.covering.cover_strings.Goals as goal
 
 pub overflow_sub-result : goal.overflow_sub-result
-overflow_sub-result c = start-low c.lay_out.ensures.begun.ready.between.graph c.walk_all-tour.ensures
+overflow_sub-result c = start_low c.lay_out.ensures.begun.ready.between.graph c.walk_all-tour.ensures
 
 pub overflow_add-result : goal.overflow_add-result
 overflow_add-result c =
     omega (
       arith,
-      paths-low c.lay_out.ensures.begun.ready.between.graph c.walk_all-tour.ensures,
+      paths_low c.lay_out.ensures.begun.ready.between.graph c.walk_all-tour.ensures,
       c.requires.1.few,
     )
 

@@ -2,7 +2,7 @@
 use mathlib.Core.Path.{refl, ◌∙◌}
 use native.Mathlib.Omega.{arith}
 use Rattle.cover_tours.proofs.Regions.{stack_at, stack_size}
-use Rattle.cover.proofs.PlacedHalves.{giving-on, giving-end}
+use Rattle.cover.proofs.PlacedHalves.{giving_on, giving_end}
 use Rattle.cover.proofs.covering.write_places.Goals as goal
 
 pub loop-p-init : goal.loop-p-init
@@ -20,7 +20,7 @@ place_one-n-requires c =
 pub loop-p-preserved : goal.loop-p-preserved
 loop-p-preserved c =
     let t = c.before in
-    giving-on t.loop-p.invariant (stack_size t.requires.0) t.loop-p-test.true _
+    giving_on t.loop-p.invariant (stack_size t.requires.0) t.loop-p-test.true _
     (c.wide-c.ensures ∙ stack_at _ _ _ t.loop-p-test.true) c.place_one-n.ensures.0
     c.place_one-n.ensures.1
 
@@ -28,4 +28,4 @@ pub shape_of-places : goal.shape_of-places
 shape_of-places c = omega (arith, c.loop-p.invariant.size, c.requires.2)
 
 pub returns : goal.returns
-returns c = giving-end c.loop-p.invariant (stack_size c.requires.0) c.loop-p-test.false
+returns c = giving_end c.loop-p.invariant (stack_size c.requires.0) c.loop-p-test.false

@@ -5,8 +5,8 @@ use native.Mathlib.Omega.{arith}
 use lib.ListN.{get_or}
 use Rattle.cover_tours.specs.Layout.{tables}
 use Rattle.cover_tours.specs.Rows.{Cursors, Sought}
-use Rattle.cover_tours.proofs.Regions.{cursor_at, cursors_size, tables-cursor}
-use Rattle.cover_tours.proofs.Rows.{cursors-moved}
+use Rattle.cover_tours.proofs.Regions.{cursor_at, cursors_size, tables_cursor}
+use Rattle.cover_tours.proofs.Rows.{cursors_moved}
 use Rattle.cover_tours.proofs.inner.find.Goals as goal
 use Rattle.cover_tours.proofs.inner.find.Lts as lts
 use Rattle.cover_tours.proofs.inner.find.Tie as tie
@@ -46,9 +46,9 @@ returns c =
     let s = sought c.before in
     record {
       cursor = c.seek-e.result;
-      moves = tables-cursor _ _ _ _ (omega (arith, p.fits.1, p.fits.0.some));
+      moves = tables_cursor _ _ _ _ (omega (arith, p.fits.1, p.fits.0.some));
       kept =
-          subst (Cursors _) (sym (tables-cursor _ _ _ _ (omega (arith, p.fits.1, p.fits.0.some))))
-          (cursors-moved (p.cursors _ p.fits.1) s p.cursors (omega (arith, cursors_size p.fits.0, p.fits.1, p.fits.0.some)));
+          subst (Cursors _) (sym (tables_cursor _ _ _ _ (omega (arith, p.fits.1, p.fits.0.some))))
+          (cursors_moved (p.cursors _ p.fits.1) s p.cursors (omega (arith, cursors_size p.fits.0, p.fits.1, p.fits.0.some)));
       answer = c.found_at-r.ensures;
     }

@@ -2,20 +2,20 @@
 use mathlib.Core.Path.{sym, ◌∙◌}
 use native.Mathlib.Omega.{arith}
 use Rattle.cover_tours.proofs.Regions.{used_at}
-use Rattle.cover_tours.proofs.Tours.{visited-used, at-vertex, visited-from}
+use Rattle.cover_tours.proofs.Tours.{visited_used, at_vertex, visited_from}
 use Rattle.cover_tours.proofs.inner.visit.Goals as goal
 
 pub returns-then-work-m-ne0 : goal.returns-then-work-m-ne0
 returns-then-work-m-ne0 c =
     let p = c.requires in
-    (omega arith, visited-used p.walks_le_i.1 _ p.fits.1 (λ q. c.if-work-m-ne0.true (used_at _ _ _ (omega (arith, p.fits.1)) ∙ q)))
+    (omega arith, visited_used p.walks_le_i.1 _ p.fits.1 (λ q. c.if-work-m-ne0.true (used_at _ _ _ (omega (arith, p.fits.1)) ∙ q)))
 
 pub walk-start-requires : goal.walk-start-requires
 walk-start-requires c =
     let p = c.requires in record {
       fits = (
         p.fits.0,
-        rw c.near-s.ensures (at-vertex p.walks_le_i.1 _ p.fits.1 (sym (used_at _ _ _ (omega (arith, p.fits.1))) ∙ c.if-work-m-ne0.false)),
+        rw c.near-s.ensures (at_vertex p.walks_le_i.1 _ p.fits.1 (sym (used_at _ _ _ (omega (arith, p.fits.1))) ∙ c.if-work-m-ne0.false)),
       );
       ready = p.walks_le_i.1.ready;
     }
@@ -26,5 +26,5 @@ returns c =
     let e = w in
     let p = w.requires in (
       omega arith,
-      visited-from p.walks_le_i.1 _ p.fits.1 (sym (used_at _ _ _ (omega (arith, p.fits.1))) ∙ e.if-work-m-ne0.false) w.near-s.ensures w.walk-start.ensures,
+      visited_from p.walks_le_i.1 _ p.fits.1 (sym (used_at _ _ _ (omega (arith, p.fits.1))) ∙ e.if-work-m-ne0.false) w.near-s.ensures w.walk-start.ensures,
     )

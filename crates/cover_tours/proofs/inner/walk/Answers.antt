@@ -6,9 +6,9 @@ use lib.ListN.{length}
 use Rattle.cover_tours.specs.Layout.{tables}
 use Rattle.cover_tours.specs.Rows.{Answer}
 use Rattle.cover_tours.proofs.Regions.{fits-same}
-use Rattle.cover_tours.proofs.Going.{Going, going_start, going-found, found_left}
-use Rattle.cover_tours.proofs.Taking.{take-inside, going-took, took-fewer}
-use Rattle.cover_tours.proofs.GivingBack.{going-closed, going-gave, gave_left}
+use Rattle.cover_tours.proofs.Going.{Going, going_start, going_found, found_left}
+use Rattle.cover_tours.proofs.Taking.{take_inside, going_took, took_fewer}
+use Rattle.cover_tours.proofs.GivingBack.{going_closed, going_gave, gave_left}
 use Rattle.cover_tours.proofs.inner.walk.Goals as goal
 use Rattle.cover_tours.proofs.inner.walk.Lts as lts
 use Rattle.cover_tours.proofs.inner.walk.Tie as tie
@@ -62,7 +62,7 @@ searched : (c : Place-After-find)
     let l = c.loop-here in
     let t = tables a.m c.find-c.new.work in
     Going a.m (tables a.m a.work.now) a.s a.z t l.n l.top l.here × Answer a.m t l.here c.find-c.result
-searched c = going-found c.loop-here.invariant.1 c.find-c.ensures
+searched c = going_found c.loop-here.invariant.1 c.find-c.ensures
 
 pub loop-here-init : goal.loop-here-init
 loop-here-init c = (c.requires.fits.0, going_start _ c.requires.fits.1 c.requires.ready)
@@ -79,7 +79,7 @@ pub take-here-requires : goal.take-here-requires
 take-here-requires c =
     let g = after-find-from-take c in
     let f = searched g in
-    (fits-same g.loop-here.invariant.0 (omega arith), take-inside f.0 _ f.1 c.if-c-m.true, c.if-c-m.true)
+    (fits-same g.loop-here.invariant.0 (omega arith), take_inside f.0 _ f.1 c.if-c-m.true, c.if-c-m.true)
 
 pub loop-here-smaller-then-c-m : goal.loop-here-smaller-then-c-m
 loop-here-smaller-then-c-m c =
@@ -87,7 +87,7 @@ loop-here-smaller-then-c-m c =
     let f = searched t.before.before.before in
     omega (
       arith,
-      took-fewer f.0 f.1 t.if-c-m.true c.take-here.ensures.written,
+      took_fewer f.0 f.1 t.if-c-m.true c.take-here.ensures.written,
       ap length (found_left t.find-c.ensures),
     )
 
@@ -96,14 +96,14 @@ loop-here-preserved-then-c-m c =
     let t = goes_on c.before in
     let f = searched t.before.before.before in (
       fits-same (turn t.before).loop-here.invariant.0 (omega arith),
-      going-took f.0 f.1 t.if-c-m.true c.take-here.ensures.written c.take-here.ensures.come_to,
+      going_took f.0 f.1 t.if-c-m.true c.take-here.ensures.written c.take-here.ensures.come_to,
     )
 
 pub shape_of-work-then-n-eq0 : goal.shape_of-work-then-n-eq0
 shape_of-work-then-n-eq0 c = omega (arith, c.work-1.given)
 
 pub returns-then-n-eq0 : goal.returns-then-n-eq0
-returns-then-n-eq0 c = let f = searched c.before.before.before.before.before in going-closed f.0 _ f.1 c.if-c-m.false c.if-n-eq0.true
+returns-then-n-eq0 c = let f = searched c.before.before.before.before.before in going_closed f.0 _ f.1 c.if-c-m.false c.if-n-eq0.true
 
 pub overflow_sub-top : goal.overflow_sub-top
 overflow_sub-top c = let f = searched (after-find-from-stuck c.before) in omega (arith, f.0.room, c.if-n-eq0.false)
@@ -134,5 +134,5 @@ loop-here-preserved c =
     let g = after-find-from-stuck e in
     let f = searched g in (
       fits-same g.loop-here.invariant.0 (omega arith),
-      going-gave f.0 f.1 e.if-c-m.false e.if-n-eq0.false c.give_back-here.ensures.written c.give_back-here.ensures.come_to,
+      going_gave f.0 f.1 e.if-c-m.false e.if-n-eq0.false c.give_back-here.ensures.written c.give_back-here.ensures.come_to,
     )

@@ -3,7 +3,7 @@ use mathlib.Core.Path.{refl}
 use native.Mathlib.Omega.{arith}
 use Rattle.cover_tours.proofs.Regions.{fits-same}
 use Rattle.cover_vertices.proofs.EndWeights.{length_keys}
-use Rattle.cover_vertices.proofs.LaidOut.{order_rises, blank_low, stages-laid}
+use Rattle.cover_vertices.proofs.LaidOut.{order_rises, blank_low, stages_laid}
 use Rattle.cover_vertices.proofs.inner.lay_out.Goals as goal
 
 pub name_vertices-requires : goal.name_vertices-requires
@@ -26,7 +26,7 @@ returns c =
     let m = c.before in
     let s = m in
     let a = s.args in
-    stages-laid (fits-same s.requires.1 (omega arith)) (length_keys a.k a.ends.now a.weights.now)
+    stages_laid (fits-same s.requires.1 (omega arith)) (length_keys a.k a.ends.now a.weights.now)
     m.order_ends.ensures m.name_vertices.ensures
     (omega arith) m.blank.ensures c.mark_odd.ensures a.k a.ends.now
     a.weights.now refl

@@ -2,7 +2,7 @@
 use Prim.Native.Nat.{◌+◌, ◌*◌, ◌<◌}
 use native.Mathlib.Omega.{arith}
 use lib.ListN.{length}
-use Rattle.cover_vertices.proofs.Marking.{marking_start, vertex-low, flag-low, marking-on, marking_end}
+use Rattle.cover_vertices.proofs.Marking.{marking_start, vertex_low, flag_low, marking_on, marking_end}
 use Rattle.cover_vertices.proofs.inner.mark_odd.Goals as goal
 use Rattle.cover_vertices.proofs.inner.mark_odd.Lts as lts
 use Rattle.cover_vertices.proofs.inner.mark_odd.Tie as tie
@@ -15,7 +15,7 @@ Place-After-wide = lts.After-wide tie.the-claims reads.Pre reads.Post goal.the-i
 vertex : (c : Place-After-wide) → c.wide.result < 2 * c.args.m
 vertex c =
     let s = c in
-    omega (arith, vertex-low s.requires.fits s.requires.all c.loop-c.invariant c.loop-c-test.true, c.wide.ensures)
+    omega (arith, vertex_low s.requires.fits s.requires.all c.loop-c.invariant c.loop-c-test.true, c.wide.ensures)
 
 flag : (c : Place-After-wide) → 3 * c.args.m + c.wide.result < length c.loop-c.work
 flag c = omega (arith, vertex c, c.requires.fits.size, c.loop-c.invariant.rest.size)
@@ -36,7 +36,7 @@ pub overflow_sub-work : goal.overflow_sub-work
 overflow_sub-work c =
     let t = c in
     let p = t.requires in
-    flag-low p.fits p.all t.loop-c.invariant c.loop-c-test.true _ c.wide.ensures
+    flag_low p.fits p.all t.loop-c.invariant c.loop-c-test.true _ c.wide.ensures
 
 pub offset_bounds-work-at-in-loop-c : goal.offset_bounds-work-at-in-loop-c
 offset_bounds-work-at-in-loop-c c = omega (arith, vertex c.before, c.requires.fits.few)
@@ -48,7 +48,7 @@ pub loop-c-preserved : goal.loop-c-preserved
 loop-c-preserved c =
     let t = c in
     let p = t.requires in
-    marking-on p.fits p.all t.loop-c.invariant c.loop-c-test.true _ c.wide.ensures
+    marking_on p.fits p.all t.loop-c.invariant c.loop-c-test.true _ c.wide.ensures
 
 pub shape_of-work : goal.shape_of-work
 shape_of-work c = c.loop-c.invariant.rest.size

@@ -1,7 +1,7 @@
 -- `name_vertices` meets its contract: each turn names one end (proofs/Naming).
 use Prim.Native.Nat.{◌*◌, ◌<◌}
 use native.Mathlib.Omega.{arith}
-use Rattle.cover_vertices.proofs.Naming.{naming_start, order-low, named-low, naming-on, naming_end}
+use Rattle.cover_vertices.proofs.Naming.{naming_start, order_low, named_low, naming_on, naming_end}
 use Rattle.cover_vertices.proofs.inner.name_vertices.Goals as goal
 use Rattle.cover_vertices.proofs.inner.name_vertices.Lts as lts
 use Rattle.cover_vertices.proofs.inner.name_vertices.Tie as tie
@@ -14,7 +14,7 @@ Place-After-wide = lts.After-wide tie.the-claims reads.Pre reads.Post goal.the-i
 end : (c : Place-After-wide) → c.wide-c.result < 2 * c.args.m
 end c =
     let s = c in
-    omega (arith, order-low s.requires.fits s.requires.rising c.loop-q.invariant c.loop-q-test.true, c.wide-c.ensures)
+    omega (arith, order_low s.requires.fits s.requires.rising c.loop-q.invariant c.loop-q-test.true, c.wide-c.ensures)
 
 pub loop-q-init : goal.loop-q-init
 loop-q-init c = naming_start _ _
@@ -42,7 +42,7 @@ overflow_cast-work c =
     let p = t.requires in
     omega (
       arith,
-      named-low p.fits p.rising t.loop-q.invariant t.loop-q-test.true _ c.wide-c.ensures _ c.vertex_of-v.ensures,
+      named_low p.fits p.rising t.loop-q.invariant t.loop-q-test.true _ c.wide-c.ensures _ c.vertex_of-v.ensures,
       p.fits.few,
       t.loop-q-test.true,
     )
@@ -59,7 +59,7 @@ pub loop-q-preserved : goal.loop-q-preserved
 loop-q-preserved c =
     let t = c in
     let p = t.requires in
-    naming-on p.fits p.rising t.loop-q.invariant t.loop-q-test.true _ c.wide-c.ensures _ c.vertex_of-v.ensures
+    naming_on p.fits p.rising t.loop-q.invariant t.loop-q-test.true _ c.wide-c.ensures _ c.vertex_of-v.ensures
 
 pub shape_of-work : goal.shape_of-work
 shape_of-work c = c.loop-q.invariant.rest.size

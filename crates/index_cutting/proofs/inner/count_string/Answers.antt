@@ -6,8 +6,8 @@ use lib.ListN.{drop, length-take}
 use Rattle.lists.proofs.Every.{every-all}
 use Rattle.alphabet.specs.Letter.{is_letter}
 use Rattle.index_minimizers.specs.Minimizer.{minimizer_at}
-use Rattle.index_cutting.proofs.Carried.{Carried, roll-fits, slide-fits, carried-begin, carried_on}
-use Rattle.index_cutting.proofs.Counting.{counting-begin, counting-on, counting-cut, counting-end}
+use Rattle.index_cutting.proofs.Carried.{Carried, roll_fits, slide_fits, carried_begin, carried_on}
+use Rattle.index_cutting.proofs.Counting.{counting_begin, counting_on, counting_cut, counting_end}
 use Rattle.index_cutting.proofs.inner.count_string.Goals as goal
 use Rattle.index_cutting.proofs.inner.count_string.Lts as lts
 use Rattle.index_cutting.proofs.inner.count_string.Tie as tie
@@ -36,19 +36,19 @@ loop-i-init c =
     let t = c.before in
     let a = t.args in
     let r = t.requires.le_p in
-    let e = carried-begin a.k a.p a.letters.now r.1 (every-all is_letter _ t.requires.letters_value) (omega arith) r.2 a.a _ _ (omega arith)
+    let e = carried_begin a.k a.p a.letters.now r.1 (every-all is_letter _ t.requires.letters_value) (omega arith) r.2 a.a _ _ (omega arith)
     c.word_code-c.ensures c.find-v.ensures in
-    (omega arith, r.3, e.1, counting-begin (minimizer_at a.k a.p a.letters.now) a.a a.n _ r.3 e.0)
+    (omega arith, r.3, e.1, counting_begin (minimizer_at a.k a.p a.letters.now) a.a a.n _ r.3 e.0)
 
 pub roll-d-requires : goal.roll-d-requires
 roll-d-requires c =
-    roll-fits _ _ _ _ _ c.loop-i.invariant.2 c.requires.le_p.2 c.letter_code-x.ensures
+    roll_fits _ _ _ _ _ c.loop-i.invariant.2 c.requires.le_p.2 c.letter_code-x.ensures
 
 pub slide-q-requires : goal.slide-q-requires
 slide-q-requires c =
     let l = c.before in
     let p = l.requires in
-    slide-fits _ _ _ _ _ l.loop-i.invariant.2 p.le_p.2 c.letter_code-x.ensures _ p.le_p.1 c.roll-d.ensures
+    slide_fits _ _ _ _ _ l.loop-i.invariant.2 p.le_p.2 c.letter_code-x.ensures _ p.le_p.1 c.roll-d.ensures
 
 pub overflow_add-count : goal.overflow_add-count
 overflow_add-count c = omega (arith, c.loop-i.invariant.3.small)
@@ -62,7 +62,7 @@ loop-i-preserved-then-q-v c =
       omega arith,
       omega arith,
       e.1,
-      counting-cut (minimizer_at a.k a.p a.letters.now) a.a a.n l.count l.v l.i l.invariant.3 _ t.loop-i-test.true e.0
+      counting_cut (minimizer_at a.k a.p a.letters.now) a.a a.n l.count l.v l.i l.invariant.3 _ t.loop-i-test.true e.0
           c.if-q-v.true,
     )
 
@@ -75,11 +75,11 @@ loop-i-preserved c =
       omega arith,
       omega arith,
       e.1,
-      counting-on (minimizer_at a.k a.p a.letters.now) a.a a.n l.count l.v l.i l.invariant.3 _ t.loop-i-test.true e.0 refl,
+      counting_on (minimizer_at a.k a.p a.letters.now) a.a a.n l.count l.v l.i l.invariant.3 _ t.loop-i-test.true e.0 refl,
     )
 
 pub returns : goal.returns
 returns c =
     let a = c.args in
     let l = c.loop-i in
-    counting-end (minimizer_at a.k a.p a.letters.now) a.a a.n l.count l.v l.i l.invariant.3 (omega arith)
+    counting_end (minimizer_at a.k a.p a.letters.now) a.a a.n l.count l.v l.i l.invariant.3 (omega arith)

@@ -1,11 +1,11 @@
 -- `cut_all` meets its contract. Invariant: the stretches of the strings that have passed are stored, and h is the handle of the next k-mer. Assumes nothing.
 use native.Mathlib.Omega.{arith}
-use Rattle.collection.proofs.Kmers.{next-string}
-use Rattle.index_cutting.proofs.Cutting.{passed-begin, passed-room, passed_on, passed-end}
+use Rattle.collection.proofs.Kmers.{next_string}
+use Rattle.index_cutting.proofs.Cutting.{passed_begin, passed_room, passed_on, passed_end}
 use Rattle.index_cutting.proofs.inner.cut_all.Goals as goal
 
 pub loop-i-init : goal.loop-i-init
-loop-i-init c = let r = c.requires in passed-begin r.ready.ends_long r.ready.ends_last r.room4
+loop-i-init c = let r = c.requires in passed_begin r.ready.ends_long r.ready.ends_last r.room4
 
 pub overflow_cast-e : goal.overflow_cast-e
 overflow_cast-e c = omega (arith, c.shared_slice_known-in-loop-i-1.given c.loop-i.i)
@@ -14,10 +14,10 @@ pub overflow_add-n : goal.overflow_add-n
 overflow_add-n c = omega (arith, c.shared_slice_known-in-loop-i-1.given c.loop-i.i)
 
 pub overflow_add-n-in-loop-i : goal.overflow_add-n-in-loop-i
-overflow_add-n-in-loop-i c = omega (arith, next-string c.loop-i.invariant.strings c.loop-i-test.true, c.requires.ready.few_letters)
+overflow_add-n-in-loop-i c = omega (arith, next_string c.loop-i.invariant.strings c.loop-i-test.true, c.requires.ready.few_letters)
 
 pub overflow_sub-n : goal.overflow_sub-n
-overflow_sub-n c = omega (arith, next-string c.loop-i.invariant.strings c.loop-i-test.true)
+overflow_sub-n c = omega (arith, next_string c.loop-i.invariant.strings c.loop-i-test.true)
 
 pub cut_string-o-requires : goal.cut_string-o-requires
 cut_string-o-requires c =
@@ -27,7 +27,7 @@ cut_string-o-requires c =
     let p = r.le_p in
     let i = l.loop-i.invariant in
     let t = u.loop-i-test.true in
-    let e = next-string i.strings t in
+    let e = next_string i.strings t in
     let d = r.ready.few_letters in record {
       letters_value = r.ready.all_letters;
       le_p = (
@@ -41,7 +41,7 @@ cut_string-o-requires c =
         omega (arith, e.long, e.inside, i.strings.few, i.few, p.0, p.2, d),
         omega (arith, e.long, e.inside, i.strings.few, i.few, d),
       );
-      room4 = passed-room i t;
+      room4 = passed_room i t;
     }
 
 pub overflow_add-h : goal.overflow_add-h
@@ -49,7 +49,7 @@ overflow_add-h c =
     let t = c.before in
     let l = t in
     let i = l.loop-i.invariant in
-    omega (arith, next-string i.strings t.loop-i-test.true, i.strings.few, i.few, l.requires.ready.few_letters)
+    omega (arith, next_string i.strings t.loop-i-test.true, i.strings.few, i.few, l.requires.ready.few_letters)
 
 pub overflow_add-i : goal.overflow_add-i
 overflow_add-i c = omega (arith, c.loop-i-test.true)
@@ -74,4 +74,4 @@ pub shape_of-keys : goal.shape_of-keys
 shape_of-keys c = c.loop-i.invariant.filling.keys.size_kept
 
 pub returns : goal.returns
-returns c = passed-end c.loop-i.invariant c.loop-i-test.false
+returns c = passed_end c.loop-i.invariant c.loop-i-test.false

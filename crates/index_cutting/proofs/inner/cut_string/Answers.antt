@@ -7,9 +7,9 @@ use lib.ListN.{drop, length-take}
 use Rattle.lists.proofs.Every.{every-all}
 use Rattle.alphabet.specs.Letter.{is_letter}
 use Rattle.index_minimizers.specs.Minimizer.{minimizer_at}
-use Rattle.index_cutting.proofs.Carried.{Carried, roll-fits, slide-fits, carried-begin, carried_on, carried_small}
-use Rattle.index_cutting.proofs.Cutting.{cutting-begin, cutting-on, cutting-ended, cutting-cut, cutting-last}
-use Rattle.index_cutting.proofs.Filling.{filling-inside, filling-store, filling-end}
+use Rattle.index_cutting.proofs.Carried.{Carried, roll_fits, slide_fits, carried_begin, carried_on, carried_small}
+use Rattle.index_cutting.proofs.Cutting.{cutting_begin, cutting_on, cutting_ended, cutting_cut, cutting_last}
+use Rattle.index_cutting.proofs.Filling.{filling_inside, filling_store, filling_end}
 use Rattle.index_cutting.proofs.inner.cut_string.Goals as goal
 use Rattle.index_cutting.proofs.inner.cut_string.Lts as lts
 use Rattle.index_cutting.proofs.inner.cut_string.Tie as tie
@@ -38,17 +38,17 @@ loop-i-init c =
     let t = c.before in
     let a = t.args in
     let r = t.requires.le_p in
-    let e = carried-begin a.k a.p a.letters.now r.2 (every-all is_letter _ t.requires.letters_value) (omega arith) r.3 a.a _ _ (omega arith)
+    let e = carried_begin a.k a.p a.letters.now r.2 (every-all is_letter _ t.requires.letters_value) (omega arith) r.3 a.a _ _ (omega arith)
     c.word_code-c.ensures c.find-v.ensures in
-    (r.4, e.1, cutting-begin r.4 e.0 t.requires.room4)
+    (r.4, e.1, cutting_begin r.4 e.0 t.requires.room4)
 
 pub roll-d-requires : goal.roll-d-requires
-roll-d-requires c = roll-fits _ _ _ _ _ c.loop-i.invariant.1 c.requires.le_p.3 c.letter_code-x.ensures
+roll-d-requires c = roll_fits _ _ _ _ _ c.loop-i.invariant.1 c.requires.le_p.3 c.letter_code-x.ensures
 
 pub slide-q-requires : goal.slide-q-requires
 slide-q-requires c =
     let r = c.requires.le_p in
-    slide-fits _ _ _ _ _ c.loop-i.invariant.1 r.3 c.letter_code-x.ensures _ r.2 c.roll-d.ensures
+    slide_fits _ _ _ _ _ c.loop-i.invariant.1 r.3 c.letter_code-x.ensures _ r.2 c.roll-d.ensures
 
 pub overflow_add-h : goal.overflow_add-h
 overflow_add-h c = omega (arith, c.loop-i.invariant.2.behind)
@@ -64,7 +64,7 @@ store-requires c =
     let l = c.loop-i in
     let b = l.invariant.2.behind in
     let e = came c.before.before.before.before.before.before _ refl in
-    let r = filling-inside (cutting-ended l.invariant.2 c.loop-i-test.true e.0 c.if-q-v.true) in
+    let r = filling_inside (cutting_ended l.invariant.2 c.loop-i-test.true e.0 c.if-q-v.true) in
     (r.0, r.1, r.2, r.3, omega (arith, b), omega (arith, b), omega (arith, b), omega (arith, carried_small l.invariant.1 (omega arith)))
 
 pub overflow_add-to : goal.overflow_add-to
@@ -78,13 +78,13 @@ loop-i-preserved-then-q-v c =
     let l = c.loop-i in
     let st = c.store.ensures in
     let e = came c.before.before.before.before.before.before.before.before.before.before.before.before.before.before.before _ refl in
-    let on = cutting-cut l.invariant.2 c.loop-i-test.true e.0 c.if-q-v.true in
+    let on = cutting_cut l.invariant.2 c.loop-i-test.true e.0 c.if-q-v.true in
     (omega arith, e.1, rw (st.0, st.1, st.2, st.3) on)
 
 pub loop-i-preserved : goal.loop-i-preserved
 loop-i-preserved c =
     let e = came c.before.before _ (sym c.if-q-v.false) in
-    (omega arith, e.1, cutting-on c.loop-i.invariant.2 c.loop-i-test.true e.0 refl)
+    (omega arith, e.1, cutting_on c.loop-i.invariant.2 c.loop-i-test.true e.0 refl)
 
 pub overflow_add-h-2 : goal.overflow_add-h-2
 overflow_add-h-2 c = omega (arith, c.loop-i.invariant.2.behind)
@@ -99,7 +99,7 @@ pub store-requires-2 : goal.store-requires-2
 store-requires-2 c =
     let l = c.loop-i in
     let b = l.invariant.2.behind in
-    let r = filling-inside (cutting-last l.invariant.2 (omega (arith, c.loop-i-test.false))) in
+    let r = filling_inside (cutting_last l.invariant.2 (omega (arith, c.loop-i-test.false))) in
     (r.0, r.1, r.2, r.3, omega (arith, b), omega (arith, b), omega (arith, b), omega (arith, carried_small l.invariant.1 (omega arith)))
 
 pub overflow_add-result : goal.overflow_add-result
@@ -121,5 +121,5 @@ pub returns : goal.returns
 returns c =
     let l = c.loop-i in
     let st = c.store-2.ensures in
-    let f = filling-store (cutting-last l.invariant.2 (omega (arith, c.loop-i-test.false))) l.invariant.2.key in
-    record { value = omega (arith, f.counted); cut = rw (st.0, st.1, st.2, st.3) (filling-end f) }
+    let f = filling_store (cutting_last l.invariant.2 (omega (arith, c.loop-i-test.false))) l.invariant.2.key in
+    record { value = omega (arith, f.counted); cut = rw (st.0, st.1, st.2, st.3) (filling_end f) }

@@ -7,7 +7,7 @@ use lib.Dec.{eqb}
 use Rattle.words.specs.Word.{code, word_at, spell}
 use Rattle.collection.specs.Collection.{spelling}
 use Rattle.plain.specs.Plain.{plain_found}
-use Rattle.plain.proofs.Asked.{pass-answers}
+use Rattle.plain.proofs.Asked.{pass_answers}
 use Rattle.plain.proofs.Scans.{answered, answered_at, answered_none, answered_turned}
 use Rattle.plain.proofs.scanning.found.Goals as goal
 use Rattle.plain.proofs.scanning.found.Lts as lts
@@ -36,7 +36,7 @@ told c =
     let w = c in
     let p = w.requires in
     ap (answered (is-asked c) (is_turned c)) c.scan-s.ensures
-    ∙ pass-answers p.ready _ p.word_len.0 p.word_len.1 _ _ w.word_code-asked.ensures c.turned_code-turned.ensures
+    ∙ pass_answers p.ready _ p.word_len.0 p.word_len.1 _ _ w.word_code-asked.ensures c.turned_code-turned.ensures
 
 pub word_code-asked-requires : goal.word_code-asked-requires
 word_code-asked-requires c = omega (arith, c.requires.ready.ends_long.k_high, c.requires.word_len.0)

@@ -7,8 +7,8 @@ use lib.Dec.{eqb}
 use Rattle.words.specs.Word.{code, word_at}
 use Rattle.plain.specs.declared.Seen.{Seen}
 use Rattle.plain.specs.Scan.{scan_from}
-use Rattle.collection.proofs.Kmers.{strings_begin, strings-on, next-string, kmers_next, kmers_end}
-use Rattle.plain.proofs.Scans.{scan-found, scan-row-on, scan-none}
+use Rattle.collection.proofs.Kmers.{strings_begin, strings_on, next_string, kmers_next, kmers_end}
+use Rattle.plain.proofs.Scans.{scan_found, scan_row_on, scan_none}
 use Rattle.plain.proofs.scanning.scan.Goals as goal
 use Rattle.plain.proofs.scanning.scan.Lts as lts
 use Rattle.plain.proofs.scanning.scan.Tie as tie
@@ -34,16 +34,16 @@ pub overflow_add-number : goal.overflow_add-number
 overflow_add-number c = omega (arith, c.shared_slice_known-in-loop-i-1.given c.loop-i.i)
 
 pub overflow_add-number-in-loop-i : goal.overflow_add-number-in-loop-i
-overflow_add-number-in-loop-i c = omega (arith, next-string c.loop-i.invariant.0 c.loop-i-test.true, c.requires.few_letters)
+overflow_add-number-in-loop-i c = omega (arith, next_string c.loop-i.invariant.0 c.loop-i-test.true, c.requires.few_letters)
 
 pub overflow_sub-number : goal.overflow_sub-number
-overflow_sub-number c = omega (arith, next-string c.loop-i.invariant.0 c.loop-i-test.true)
+overflow_sub-number c = omega (arith, next_string c.loop-i.invariant.0 c.loop-i-test.true)
 
 pub scan_string-s-requires : goal.scan_string-s-requires
 scan_string-s-requires c =
     let p = c.requires in
     let g = p.ends_long in
-    let n = next-string c.loop-i.invariant.0 c.loop-i-test.true in
+    let n = next_string c.loop-i.invariant.0 c.loop-i-test.true in
     let i = c.loop-i.invariant.0 in
     record { letters_value = p.all_letters; le_k = (g.k_low, g.k_high, omega (arith, n.long, n.inside), omega (arith, n.long, n.inside, i.few, p.few_letters)) }
 
@@ -51,24 +51,24 @@ pub returns-in_default : goal.returns-in_default
 returns-in_default c =
     sym (c.loop-i.invariant.1
     ∙ (ap (pass c.before.before.before.before.before) (kmers_next _ _ _ _ c.loop-i-test.true)
-    ∙ (scan-found _ _ _ _ _ _ _ (sym c.scan_string-s.ensures ∙ c.in_default.is) ∙ sym c.in_default.is)))
+    ∙ (scan_found _ _ _ _ _ _ _ (sym c.scan_string-s.ensures ∙ c.in_default.is) ∙ sym c.in_default.is)))
 
 pub overflow_add-passed : goal.overflow_add-passed
 overflow_add-passed c =
     let t = c.before in
     let l = t.loop-i in
-    omega (arith, next-string l.invariant.0 t.loop-i-test.true, l.invariant.0.few, t.requires.few_letters)
+    omega (arith, next_string l.invariant.0 t.loop-i-test.true, l.invariant.0.few, t.requires.few_letters)
 
 pub overflow_add-i : goal.overflow_add-i
 overflow_add-i c = omega (arith, c.loop-i-test.true)
 
 pub loop-i-preserved : goal.loop-i-preserved
 loop-i-preserved c = (
-  strings-on c.loop-i.invariant.0 c.loop-i-test.true c.requires.ends_long.k_low _ refl,
+  strings_on c.loop-i.invariant.0 c.loop-i-test.true c.requires.ends_long.k_low _ refl,
   c.loop-i.invariant.1
       ∙ (ap (pass c.before.before.before.before.before) (kmers_next _ _ _ _ c.loop-i-test.true)
-      ∙ scan-row-on _ _ _ _ _ _ _ _ (sym c.scan_string-s.ensures ∙ c.in-NotAsked.is)),
+      ∙ scan_row_on _ _ _ _ _ _ _ _ (sym c.scan_string-s.ensures ∙ c.in-NotAsked.is)),
 )
 
 pub returns : goal.returns
-returns c = sym (c.loop-i.invariant.1 ∙ (ap (pass c.before.before) (kmers_end _ _ _ _ c.loop-i-test.false) ∙ scan-none _ _ _ _))
+returns c = sym (c.loop-i.invariant.1 ∙ (ap (pass c.before.before) (kmers_end _ _ _ _ c.loop-i-test.false) ∙ scan_none _ _ _ _))

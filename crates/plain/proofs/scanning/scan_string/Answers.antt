@@ -9,8 +9,8 @@ use lib.ListN.{get_or, drop, length-take}
 use Rattle.lists.proofs.Every.{every-all}
 use Rattle.alphabet.specs.Letter.{is_letter}
 use Rattle.alphabet.proofs.Letters.{bits_lt}
-use Rattle.words.proofs.Along.{rolls-begin, word-here, word_on}
-use Rattle.plain.proofs.Scans.{string-start, string-asked, string-other, string-end}
+use Rattle.words.proofs.Along.{rolls_begin, word_here, word_on}
+use Rattle.plain.proofs.Scans.{string-start, string-asked, string-other, string_end}
 use Rattle.plain.proofs.scanning.scan_string.Goals as goal
 
 pub word_code-c-requires : goal.word_code-c-requires
@@ -23,7 +23,7 @@ loop-i-init c =
     let a = c.args in
     let p = c.requires in (
       omega arith,
-      rolls-begin a.k a.letters.now p.le_k.0 p.le_k.1 a.at _ (omega arith) c.word_code-c.ensures,
+      rolls_begin a.k a.letters.now p.le_k.0 p.le_k.1 a.at _ (omega arith) c.word_code-c.ensures,
       string-start _ _ _ _ _ _,
     )
 
@@ -43,7 +43,7 @@ returns-then-c-asked c =
     let a = s.args in
     let p = s.requires in
     let e = (c.roll-c.ensures
-    ∙ word-here a.k a.letters.now p.le_k.0 p.le_k.1 (every-all is_letter _ p.letters_value) a.at l.i _ _ (omega arith) l.invariant.1
+    ∙ word_here a.k a.letters.now p.le_k.0 p.le_k.1 (every-all is_letter _ p.letters_value) a.at l.i _ _ (omega arith) l.invariant.1
     c.letter_code.ensures) in
     sym (l.invariant.2 ∙ string-asked _ _ _ _ _ _ _ t.loop-i-test.true (eq-eqb _ _ (sym e ∙ c.if-c-asked.true)))
 
@@ -55,7 +55,7 @@ loop-i-preserved c =
     let a = s.args in
     let p = s.requires in
     let e = (c.roll-c.ensures
-    ∙ word-here a.k a.letters.now p.le_k.0 p.le_k.1 (every-all is_letter _ p.letters_value) a.at l.i _ _ (omega arith) l.invariant.1
+    ∙ word_here a.k a.letters.now p.le_k.0 p.le_k.1 (every-all is_letter _ p.letters_value) a.at l.i _ _ (omega arith) l.invariant.1
     c.letter_code.ensures) in (
       omega arith,
       word_on a.k a.letters.now p.le_k.0 p.le_k.1 (every-all is_letter _ p.letters_value) a.at l.i _ (omega arith) e,
@@ -65,4 +65,4 @@ loop-i-preserved c =
     )
 
 pub returns : goal.returns
-returns c = sym (c.loop-i.invariant.2 ∙ string-end _ _ _ _ _ _ _ c.loop-i-test.false)
+returns c = sym (c.loop-i.invariant.2 ∙ string_end _ _ _ _ _ _ _ c.loop-i-test.false)

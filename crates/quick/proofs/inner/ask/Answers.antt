@@ -1,7 +1,7 @@
 -- `ask` meets its contract: the first walk answers, or hands on to the second. Assumes nothing.
 use mathlib.Core.Path.{sym, ◌∙◌}
 use native.Mathlib.Omega.{arith}
-use Rattle.quick.proofs.Answers.{asked-hit, asked-miss}
+use Rattle.quick.proofs.Answers.{asked_hit, asked_miss}
 use Rattle.quick_walks.proofs.RowWalks.{row_short}
 use Rattle.quick_walks.proofs.Walks.{miss_counts}
 use Rattle.quick.proofs.inner.ask.Goals as goal
@@ -28,7 +28,7 @@ ask_turned-requires c =
     }
 
 pub returns-in-Hit : goal.returns-in-Hit
-returns-in-Hit c = asked-hit _ _ _ _ _ _ _ c.walk_row-met.ensures c.in-Hit.is
+returns-in-Hit c = asked_hit _ _ _ _ _ _ _ c.walk_row-met.ensures c.in-Hit.is
 
 pub returns-in-Miss : goal.returns-in-Miss
-returns-in-Miss c = c.ask_turned.ensures ∙ asked-miss _ _ _ _ _ _ c.walk_row-met.ensures c.in-Miss.is
+returns-in-Miss c = c.ask_turned.ensures ∙ asked_miss _ _ _ _ _ _ c.walk_row-met.ensures c.in-Miss.is

@@ -6,7 +6,7 @@ use native.Mathlib.Omega.{arith}
 use borrow.Author.Tests.{not-true, not-false}
 use Rattle.index_minimizers.proofs.Sizes.{words_few}
 use Rattle.index_stretches.specs.Index.{Index, tables, tables_fit}
-use Rattle.quick.proofs.Asked.{tables_good, tables-wrong, row-wrong, other-decides}
+use Rattle.quick.proofs.Asked.{tables_good, tables_wrong, row_wrong, other_decides}
 use Rattle.quick.proofs.inner.judge_index.Goals as goal
 use mathlib.Core.Path as path
 use mathlib.Core.Bool as bool
@@ -37,7 +37,7 @@ pub tables_fit-requires : goal.tables_fit-requires
 tables_fit-requires c = omega (arith, c.word_count-count.ensures, words_few _ c.requires.1)
 
 pub returns-then-not-tables_fit : goal.returns-then-not-tables_fit
-returns-then-not-tables_fit c = tables-wrong _ _ _ _ _ _ (told c.before.before false (not-true _ (path.ap bool.not c.if-not-tables_fit.true)))
+returns-then-not-tables_fit c = tables_wrong _ _ _ _ _ _ (told c.before.before false (not-true _ (path.ap bool.not c.if-not-tables_fit.true)))
 
 pub row_fits-requires : goal.row_fits-requires
 row_fits-requires c =
@@ -47,7 +47,7 @@ row_fits-requires c =
 
 pub returns-then-not-row_fits : goal.returns-then-not-row_fits
 returns-then-not-row_fits c =
-    row-wrong _ _ _ _ _ _ (fit c.before.before.before)
+    row_wrong _ _ _ _ _ _ (fit c.before.before.before)
     (sym c.row_fits.ensures ∙ not-true _ (path.ap bool.not c.if-not-row_fits.true))
 
 pub row_fits-requires-2 : goal.row_fits-requires-2
@@ -58,12 +58,12 @@ row_fits-requires-2 c =
 
 pub returns-then-not-row_fits-2 : goal.returns-then-not-row_fits-2
 returns-then-not-row_fits-2 c =
-    other-decides _ _ _ _ _ _ false (fit c.before.before.before.before.before)
+    other_decides _ _ _ _ _ _ false (fit c.before.before.before.before.before)
     (sym c.row_fits.ensures ∙ not-false _ (path.ap bool.not c.if-not-row_fits.false))
     (sym c.row_fits-2.ensures ∙ not-true _ (path.ap bool.not c.if-not-row_fits-2.true))
 
 pub returns : goal.returns
 returns c =
-    other-decides _ _ _ _ _ _ true (fit c.before.before.before.before.before)
+    other_decides _ _ _ _ _ _ true (fit c.before.before.before.before.before)
     (sym c.row_fits.ensures ∙ not-false _ (path.ap bool.not c.if-not-row_fits.false))
     (sym c.row_fits-2.ensures ∙ not-false _ (path.ap bool.not c.if-not-row_fits-2.false))

@@ -2,7 +2,7 @@
 use mathlib.Core.Path.{refl}
 use native.Mathlib.Omega.{arith}
 use borrow.Author.Count.{below_none}
-use Rattle.quick_walks.proofs.Keys.{nowhere-more}
+use Rattle.quick_walks.proofs.Keys.{nowhere_more}
 use Rattle.quick_walks.proofs.inner.may_stand.Goals as goal
 
 pub loop-i-init : goal.loop-i-init
@@ -23,7 +23,7 @@ pub loop-i-preserved : goal.loop-i-preserved
 loop-i-preserved c =
     let t = c.before in
     let a = t.args in
-    (omega arith, nowhere-more a.places.now a.key.now a.letters.now a.at _ 16 _ t.loop-i.invariant.1 c.any_meets.ensures c.if-any_meets.false)
+    (omega arith, nowhere_more a.places.now a.key.now a.letters.now a.at _ 16 _ t.loop-i.invariant.1 c.any_meets.ensures c.if-any_meets.false)
 
 pub returns : goal.returns
 returns c = λ i l m. absurd (c.loop-i.invariant.1 i (omega arith) m)

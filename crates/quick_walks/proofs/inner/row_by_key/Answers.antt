@@ -4,7 +4,7 @@ use Prim.Native.Nat.{◌+◌}
 use native.Mathlib.Omega.{arith}
 use lib.ListN.{length}
 use Rattle.index_stretches.specs.Index.{tables}
-use Rattle.quick_walks.proofs.RowWalks.{walking_begins, walking-room, walking-met, walking_on, walking-ends}
+use Rattle.quick_walks.proofs.RowWalks.{walking_begins, walking_room, walking_met, walking_on, walking_ends}
 use Rattle.quick_walks.proofs.inner.row_by_key.Goals as goal
 
 pub overflow_cast-end : goal.overflow_cast-end
@@ -64,11 +64,11 @@ pub stretch_by_key-met-requires : goal.stretch_by_key-met-requires
 stretch_by_key-met-requires c =
     let p = c.requires in
     let l = c.loop-i.invariant in
-    let r = walking-room l c.loop-i-test.true in record { le_k = (p.le_k.0, p.le_k.1, p.le_k.2, p.le_k.3); k_in_bounds = (r.letters, omega (arith, r.some, r.handles), omega (arith, l.few, c.loop-i-test.true, l.inside, p.row.alike.few)); key_of = p.key_of }
+    let r = walking_room l c.loop-i-test.true in record { le_k = (p.le_k.0, p.le_k.1, p.le_k.2, p.le_k.3); k_in_bounds = (r.letters, omega (arith, r.some, r.handles), omega (arith, l.few, c.loop-i-test.true, l.inside, p.row.alike.few)); key_of = p.key_of }
 
 pub returns-in_default : goal.returns-in_default
 returns-in_default c =
-    sym (walking-met c.loop-i.invariant c.loop-i-test.true _ _
+    sym (walking_met c.loop-i.invariant c.loop-i-test.true _ _
     (sym c.stretch_by_key-met.ensures ∙ c.in_default.is)
     ∙ sym c.in_default.is)
 
@@ -78,4 +78,4 @@ loop-i-preserved c =
     (sym c.stretch_by_key-met.ensures ∙ c.in-Miss.is)
 
 pub returns : goal.returns
-returns c = sym (walking-ends c.loop-i.invariant c.loop-i-test.false)
+returns c = sym (walking_ends c.loop-i.invariant c.loop-i-test.false)

@@ -2,7 +2,7 @@
 use Prim.Native.Nat.{◌+◌}
 use native.Mathlib.Omega.{arith}
 use Rattle.index_stretches.specs.Index.{tables}
-use Rattle.quick_walks.proofs.Rows.{row-wrong, row-each, fit_next, fit-end}
+use Rattle.quick_walks.proofs.Rows.{row_wrong, row_each, fit_next, fit_end}
 use Rattle.quick_walks.proofs.inner.row_fits.Goals as goal
 
 pub overflow_cast-start : goal.overflow_cast-start
@@ -12,13 +12,13 @@ pub overflow_cast-end : goal.overflow_cast-end
 overflow_cast-end c = omega (arith, c.shared_slice_known-6-1.given (c.args.v + 1))
 
 pub returns-then-end-start : goal.returns-then-end-start
-returns-then-end-start c = row-wrong _ _ _ _ (λ p q. omega (arith, p, c.if-end-start.true))
+returns-then-end-start c = row_wrong _ _ _ _ (λ p q. omega (arith, p, c.if-end-start.true))
 
 pub returns-then-firsts-end : goal.returns-then-firsts-end
-returns-then-firsts-end c = row-wrong _ _ _ _ (λ p q. omega (arith, q, c.if-firsts-end.true))
+returns-then-firsts-end c = row_wrong _ _ _ _ (λ p q. omega (arith, q, c.if-firsts-end.true))
 
 pub loop-i-init : goal.loop-i-init
-loop-i-init c = (c.if-firsts-end.false, row-each _ _ _ _ c.if-end-start.false c.if-firsts-end.false)
+loop-i-init c = (c.if-firsts-end.false, row_each _ _ _ _ c.if-end-start.false c.if-firsts-end.false)
 
 pub loop-i-preserved : goal.loop-i-preserved
 loop-i-preserved c =
@@ -29,4 +29,4 @@ loop-i-preserved c =
     (l.invariant.0, fit_next t _ _ _ _ u.loop-i-test.true _ l.good _ c.stretch_fits-good.ensures l.invariant.1)
 
 pub returns : goal.returns
-returns c = fit-end _ _ _ _ _ c.loop-i-test.false _ _ c.loop-i.invariant.1
+returns c = fit_end _ _ _ _ _ c.loop-i-test.false _ _ c.loop-i.invariant.1

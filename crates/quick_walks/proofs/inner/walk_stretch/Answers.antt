@@ -5,8 +5,8 @@ use Prim.Native.Nat.{◌+◌, ◌-◌}
 use native.Mathlib.Omega.{arith}
 use lib.ListN.{get_or, drop, length-take}
 use Rattle.alphabet.proofs.Letters.{bits_lt}
-use Rattle.words.proofs.Along.{rolls-begin, rolls-here, rolls-on}
-use Rattle.quick_walks.proofs.Walks.{left-start, left-hit, left-on, left_end}
+use Rattle.words.proofs.Along.{rolls_begin, rolls_here, rolls_on}
+use Rattle.quick_walks.proofs.Walks.{left-start, left_hit, left_on, left_end}
 use Rattle.quick_walks.proofs.inner.walk_stretch.Goals as goal
 
 pub word_code-c-requires : goal.word_code-c-requires
@@ -18,7 +18,7 @@ pub loop-i-init : goal.loop-i-init
 loop-i-init c =
     let a = c.args in
     let p = c.requires in
-    (omega arith, rolls-begin a.k a.letters.now p.le_k.0 p.le_k.1 a.at _ (omega arith) c.word_code-c.ensures, left-start _ _ _ _ _)
+    (omega arith, rolls_begin a.k a.letters.now p.le_k.0 p.le_k.1 a.at _ (omega arith) c.word_code-c.ensures, left-start _ _ _ _ _)
 
 pub roll-c-requires : goal.roll-c-requires
 roll-c-requires c =
@@ -33,12 +33,12 @@ is_word-requires c =
     let l = c.loop-i in
     let s = c.before in
     let a = s.args in
-    let p = s.requires in record { w_bound = (p.le_k.2, omega arith, p.le_k.3, p.le_k.1); c_value = c.roll-c.ensures ∙ rolls-here a.k a.letters.now p.le_k.0 p.le_k.1 a.at l.i _ _ (omega arith) l.invariant.1 c.letter_code.ensures }
+    let p = s.requires in record { w_bound = (p.le_k.2, omega arith, p.le_k.3, p.le_k.1); c_value = c.roll-c.ensures ∙ rolls_here a.k a.letters.now p.le_k.0 p.le_k.1 a.at l.i _ _ (omega arith) l.invariant.1 c.letter_code.ensures }
 
 pub returns-then-is_word : goal.returns-then-is_word
 returns-then-is_word c =
     sym (c.loop-i.invariant.2
-    ∙ left-hit _ _ _ _ _ _ c.loop-i-test.true (sym c.is_word.ensures ∙ c.if-is_word.true))
+    ∙ left_hit _ _ _ _ _ _ c.loop-i-test.true (sym c.is_word.ensures ∙ c.if-is_word.true))
 
 pub loop-i-preserved : goal.loop-i-preserved
 loop-i-preserved c =
@@ -47,11 +47,11 @@ loop-i-preserved c =
     let s = t in
     let a = s.args in
     let p = s.requires in
-    let e = c.roll-c.ensures ∙ rolls-here a.k a.letters.now p.le_k.0 p.le_k.1 a.at l.i _ _ (omega arith) l.invariant.1
+    let e = c.roll-c.ensures ∙ rolls_here a.k a.letters.now p.le_k.0 p.le_k.1 a.at l.i _ _ (omega arith) l.invariant.1
     c.letter_code.ensures in (
       omega arith,
-      rolls-on a.k a.letters.now p.le_k.0 p.le_k.1 a.at l.i _ (omega arith) e,
-      l.invariant.2 ∙ left-on _ _ _ _ _ _ t.loop-i-test.true (sym c.is_word.ensures ∙ c.if-is_word.false),
+      rolls_on a.k a.letters.now p.le_k.0 p.le_k.1 a.at l.i _ (omega arith) e,
+      l.invariant.2 ∙ left_on _ _ _ _ _ _ t.loop-i-test.true (sym c.is_word.ensures ∙ c.if-is_word.false),
     )
 
 pub returns : goal.returns

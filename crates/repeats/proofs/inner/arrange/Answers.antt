@@ -8,7 +8,7 @@ use borrow.Rule.Slice.PartMut.{put_mid}
 use Rattle.lists.specs.Count.{count_from}
 use Rattle.lists.specs.Regions.{part, Only}
 use Rattle.lists.proofs.Regions.{part-lent, part_length}
-use Rattle.sorting.proofs.Laws.{numbered-only, numbered-part}
+use Rattle.sorting.proofs.Laws.{numbered_only, numbered-part}
 use Rattle.repeats.proofs.Arranged.{few_kmers, laid, arranged}
 use Rattle.repeats.proofs.inner.arrange.Goals as goal
 use Rattle.repeats.proofs.inner.arrange.Lts as lts
@@ -36,7 +36,7 @@ room c = omega (arith, c.requires.n_value.1, c.code_all.ensures.rest.size)
 
 -- the numbers are all that was written after the codes
 only : (c : Place-After-number_ids) → Only (count c + count c) (count c) (coded c) (table c)
-only c = numbered-only (count c + count c) (count c) (coded c) (omega (arith, room c)) c.number_ids.ensures
+only c = numbered_only (count c + count c) (count c) (coded c) (omega (arith, room c)) c.number_ids.ensures
 
 ids : (c : Place-After-number_ids) → part (count c + count c) (count c) (table c) ≡ count_from 0 (count c)
 ids c = numbered-part (count c + count c) (count c) (coded c) (omega (arith, room c)) c.number_ids.ensures

@@ -1,7 +1,7 @@
 -- `first_repeat` meets its contract: the least second of the sorted k-mers is the first repeat, counted from 0. Assumes nothing.
 use mathlib.Core.Path.{sym}
 use native.Mathlib.Omega.{arith}
-use Rattle.repeats.proofs.Repeats.{repeat-none, repeat-inside, repeat-found}
+use Rattle.repeats.proofs.Repeats.{repeat_none, repeat_inside, repeat_found}
 use Rattle.repeats.proofs.inner.first_repeat.Goals as goal
 
 pub least_second-least-requires : goal.least_second-least-requires
@@ -14,7 +14,7 @@ overflow_add-result c =
     let s = c.before in
     omega (
       arith,
-      repeat-inside _ s.requires.ready _ s.requires.n_value.0 _ _ _ c.arrange-m.ensures _ c.least_second-least.ensures c.if-least-n.false,
+      repeat_inside _ s.requires.ready _ s.requires.n_value.0 _ _ _ c.arrange-m.ensures _ c.least_second-least.ensures c.if-least-n.false,
     )
 
 pub shape_of-work-then-least-n : goal.shape_of-work-then-least-n
@@ -24,7 +24,7 @@ pub returns-then-least-n : goal.returns-then-least-n
 returns-then-least-n c =
     let arrange = c.arrange-m in
     let s = c.before in
-    (sym (repeat-none _ s.requires.ready _ s.requires.n_value.0 _ _ _ arrange.ensures _ c.least_second-least.ensures c.if-least-n.true), arrange.ensures.rest)
+    (sym (repeat_none _ s.requires.ready _ s.requires.n_value.0 _ _ _ arrange.ensures _ c.least_second-least.ensures c.if-least-n.true), arrange.ensures.rest)
 
 pub shape_of-work-else-least-n : goal.shape_of-work-else-least-n
 shape_of-work-else-least-n c = c.arrange-m.ensures.rest.size
@@ -33,4 +33,4 @@ pub returns-else-least-n : goal.returns-else-least-n
 returns-else-least-n c =
     let arrange = c.arrange-m in
     let s = c.before in
-    (sym (repeat-found _ s.requires.ready _ s.requires.n_value.0 _ _ _ arrange.ensures _ c.least_second-least.ensures c.if-least-n.false), arrange.ensures.rest)
+    (sym (repeat_found _ s.requires.ready _ s.requires.n_value.0 _ _ _ arrange.ensures _ c.least_second-least.ensures c.if-least-n.false), arrange.ensures.rest)

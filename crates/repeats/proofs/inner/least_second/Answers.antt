@@ -6,12 +6,12 @@ use native.Mathlib.Omega.{arith}
 use lib.Dec.{ltb}
 use Rattle.repeats_canonical.specs.Codes.{held_at}
 use Rattle.repeats.specs.Order.{id_at, Least}
-use Rattle.repeats.proofs.Neighbours.{least-begin, least-take, least-keep, least_end}
+use Rattle.repeats.proofs.Neighbours.{least_begin, least-take, least_keep, least_end}
 use Rattle.repeats.proofs.inner.least_second.Goals as goal
 use Rattle.repeats.proofs.inner.least_second.Goals.{then-y-least, else-y-least}
 
 pub loop-i-init : goal.loop-i-init
-loop-i-init c = (omega arith, least-begin _ _ _ _)
+loop-i-init c = (omega arith, least_begin _ _ _ _)
 
 pub overflow_cast-x : goal.overflow_cast-x
 overflow_cast-x c =
@@ -48,7 +48,7 @@ loop-i-preserved c =
       | else-y-least w ↦ (
         omega arith,
         subst (Least (held_at n w₀) (id_at n w₀) n s.args.m (i + 1)) (sym w.least-is)
-            (least-keep (held_at n w₀) (id_at n w₀) n s.args.m i l.least l.invariant.0 u.loop-i-test.true l.invariant.1
+            (least_keep (held_at n w₀) (id_at n w₀) n s.args.m i l.least l.invariant.0 u.loop-i-test.true l.invariant.1
             (ap test (sym c.same_code.ensures) ∙ w.if-y-least.false)),
       )
     ]

@@ -10,8 +10,8 @@ use Rattle.alphabet.specs.Letter.{is_letter}
 use Rattle.words.specs.Word.{code, turn, word_at}
 use Rattle.alphabet.proofs.Letters.{bits_lt}
 use Rattle.repeats_canonical.specs.Codes.{Coded}
-use Rattle.repeats_canonical.proofs.Coded.{coded-begin, coded-next}
-use Rattle.repeats_canonical.proofs.Turns.{first_fits, turns-begin, code_here, turned-here, turns-on}
+use Rattle.repeats_canonical.proofs.Coded.{coded_begin, coded_next}
+use Rattle.repeats_canonical.proofs.Turns.{first_fits, turns_begin, code_here, turned_here, turns_on}
 use Rattle.repeats_canonical.proofs.inner.code_string.Goals as goal
 use Rattle.repeats_canonical.proofs.inner.code_string.Lts as lts
 use Rattle.repeats_canonical.proofs.inner.code_string.Tie as tie
@@ -34,7 +34,7 @@ codes c =
           ∙ code_here s.args.k s.args.letters.now s.requires.le_k.0 s.requires.le_k.1 g s.args.at l.i _ _ _ f l.invariant.1
           c.letter_code-x.ensures,
       c.roll_turned-t.ensures
-          ∙ turned-here s.args.k s.args.letters.now s.requires.le_k.0 s.requires.le_k.1 g s.args.at l.i _ _ _ f l.invariant.1
+          ∙ turned_here s.args.k s.args.letters.now s.requires.le_k.0 s.requires.le_k.1 g s.args.at l.i _ _ _ f l.invariant.1
           c.letter_code-x.ensures,
     )
 
@@ -54,10 +54,10 @@ pub loop-i-init : goal.loop-i-init
 loop-i-init c =
     let s = c.before in (
       omega arith,
-      turns-begin s.args.k s.args.letters.now s.requires.le_k.0 s.requires.le_k.1 (every-all is_letter _ s.requires.letters_value) s.args.at _
+      turns_begin s.args.k s.args.letters.now s.requires.le_k.0 s.requires.le_k.1 (every-all is_letter _ s.requires.letters_value) s.args.at _
           (omega arith) c.word_code-c.ensures _
           (ap (λ (x : ℕ). x * 4) c.turned_code-t.ensures),
-      coded-begin _ _ _ _ _ _,
+      coded_begin _ _ _ _ _ _,
     )
 
 pub roll-c-requires : goal.roll-c-requires
@@ -97,9 +97,9 @@ loop-i-preserved c =
     let l = c.loop-i in
     let e = codes c.before.before.before.before in (
       omega arith,
-      turns-on s.args.k s.args.letters.now s.requires.le_k.0 s.requires.le_k.1 (every-all is_letter _ s.requires.letters_value) s.args.at l.i _ _
+      turns_on s.args.k s.args.letters.now s.requires.le_k.0 s.requires.le_k.1 (every-all is_letter _ s.requires.letters_value) s.args.at l.i _ _
           (omega arith) e.0 e.1,
-      coded-next s.args.k s.args.letters.now s.args.n s.args.at s.args.passed l.i _ _ _ _ l.work (omega arith)
+      coded_next s.args.k s.args.letters.now s.args.n s.args.at s.args.passed l.i _ _ _ _ l.work (omega arith)
           (omega (arith, l.invariant.2.rest.size))
           (c.smaller-least.ensures ∙ ap₂ min e.0 e.1) c.upper.ensures c.lower.ensures l.invariant.2,
     )

@@ -8,8 +8,8 @@ use Rattle.lists.specs.Regions.{part}
 use Rattle.lists.proofs.Regions.{part_length, part_at, only_at}
 use Rattle.repeats_sieving.specs.Slots.{two_bits, bit_of, slot_in}
 use Rattle.repeats_sieving.specs.Kept.{told_of}
-use Rattle.repeats_sieving.proofs.Telling.{keeping_none, keeping-next, keeping_all}
-use Rattle.repeats_sieving.proofs.Sifting.{id-low, slot_same, slot-inside}
+use Rattle.repeats_sieving.proofs.Telling.{keeping_none, keeping_next, keeping_all}
+use Rattle.repeats_sieving.proofs.Sifting.{id_low, slot_same, slot_inside}
 use Rattle.repeats_sieving.proofs.inner.keep.Goals as goal
 use Rattle.repeats_sieving.proofs.inner.keep.Lts as lts
 use Rattle.repeats_sieving.proofs.inner.keep.Tie as tie
@@ -36,7 +36,7 @@ id-is c =
 id-lt : (c : Place-In-loop) → let a = c.args in get_or c.loop-i.work (a.n + a.n + c.loop-i.i) 0 < a.n
 id-lt c =
     let s = c in
-    id-low s.args.work.now c.loop-i.work c.loop-i.i s.requires.sifting s.requires.all c.loop-i-test.true (id-is c)
+    id_low s.args.work.now c.loop-i.work c.loop-i.i s.requires.sifting s.requires.all c.loop-i-test.true (id-is c)
 
 -- its slot is that of its codes, which stand as at first
 slot_is : (c : Place-After-slot_of)
@@ -55,7 +55,7 @@ has-slot c =
     let u = c in
     let l = u in
     let s = l in
-    slot-inside s.args.work.now l.loop-i.work l.loop-i.i s.requires.sifting s.requires.all u.loop-i-test.true (id-is u.before.before) l.loop-i.invariant.rest (omega arith)
+    slot_inside s.args.work.now l.loop-i.work l.loop-i.i s.requires.sifting s.requires.all u.loop-i-test.true (id-is u.before.before) l.loop-i.invariant.rest (omega arith)
     c.slot_of-s.ensures
 
 -- so is its counter, which tells of its slot
@@ -111,7 +111,7 @@ loop-i-preserved c =
     let n = a.n in
     let r = s.requires.sifting in
     let size = part_length (n + n) a.m a.work.now (omega (arith, r.room, r.ids)) in
-    keeping-next (slot_in n a.work.now (16 * a.entries) a.a a.c) (n + n) a.m (part (n + n) a.m a.work.now) a.work.now
+    keeping_next (slot_in n a.work.now (16 * a.entries) a.a a.c) (n + n) a.m (part (n + n) a.m a.work.now) a.work.now
     l.loop-i.work l.loop-i.i l.loop-i.o (get_or l.loop-i.work (n + n + l.loop-i.i) 0) c.full-q.result l.loop-i.invariant
     q.loop-i-test.true size (omega (arith, r.room, r.ids, l.loop-i.invariant.rest.size))
     (sym (id-is q.before.before.before.before)) (full_is c)

@@ -6,8 +6,8 @@ use native.Mathlib.Omega.{arith}
 use lib.ListN.{length, get_or, take, drop}
 use borrow.Rule.Slice.PartMut.{put_mid}
 use Rattle.lists.specs.Regions.{part, Only}
-use Rattle.lists.proofs.Regions.{part-lent, part_length, lent-part, lent-only, among-trans}
-use Rattle.repeats_sieving.proofs.Sifting.{sifting-stay, inside-stay, told-stay, kept-stay}
+use Rattle.lists.proofs.Regions.{part-lent, part_length, lent-part, lent_only, among_trans}
+use Rattle.repeats_sieving.proofs.Sifting.{sifting_stay, inside_stay, told_stay, kept_stay}
 use Rattle.repeats_sieving.proofs.inner.sift.Goals as goal
 use Rattle.repeats_sieving.proofs.inner.sift.Lts as lts
 use Rattle.repeats_sieving.proofs.inner.sift.Tie as tie
@@ -53,7 +53,7 @@ lent z =
     e ∙ size s.before.before.before
 
 only : (z : Place-After-clear) → let s = z in Only (tab s.before.before.before) s.args.entries s.args.work.now (zeroed z)
-only z = let s = z in lent-only (tab s.before.before.before) s.args.entries s.args.work.now z.clear.new.count (lent z) (fits s.before.before.before)
+only z = let s = z in lent_only (tab s.before.before.before) s.args.entries s.args.work.now z.clear.new.count (lent z) (fits s.before.before.before)
 
 zeros : (z : Place-After-clear) (i : ℕ) → let s = z in i < s.args.entries → get_or (part (tab s.before.before.before) s.args.entries (zeroed z)) i 0 ≡ 0
 zeros z i l =
@@ -62,7 +62,7 @@ zeros z i l =
 
 -- counters are all that was written before the ids are kept
 told : (t : Place-After-tell) → let s = (after-clear t).before.before.before in Only (tab s) s.args.entries s.args.work.now t.tell.new.work
-told t = let z = after-clear t in among-trans _ _ (zeroed z) _ (only z) t.tell.ensures.counters_alone
+told t = let z = after-clear t in among_trans _ _ (zeroed z) _ (only z) t.tell.ensures.counters_alone
 
 pub clear-requires : goal.clear-requires
 clear-requires c = omega (arith, size c.before.before)
@@ -71,13 +71,13 @@ pub tell-requires : goal.tell-requires
 tell-requires c =
     let z = c in
     let s = z in
-    record { sifting = sifting-stay s.requires.sifting (only z.before.before.before); all = inside-stay s.requires.sifting (only z.before.before.before) s.requires.all; by_index = zeros z.before.before.before }
+    record { sifting = sifting_stay s.requires.sifting (only z.before.before.before); all = inside_stay s.requires.sifting (only z.before.before.before) s.requires.all; by_index = zeros z.before.before.before }
 
 pub keep-requires : goal.keep-requires
 keep-requires c =
     let t = c in
     let z = after-clear t.before.before.before in
-    let s = z in record { sifting = sifting-stay s.requires.sifting (told t.before.before.before); all = inside-stay s.requires.sifting (told t.before.before.before) s.requires.all; told = told-stay (sifting-stay s.requires.sifting (only z)) t.tell.ensures.counters_alone (part (tab s.before.before.before) s.args.entries t.tell.new.work) t.tell.ensures.counted }
+    let s = z in record { sifting = sifting_stay s.requires.sifting (told t.before.before.before); all = inside_stay s.requires.sifting (told t.before.before.before) s.requires.all; told = told_stay (sifting_stay s.requires.sifting (only z)) t.tell.ensures.counters_alone (part (tab s.before.before.before) s.args.entries t.tell.new.work) t.tell.ensures.counted }
 
 pub shape_of-work : goal.shape_of-work
 shape_of-work c =
@@ -88,4 +88,4 @@ pub returns : goal.returns
 returns c =
     let k = c.before in
     let t = after-tell k.before.before in
-    kept-stay (after-clear t).requires.sifting (told t) k.keep.ensures
+    kept_stay (after-clear t).requires.sifting (told t) k.keep.ensures

@@ -6,10 +6,10 @@ use native.Mathlib.Omega.{arith}
 use lib.ListN.{length, get_or}
 use lib.Seq.{take-length}
 use Rattle.lists.specs.Regions.{part}
-use Rattle.lists.proofs.Regions.{part_length, part_at, part-set, among-refl, only_set, only_at}
+use Rattle.lists.proofs.Regions.{part_length, part_at, part-set, among_refl, only_set, only_at}
 use Rattle.repeats_sieving.specs.Slots.{slot_in}
 use Rattle.repeats_sieving.proofs.Telling.{told_none, told_more}
-use Rattle.repeats_sieving.proofs.Sifting.{id-low, slot_same, slot-inside}
+use Rattle.repeats_sieving.proofs.Sifting.{id_low, slot_same, slot_inside}
 use Rattle.repeats_sieving.proofs.inner.tell.Goals as goal
 use Rattle.repeats_sieving.proofs.inner.tell.Lts as lts
 use Rattle.repeats_sieving.proofs.inner.tell.Tie as tie
@@ -35,7 +35,7 @@ id-is c =
 id-lt : (c : Place-In-loop) → let a = c.args in get_or c.loop-i.work (a.n + a.n + c.loop-i.i) 0 < a.n
 id-lt c =
     let s = c in
-    id-low s.args.work.now c.loop-i.work c.loop-i.i s.requires.sifting s.requires.all c.loop-i-test.true (id-is c)
+    id_low s.args.work.now c.loop-i.work c.loop-i.i s.requires.sifting s.requires.all c.loop-i-test.true (id-is c)
 
 -- its slot is that of its codes, which stand as at first
 slot_is : (c : Place-After-slot_of)
@@ -56,13 +56,13 @@ has-slot c =
     let u = c in
     let l = u in
     let s = l in
-    slot-inside s.args.work.now l.loop-i.work l.loop-i.i s.requires.sifting s.requires.all u.loop-i-test.true (id-is u.before.before) l.loop-i.invariant.1 (omega arith)
+    slot_inside s.args.work.now l.loop-i.work l.loop-i.i s.requires.sifting s.requires.all u.loop-i-test.true (id-is u.before.before) l.loop-i.invariant.1 (omega arith)
     c.slot_of-s.ensures
 
 pub loop-i-init : goal.loop-i-init
 loop-i-init c =
     let a = c.args in
-    (omega arith, among-refl _ _, told_none _ _ (part (a.n + a.n + a.n) a.entries a.work.now) c.requires.by_index)
+    (omega arith, among_refl _ _, told_none _ _ (part (a.n + a.n + a.n) a.entries a.work.now) c.requires.by_index)
 
 pub overflow_cast-x : goal.overflow_cast-x
 overflow_cast-x c = omega (arith, id-lt c.before)

@@ -2,7 +2,7 @@
 use mathlib.Core.Path.{sym, ap}
 use native.Mathlib.Omega.{arith}
 use lib.ListN.{length}
-use Rattle.runs.proofs.Loops.{later_same, later-new, later_end, runs_first, runs_none}
+use Rattle.runs.proofs.Loops.{later_same, later_new, later_end, runs_first, runs_none}
 use Rattle.runs.proofs.inner.count_runs.Goals as goal
 
 pub returns-then-weights-eq0 : goal.returns-then-weights-eq0
@@ -20,7 +20,7 @@ loop-i-preserved-then-v-w c =
       omega (
         arith,
         l.invariant.2,
-        ap length (later-new l.w c.args.weights.now l.i c.loop-i-test.true
+        ap length (later_new l.w c.args.weights.now l.i c.loop-i-test.true
             c.if-v-w.true),
       ),
     )

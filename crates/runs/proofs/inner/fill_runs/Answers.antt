@@ -3,8 +3,8 @@ use mathlib.Core.Path.{ap, ◌∙◌}
 use mathlib.Core.List.{map}
 use native.Mathlib.Omega.{arith}
 use lib.ListN.{length-set}
-use Rattle.lists.proofs.Storing.{begin-at, inside, store, restated, stored}
-use Rattle.runs.proofs.Loops.{later_same, later-new, later_end, column_stored, column_none, room_some, room_rest}
+use Rattle.lists.proofs.Storing.{begin_at, inside, store, restated, stored}
+use Rattle.runs.proofs.Loops.{later_same, later_new, later_end, column_stored, column_none, room_some, room_rest}
 use Rattle.runs.proofs.inner.fill_runs.Goals as goal
 
 pub returns-then-weights-eq0 : goal.returns-then-weights-eq0
@@ -21,8 +21,8 @@ loop-i-init c =
     let if1 = c.if-weights-eq0 in
     let a = c.args in (
       (omega (arith, if1.false), omega arith),
-      begin-at 1 _ _ (room_rest (λ r. r.0) a.weights.now a.run_weights.now _ if1.false c.requires.weights_in_bounds.0),
-      begin-at 1 _ _ (room_rest (λ r. r.1) a.weights.now a.run_firsts.now _ if1.false c.requires.weights_in_bounds.1),
+      begin_at 1 _ _ (room_rest (λ r. r.0) a.weights.now a.run_weights.now _ if1.false c.requires.weights_in_bounds.0),
+      begin_at 1 _ _ (room_rest (λ r. r.1) a.weights.now a.run_firsts.now _ if1.false c.requires.weights_in_bounds.1),
     )
 
 pub offset_bounds-run_weights-at : goal.offset_bounds-run_weights-at
@@ -32,7 +32,7 @@ offset_bounds-run_weights-at c =
 pub bounds-run_weights-at : goal.bounds-run_weights-at
 bounds-run_weights-at c =
     let l = c.loop-i in
-    inside (restated (ap (map (λ r. r.0)) (later-new l.w c.args.weights.now l.i
+    inside (restated (ap (map (λ r. r.0)) (later_new l.w c.args.weights.now l.i
     c.loop-i-test.true c.if-v-w.true)) l.invariant.1)
 
 pub offset_bounds-run_firsts-at : goal.offset_bounds-run_firsts-at
@@ -42,7 +42,7 @@ offset_bounds-run_firsts-at c =
 pub bounds-run_firsts-at : goal.bounds-run_firsts-at
 bounds-run_firsts-at c =
     let l = c.loop-i in
-    inside (restated (ap (map (λ r. r.1)) (later-new l.w c.args.weights.now l.i
+    inside (restated (ap (map (λ r. r.1)) (later_new l.w c.args.weights.now l.i
     c.loop-i-test.true c.if-v-w.true)) l.invariant.2)
 
 pub overflow_add-at : goal.overflow_add-at
@@ -54,8 +54,8 @@ loop-i-preserved-then-v-w c =
     let l = c.loop-i in
     let a = c.args in (
       (omega arith, omega arith),
-      store (restated (ap (map (λ r. r.0)) (later-new l.w a.weights.now l.i c.loop-i-test.true c.if-v-w.true)) l.invariant.1),
-      store (restated (ap (map (λ r. r.1)) (later-new l.w a.weights.now l.i c.loop-i-test.true c.if-v-w.true)) l.invariant.2),
+      store (restated (ap (map (λ r. r.0)) (later_new l.w a.weights.now l.i c.loop-i-test.true c.if-v-w.true)) l.invariant.1),
+      store (restated (ap (map (λ r. r.1)) (later_new l.w a.weights.now l.i c.loop-i-test.true c.if-v-w.true)) l.invariant.2),
     )
 
 pub loop-i-preserved : goal.loop-i-preserved

@@ -1,7 +1,7 @@
 -- `count_lines` meets its contract. Invariant: the count of the lines left, after what is counted, is the count of all. Assumes nothing.
 use mathlib.Core.Path.{sym, ◌∙◌}
 use native.Mathlib.Omega.{arith}
-use Rattle.sheet_lines.proofs.Counts.{counting, count_next, count-wrong, count_end}
+use Rattle.sheet_lines.proofs.Counts.{counting, count_next, count_wrong, count_end}
 use Rattle.sheet_lines.proofs.inner.count_lines.Goals as goal
 
 pub loop-i-init : goal.loop-i-init
@@ -10,7 +10,7 @@ loop-i-init c = counting _ _ _ c.requires.0 c.requires.1
 pub returns-in_default : goal.returns-in_default
 returns-in_default c =
     let t = c.before in
-    count-wrong t.loop-i.invariant t.loop-i-test.true (sym c.line_at-l.ensures ∙ c.in_default.is)
+    count_wrong t.loop-i.invariant t.loop-i-test.true (sym c.line_at-l.ensures ∙ c.in_default.is)
 
 pub overflow_add-n : goal.overflow_add-n
 overflow_add-n c =

@@ -4,7 +4,7 @@ use native.Mathlib.Omega.{arith}
 use Rattle.text.proofs.Tests.{told_no, told_yes}
 use Rattle.sheet_lines.specs.Cursor.{tail_at}
 use Rattle.text.proofs.Bytes.{byte_here}
-use Rattle.sheet_lines.proofs.Tails.{tail-no-tab, tail-bad, tail-next}
+use Rattle.sheet_lines.proofs.Tails.{tail_no_tab, tail_bad, tail_next}
 use Rattle.sheet_lines.proofs.lines.tail_at.Goals as goal
 use mathlib.Core.Path as path
 use mathlib.Core.Bool as bool
@@ -16,7 +16,7 @@ pub returns-then-not-byte_is : goal.returns-then-not-byte_is
 returns-then-not-byte_is c =
     let at = c.before in
     sym (at.loop-j.invariant
-    ∙ tail-no-tab _ at.loop-j.i at.loop-j.j c.loop-j-test.true (told_no c.byte_is.ensures (path.ap bool.not c.if-not-byte_is.true)))
+    ∙ tail_no_tab _ at.loop-j.i at.loop-j.j c.loop-j-test.true (told_no c.byte_is.ensures (path.ap bool.not c.if-not-byte_is.true)))
 
 pub overflow_add-i : goal.overflow_add-i
 overflow_add-i c =
@@ -29,7 +29,7 @@ returns-in_default c =
     let e = c.before in
     let at = e in
     sym (at.loop-j.invariant
-    ∙ tail-bad _ at.loop-j.i at.loop-j.j e.loop-j-test.true (told_yes e.byte_is.ensures (path.ap bool.not e.if-not-byte_is.false))
+    ∙ tail_bad _ at.loop-j.i at.loop-j.j e.loop-j-test.true (told_yes e.byte_is.ensures (path.ap bool.not e.if-not-byte_is.false))
     (sym c.weight_at-w.ensures ∙ c.in_default.is))
 
 pub loop-j-preserved : goal.loop-j-preserved
@@ -37,7 +37,7 @@ loop-j-preserved c =
     let e = c.before in
     let at = e in
     at.loop-j.invariant
-    ∙ tail-next _ at.loop-j.i at.loop-j.j e.loop-j-test.true _ _ (told_yes e.byte_is.ensures (path.ap bool.not e.if-not-byte_is.false))
+    ∙ tail_next _ at.loop-j.i at.loop-j.j e.loop-j-test.true _ _ (told_yes e.byte_is.ensures (path.ap bool.not e.if-not-byte_is.false))
     (sym c.weight_at-w.ensures ∙ c.in-Good.is)
 
 pub returns : goal.returns

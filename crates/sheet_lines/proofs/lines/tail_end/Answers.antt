@@ -2,7 +2,7 @@
 use mathlib.Core.Path.{sym, ◌∙◌}
 use native.Mathlib.Omega.{arith}
 use Rattle.text.proofs.Bytes.{byte_here}
-use Rattle.sheet_lines.proofs.Tails.{tail-ended, tail-unended}
+use Rattle.sheet_lines.proofs.Tails.{tail_ended, tail_unended}
 use Rattle.sheet_lines.proofs.lines.tail_end.Goals as goal
 
 pub overflow_add-result : goal.overflow_add-result
@@ -11,7 +11,7 @@ overflow_add-result c =
     omega (arith, b.0)
 
 pub returns-then-byte_is : goal.returns-then-byte_is
-returns-then-byte_is c = sym (tail-ended _ _ (sym c.byte_is.ensures ∙ c.if-byte_is.true))
+returns-then-byte_is c = sym (tail_ended _ _ (sym c.byte_is.ensures ∙ c.if-byte_is.true))
 
 pub returns : goal.returns
-returns c = sym (tail-unended _ _ (sym c.byte_is.ensures ∙ c.if-byte_is.false))
+returns c = sym (tail_unended _ _ (sym c.byte_is.ensures ∙ c.if-byte_is.false))

@@ -4,17 +4,17 @@ use mathlib.Core.Path.{ap}
 use native.Mathlib.Omega.{arith}
 use Rattle.lists.proofs.Storing.{inside}
 use Rattle.sheet_lines.specs.Cursor.{fine}
-use Rattle.sheet_read.proofs.Filled.{begin_state, mark-room, split, end-state, feed-place, next-state}
+use Rattle.sheet_read.proofs.Filled.{begin_state, mark_room, split, end_state, feed_place, next_state}
 use Rattle.sheet_read.proofs.filling.fill_lines.Goals as goal
 
 pub loop-i-init : goal.loop-i-init
 loop-i-init c = begin_state _ _ _ c.requires
 
 pub overflow_add-b : goal.overflow_add-b
-overflow_add-b c = omega (arith, mark-room c.loop-i.invariant c.loop-i-test.true)
+overflow_add-b c = omega (arith, mark_room c.loop-i.invariant c.loop-i-test.true)
 
 pub letters_end-e-requires : goal.letters_end-e-requires
-letters_end-e-requires c = mark-room c.loop-i.invariant c.loop-i-test.true
+letters_end-e-requires c = mark_room c.loop-i.invariant c.loop-i-test.true
 
 pub copy_bytes-requires : goal.copy_bytes-requires
 copy_bytes-requires c =
@@ -74,14 +74,14 @@ pub overflow_add-i : goal.overflow_add-i
 overflow_add-i c =
     let le = c.before in
     let sp = split le.loop-i.invariant le.loop-i-test.true le.letters_end-e.ensures in
-    let fp = feed-place sp _ c.fill_weights-f.ensures.1 in
+    let fp = feed_place sp _ c.fill_weights-f.ensures.1 in
     omega (arith, fp.0)
 
 pub loop-i-smaller : goal.loop-i-smaller
 loop-i-smaller c =
     let le = c.before in
     let sp = split le.loop-i.invariant le.loop-i-test.true le.letters_end-e.ensures in
-    let fp = feed-place sp _ c.fill_weights-f.ensures.1 in
+    let fp = feed_place sp _ c.fill_weights-f.ensures.1 in
     omega (arith, fp.0, fp.1)
 
 pub loop-i-preserved : goal.loop-i-preserved
@@ -89,7 +89,7 @@ loop-i-preserved c =
     let g = c.before in
     let le = c.before in
     let sp = split le.loop-i.invariant le.loop-i-test.true le.letters_end-e.ensures in
-    next-state sp _ c.fill_weights-f.ensures.1 g.copy_bytes.ensures
+    next_state sp _ c.fill_weights-f.ensures.1 g.copy_bytes.ensures
     c.fill_weights-f.ensures.0
 
 pub shape_of-letters : goal.shape_of-letters
@@ -102,4 +102,4 @@ pub shape_of-weights : goal.shape_of-weights
 shape_of-weights c = c.loop-i.invariant.weights.size_kept
 
 pub returns : goal.returns
-returns c = end-state c.loop-i.invariant c.loop-i-test.false
+returns c = end_state c.loop-i.invariant c.loop-i-test.false

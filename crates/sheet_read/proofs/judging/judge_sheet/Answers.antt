@@ -1,6 +1,6 @@
 -- `judge_sheet` meets its contract: line 1, k, then the lines. Assumes nothing.
 use mathlib.Core.Path.{sym, ◌∙◌}
-use Rattle.sheet_read.proofs.Refusals.{head_wrong, headed, k-bad, line-bad, all_lines}
+use Rattle.sheet_read.proofs.Refusals.{head_wrong, headed, k_bad, line_bad, all_lines}
 use Rattle.sheet_read.proofs.judging.judge_sheet.Goals as goal
 
 pub returns-in_default : goal.returns-in_default
@@ -11,7 +11,7 @@ returns-in-Bad c =
     let j = c.before in
     let w = j in
     let hd = headed _ _ _ (sym w.head_at-h.ensures ∙ w.in-Good.is) in
-    k-bad _ _ _ hd _ _ (sym j.judge_k-v.ensures ∙ c.in-Bad.is)
+    k_bad _ _ _ hd _ _ (sym j.judge_k-v.ensures ∙ c.in-Bad.is)
 
 pub count_lines-c-requires : goal.count_lines-c-requires
 count_lines-c-requires c =
@@ -36,4 +36,4 @@ returns-in-Wrong c =
     let w = j in
     let hd = headed _ _ _ (sym w.head_at-h.ensures ∙ w.in-Good.is) in
     let g = sym j.judge_k-v.ensures ∙ d.in_default-v.is in
-    line-bad _ _ _ hd g _ (sym d.count_lines-c.ensures ∙ c.in-Wrong.is)
+    line_bad _ _ _ hd g _ (sym d.count_lines-c.ensures ∙ c.in-Wrong.is)

@@ -1,7 +1,7 @@
 -- `put_lines` meets its contract. Invariant: the lines of the strings left, stored from here on, bring the table to its target. Assumes nothing.
 use native.Mathlib.Omega.{arith}
 use Rattle.collection.proofs.Judged.{collection_good}
-use Rattle.sheet_write.proofs.Lines.{lining, next-line, weights-there, line-room, lined, lined_all}
+use Rattle.sheet_write.proofs.Lines.{lining, next_line, weights_there, line_room, lined, lined_all}
 use Rattle.sheet_write.proofs.Texts.{few_weights}
 use Rattle.sheet_write.proofs.writing.put_lines.Goals as goal
 
@@ -19,25 +19,25 @@ overflow_add-n c = omega (arith, c.shared_slice_known-in-loop-i-1.given c.loop-i
 pub overflow_add-n-in-loop-i : goal.overflow_add-n-in-loop-i
 overflow_add-n-in-loop-i c =
     let g = c.before in
-    let n = next-line c.loop-i.invariant c.loop-i-test.true in
+    let n = next_line c.loop-i.invariant c.loop-i-test.true in
     omega (arith, n.long, c.shared_slice_known-in-loop-i-1.given c.loop-i.i)
 
 pub overflow_sub-n : goal.overflow_sub-n
-overflow_sub-n c = omega (arith, next-line c.loop-i.invariant c.loop-i-test.true)
+overflow_sub-n c = omega (arith, next_line c.loop-i.invariant c.loop-i-test.true)
 
 pub put_string-p-requires : goal.put_string-p-requires
 put_string-p-requires c =
     let at = c.before in
     let l = c.loop-i-test.true in
-    let n = next-line at.loop-i.invariant l in
-    record { b_le_e = (omega (arith, n.long), n.inside, weights-there at.loop-i.invariant l); n_in_bounds = line-room at.loop-i.invariant l }
+    let n = next_line at.loop-i.invariant l in
+    record { b_le_e = (omega (arith, n.long), n.inside, weights_there at.loop-i.invariant l); n_in_bounds = line_room at.loop-i.invariant l }
 
 pub overflow_add-w : goal.overflow_add-w
 overflow_add-w c =
     let t = c.before in
     let at = t in
     let g = at in
-    omega (arith, weights-there at.loop-i.invariant t.loop-i-test.true, few_weights (collection_good _ g.requires.passes))
+    omega (arith, weights_there at.loop-i.invariant t.loop-i-test.true, few_weights (collection_good _ g.requires.passes))
 
 pub overflow_add-i : goal.overflow_add-i
 overflow_add-i c = omega (arith, c.loop-i-test.true)

@@ -2,28 +2,28 @@
 use native.Mathlib.Omega.{arith}
 use lib.ListN.{length-set}
 use Rattle.lists.proofs.Storing.{inside, store, stored}
-use Rattle.sheet_write.proofs.Line.{marks-room, letters_room, weights_room, line-weighed, line-end, line-fits}
+use Rattle.sheet_write.proofs.Line.{marks_room, letters_room, weights_room, line-weighed, line_end, line-fits}
 use Rattle.sheet_write.proofs.writing.put_string.Goals as goal
 
 pub bounds-out-at : goal.bounds-out-at
 bounds-out-at c =
     let g = c.before in
-    omega (arith, marks-room g.args.letters.now g.args.weights.now g.args.out.now _ _ _ _ _ g.requires.b_le_e g.requires.n_in_bounds)
+    omega (arith, marks_room g.args.letters.now g.args.weights.now g.args.out.now _ _ _ _ _ g.requires.b_le_e g.requires.n_in_bounds)
 
 pub overflow_add-out : goal.overflow_add-out
 overflow_add-out c =
     let g = c.before in
-    omega (arith, marks-room g.args.letters.now g.args.weights.now g.args.out.now _ _ _ _ _ g.requires.b_le_e g.requires.n_in_bounds)
+    omega (arith, marks_room g.args.letters.now g.args.weights.now g.args.out.now _ _ _ _ _ g.requires.b_le_e g.requires.n_in_bounds)
 
 pub bounds-out-at-2 : goal.bounds-out-at-2
 bounds-out-at-2 c =
     let g = c.before in
-    rw length-set (omega (arith, marks-room g.args.letters.now g.args.weights.now g.args.out.now _ _ _ _ _ g.requires.b_le_e g.requires.n_in_bounds))
+    rw length-set (omega (arith, marks_room g.args.letters.now g.args.weights.now g.args.out.now _ _ _ _ _ g.requires.b_le_e g.requires.n_in_bounds))
 
 pub overflow_add-at : goal.overflow_add-at
 overflow_add-at c =
     let g = c.before in
-    omega (arith, marks-room g.args.letters.now g.args.weights.now g.args.out.now _ _ _ _ _ g.requires.b_le_e g.requires.n_in_bounds)
+    omega (arith, marks_room g.args.letters.now g.args.weights.now g.args.out.now _ _ _ _ _ g.requires.b_le_e g.requires.n_in_bounds)
 
 pub copy_bytes-requires : goal.copy_bytes-requires
 copy_bytes-requires c =
@@ -33,7 +33,7 @@ copy_bytes-requires c =
 pub overflow_add-at-2 : goal.overflow_add-at-2
 overflow_add-at-2 c =
     let g = c.before in
-    omega (arith, marks-room g.args.letters.now g.args.weights.now g.args.out.now _ _ _ _ _ g.requires.b_le_e g.requires.n_in_bounds)
+    omega (arith, marks_room g.args.letters.now g.args.weights.now g.args.out.now _ _ _ _ _ g.requires.b_le_e g.requires.n_in_bounds)
 
 pub overflow_sub-e : goal.overflow_sub-e
 overflow_sub-e c =
@@ -43,7 +43,7 @@ overflow_sub-e c =
 pub overflow_add-at-3 : goal.overflow_add-at-3
 overflow_add-at-3 c =
     let g = c.before in
-    omega (arith, marks-room g.args.letters.now g.args.weights.now g.args.out.now _ _ _ _ _ g.requires.b_le_e g.requires.n_in_bounds)
+    omega (arith, marks_room g.args.letters.now g.args.weights.now g.args.out.now _ _ _ _ _ g.requires.b_le_e g.requires.n_in_bounds)
 
 pub put_weights-p-requires : goal.put_weights-p-requires
 put_weights-p-requires c =
@@ -84,7 +84,7 @@ returns c =
     let z = c.before in
     let y = z in
     let g = y in (
-      line-end g.args.letters.now g.args.weights.now g.args.out.now _ _ _ _ _ g.requires.b_le_e g.requires.n_in_bounds y.copy_bytes.ensures
+      line_end g.args.letters.now g.args.weights.now g.args.out.now _ _ _ _ _ g.requires.b_le_e g.requires.n_in_bounds y.copy_bytes.ensures
           z.put_weights-p.ensures.0,
       stored (store
           (line-weighed g.args.letters.now g.args.weights.now g.args.out.now _ _ _ _ _ g.requires.b_le_e g.requires.n_in_bounds y.copy_bytes.ensures

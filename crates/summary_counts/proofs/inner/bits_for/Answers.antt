@@ -2,7 +2,7 @@
 use native.Mathlib.Omega.{arith}
 use mathlib.Core.Path.{ap, ◌∙◌}
 use Rattle.summary_counts.specs.Counts.{bits_for}
-use Rattle.summary_counts.proofs.Logarithm.{doubling, doubled, doubled-enough}
+use Rattle.summary_counts.proofs.Logarithm.{doubling, doubled, doubled_enough}
 use Rattle.summary_counts.proofs.inner.bits_for.Goals as goal
 
 pub loop-p-init : goal.loop-p-init
@@ -21,4 +21,4 @@ pub loop-p-preserved : goal.loop-p-preserved
 loop-p-preserved c = doubled c.loop-p.invariant c.loop-p-test.true
 
 pub returns : goal.returns
-returns c = doubled-enough c.loop-p.invariant c.loop-p-test.false ∙ ap bits_for c.wide-most.ensures
+returns c = doubled_enough c.loop-p.invariant c.loop-p-test.false ∙ ap bits_for c.wide-most.ensures

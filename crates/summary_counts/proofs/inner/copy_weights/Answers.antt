@@ -1,15 +1,15 @@
 -- `copy_weights` meets its contract. Invariant: the first i entries are copied. Assumes nothing.
-use Rattle.lists.proofs.Copying.{copy_start, copy-inside, copy-next, copied}
+use Rattle.lists.proofs.Copying.{copy_start, copy_inside, copy_next, copied}
 use Rattle.summary_counts.proofs.inner.copy_weights.Goals as goal
 
 pub loop-i-init : goal.loop-i-init
 loop-i-init c = copy_start _ _ c.requires
 
 pub bounds-work-i : goal.bounds-work-i
-bounds-work-i c = copy-inside c.loop-i.invariant 0 c.loop-i-test.true
+bounds-work-i c = copy_inside c.loop-i.invariant 0 c.loop-i-test.true
 
 pub loop-i-preserved : goal.loop-i-preserved
-loop-i-preserved c = copy-next c.loop-i.invariant 0 c.loop-i-test.true
+loop-i-preserved c = copy_next c.loop-i.invariant 0 c.loop-i-test.true
 
 pub shape_of-work : goal.shape_of-work
 shape_of-work c = c.loop-i.invariant.storing.size_kept

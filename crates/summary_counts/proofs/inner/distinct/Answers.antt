@@ -1,6 +1,6 @@
 -- `distinct` meets its contract: weights and ids are written, sorted, and their runs counted. Assumes nothing.
 use native.Mathlib.Omega.{arith}
-use Rattle.summary_counts.proofs.Ids.{ids-fit, ids-few, ready, sorted-size, order-low, different}
+use Rattle.summary_counts.proofs.Ids.{ids_fit, ids_few, ready, sorted_size, order_low, different}
 use Rattle.summary_counts.proofs.inner.distinct.Goals as goal
 
 pub copy_weights-requires : goal.copy_weights-requires
@@ -10,13 +10,13 @@ pub slice_bounds-number_ids-end : goal.slice_bounds-number_ids-end
 slice_bounds-number_ids-end c =
     let y = c.before in
     let g = y in
-    ids-fit _ _ g.requires.0 g.requires.1 y.copy_weights.ensures
+    ids_fit _ _ g.requires.0 g.requires.1 y.copy_weights.ensures
 
 pub number_ids-requires : goal.number_ids-requires
 number_ids-requires c =
     let y = c.before in
     let g = y in
-    ids-few _ _ g.requires.0 g.requires.1 y.copy_weights.ensures
+    ids_few _ _ g.requires.0 g.requires.1 y.copy_weights.ensures
 
 pub sort_by_weight-requires : goal.sort_by_weight-requires
 sort_by_weight-requires c = record {
@@ -43,7 +43,7 @@ slice_bounds-runs_by-end c =
     let w = s in
     let y = w in
     let g = y in
-    omega (arith, g.requires.1, sorted-size _ _ g.requires.0 g.requires.1 y.copy_weights.ensures w.number_ids.ensures s.sort_by_weight.ensures)
+    omega (arith, g.requires.1, sorted_size _ _ g.requires.0 g.requires.1 y.copy_weights.ensures w.number_ids.ensures s.sort_by_weight.ensures)
 
 pub runs_by-requires : goal.runs_by-requires
 runs_by-requires c =
@@ -51,7 +51,7 @@ runs_by-requires c =
     let w = s in
     let y = w in
     let g = y in
-    order-low _ _ g.requires.0 g.requires.1 y.copy_weights.ensures w.number_ids.ensures s.sort_by_weight.ensures
+    order_low _ _ g.requires.0 g.requires.1 y.copy_weights.ensures w.number_ids.ensures s.sort_by_weight.ensures
 
 pub returns : goal.returns
 returns c =

@@ -1,7 +1,7 @@
 -- `weigh_ids` meets its contract. Invariant: the ids before i are replaced, the others are as they were. Assumes nothing.
 use native.Mathlib.Omega.{arith}
 use lib.ListN.{length-set}
-use Rattle.summary_counts.proofs.Ids.{weighing, id-low, weighed, weighed-all}
+use Rattle.summary_counts.proofs.Ids.{weighing, id_low, weighed, weighed-all}
 use Rattle.summary_counts.proofs.inner.weigh_ids.Goals as goal
 
 pub loop-i-init : goal.loop-i-init
@@ -11,7 +11,7 @@ pub offset_bounds-weights-x : goal.offset_bounds-weights-x
 offset_bounds-weights-x c = omega (
   arith,
   c.wide-x.ensures,
-  id-low c.loop-i.invariant c.loop-i-test.true c.requires,
+  id_low c.loop-i.invariant c.loop-i-test.true c.requires,
 )
 
 pub bounds-weights-x : goal.bounds-weights-x
@@ -20,7 +20,7 @@ bounds-weights-x c =
     omega (
       arith,
       c.wide-x.ensures,
-      id-low t.loop-i.invariant c.loop-i-test.true
+      id_low t.loop-i.invariant c.loop-i-test.true
           t.requires,
     )
 

@@ -1,13 +1,13 @@
 -- `copy_bytes` meets its contract. Invariant: the bytes left, stored from here on, bring the table to its target. Assumes nothing.
 use native.Mathlib.Omega.{arith}
-use Rattle.lists.proofs.Storing.{begin-at, inside, store, restated, stored}
-use Rattle.text.proofs.Copied.{take_next, take_none, take-size}
+use Rattle.lists.proofs.Storing.{begin_at, inside, store, restated, stored}
+use Rattle.text.proofs.Copied.{take_next, take_none, take_size}
 use Rattle.text.proofs.inner.copy_bytes.Goals as goal
 
 pub loop-i-init : goal.loop-i-init
 loop-i-init c =
-    let z = take-size c.args.s.now c.args.e c.args.at c.requires.0 c.requires.1 in
-    (c.requires.0, begin-at _ _ _ (omega (arith, z, c.requires.2)))
+    let z = take_size c.args.s.now c.args.e c.args.at c.requires.0 c.requires.1 in
+    (c.requires.0, begin_at _ _ _ (omega (arith, z, c.requires.2)))
 
 pub bounds-out-p : goal.bounds-out-p
 bounds-out-p c =

@@ -2,7 +2,7 @@
 use mathlib.Core.Path.{◌≡◌, sym, ◌∙◌}
 use native.Mathlib.Omega.{arith}
 use Rattle.text.proofs.Tests.{told_no, told_yes, digit_range}
-use Rattle.text.proofs.OneNumber.{walk_field, walk_end, walk-bad, walk-next, walk_none, range_bounds}
+use Rattle.text.proofs.OneNumber.{walk_field, walk_end, walk_bad, walk_next, walk_none, range_bounds}
 use Rattle.text.proofs.inner.number_at.Goals as goal
 use mathlib.Core.Path as path
 use mathlib.Core.Bool as bool
@@ -34,7 +34,7 @@ returns-then-not-in_range c =
     let out = told_no c.in_range.ensures (path.ap bool.not c.if-not-in_range.true) in
     let inside = digit.loop-i-test.true in
     sym (turn.loop-i.invariant.1
-    ∙ walk-bad start.args.sep _ _ inside start.args.most start.requires.0 d turn.loop-i.v _ c.with_digit-v.ensures out)
+    ∙ walk_bad start.args.sep _ _ inside start.args.most start.requires.0 d turn.loop-i.v _ c.with_digit-v.ensures out)
 
 pub loop-i-preserved : goal.loop-i-preserved
 loop-i-preserved c =
@@ -44,7 +44,7 @@ loop-i-preserved c =
     let d = told_yes digit.is_digit.ensures (path.ap bool.not digit.if-not-is_digit.false) in
     let within = told_yes c.in_range.ensures (path.ap bool.not c.if-not-in_range.false) in
     let inside = digit.loop-i-test.true in
-    let next = walk-next start.args.sep _ _ inside start.args.most start.requires.0 d turn.loop-i.v _
+    let next = walk_next start.args.sep _ _ inside start.args.most start.requires.0 d turn.loop-i.v _
     c.with_digit-v.ensures within in
     ((range_bounds _ _ within).1, turn.loop-i.invariant.1 ∙ next)
 
