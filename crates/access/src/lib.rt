@@ -11,7 +11,7 @@ ghost use Rattle.access.specs.Access.{access_verdict, access_part, access_start,
 use collection::{Told, Verdict};
 
 // What ACCESS answers where no part can be handed back: the position of the first of the k letters.
-#[derive(Drop)]
+#[derive(Clone, Copy)]
 pub enum AccessAnswer {
     At { position: usize },
     Refused { number: u32, place: usize },

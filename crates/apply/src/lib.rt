@@ -12,7 +12,7 @@ ghost use Rattle.collection.specs.Tables.{tables, rooms_of};
 use collection::Verdict;
 
 // What APPLY answers: how many letters, ends and weights it filled.
-#[derive(Drop)]
+#[derive(Clone, Copy)]
 pub enum ApplyAnswer {
     Filled {
         letters: usize,

@@ -11,7 +11,7 @@ use crate::writing::{write_column, write_letters};
 use apply_places::inner::is_turned;
 
 // Where a string stands: its letters from `start` to `end`, its weights from `first` to `last`; and whether its place turns it.
-#[derive(Drop)]
+#[derive(Clone, Copy)]
 struct Part {
     start: usize,
     end: usize,

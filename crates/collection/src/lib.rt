@@ -12,21 +12,21 @@ ghost use Rattle.collection.specs.Verdict.{room_verdict};
 ghost use Rattle.collection.specs.Judge.{k_verdict, size_verdict, shape_verdict, collection_verdict, handle_verdict, word_verdict};
 
 // What judging finds: nothing to refuse, or the first refusal, in the order of the specification (8.3).
-#[derive(Drop)]
+#[derive(Clone, Copy)]
 pub enum Verdict {
     Good,
     Bad { number: u32, place: usize },
 }
 
 // The number and the place of a refusal; 0 and 0 where nothing is refused.
-#[derive(Drop)]
+#[derive(Clone, Copy)]
 pub struct Told {
     pub number: u32,
     pub place: usize,
 }
 
 // As it was asked (+), or as its reverse complement (-).
-#[derive(Drop)]
+#[derive(Clone, Copy)]
 pub enum Side {
     Asked,
     Turned,

@@ -10,7 +10,7 @@ ghost use Rattle.collection.specs.Collection.{collection};
 use collection::Verdict;
 
 // What COVER answers.
-#[derive(Drop)]
+#[derive(Clone, Copy)]
 pub enum CoverAnswer {
     Covered { places: usize, paths: usize },
     Refused { number: u32, place: usize },

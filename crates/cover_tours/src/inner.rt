@@ -6,7 +6,7 @@ ghost use Rattle.cover_tours.specs.Rows.{Graph, Cursor, Cursors, Sought, Answer}
 ghost use Rattle.cover_tours.specs.States.{taken, returned, Found, Ready, Walked, Begun, Touring, Visited, Done};
 
 // Where the halves of all walks start, and how many walks there were after the first.
-#[derive(Drop)]
+#[derive(Clone, Copy)]
 pub struct Tour {
     pub start: usize,
     pub walks: usize,

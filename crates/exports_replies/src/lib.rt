@@ -4,7 +4,7 @@
 pub mod inner;
 
 // A refusal, or as many values as the call answers.
-#[derive(Drop)]
+#[derive(Clone, Copy)]
 pub enum Reply {
     Refused { number: u32, place: u64 },
     One(u64),

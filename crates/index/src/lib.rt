@@ -9,7 +9,7 @@ ghost use Rattle.collection.specs.Collection.{spelling, collection};
 use collection::Verdict;
 
 // What INDEX answers: how many stretches it filled into each of three tables and how many entries into the fourth; or the number and place of a refusal.
-#[derive(Drop)]
+#[derive(Clone, Copy)]
 pub enum IndexAnswer {
     Indexed { stretches: usize, starts: usize },
     Refused { number: u32, place: usize },

@@ -10,7 +10,7 @@ ghost use Rattle.collection.specs.Collection.{collection};
 use collection::{Side, Verdict};
 
 // What PLAIN answers.
-#[derive(Drop)]
+#[derive(Clone, Copy)]
 pub enum PlainAnswer {
     Found { handle: usize, side: Side },
     Absent,
@@ -18,7 +18,7 @@ pub enum PlainAnswer {
 }
 
 // What a pass over k-mers has seen: the asked word at a handle; or not that, and the turned word first at a handle (0: not).
-#[derive(Drop)]
+#[derive(Clone, Copy)]
 pub enum Seen {
     At(usize),
     NotAsked(usize),

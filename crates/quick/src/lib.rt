@@ -12,7 +12,7 @@ use collection::{Side, Verdict};
 use weight::WeightAnswer;
 
 // What QUICK answers. The number compared can pass 32 bits on a damaged index.
-#[derive(Drop)]
+#[derive(Clone, Copy)]
 pub enum QuickAnswer {
     Found {
         handle: usize,
@@ -29,7 +29,7 @@ pub enum QuickAnswer {
 }
 
 // What an asked word weighs.
-#[derive(Drop)]
+#[derive(Clone, Copy)]
 pub enum WordAnswer {
     Weighs { weight: u32 },
     Absent,

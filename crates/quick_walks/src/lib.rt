@@ -4,7 +4,7 @@
 pub mod inner;
 
 // Where a walk ends: at a k-mer, or past the last; with the number compared.
-#[derive(Drop)]
+#[derive(Clone, Copy)]
 pub enum Met {
     Hit { handle: usize, compared: u64 },
     Miss { compared: u64 },

@@ -12,7 +12,7 @@ ghost use Rattle.repeats.specs.Check.{check_verdict, check_of, outcome};
 use collection::Verdict;
 
 // What CHECK answers: how many k-mers it looked at, or the number and place of a refusal.
-#[derive(Drop)]
+#[derive(Clone, Copy)]
 pub enum CheckAnswer {
     Checked { kmers: usize },
     Refused { number: u32, place: usize },

@@ -10,7 +10,7 @@ ghost use Rattle.collection.specs.Collection.{collection};
 use collection::Verdict;
 
 // What RUNS answers: how many runs it filled in each table.
-#[derive(Drop)]
+#[derive(Clone, Copy)]
 pub enum RunsAnswer {
     Filled { runs: usize },
     Refused { number: u32, place: usize },

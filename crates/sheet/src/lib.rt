@@ -4,7 +4,7 @@
 
 // READ: k, and how many entries it filled in the tables of letters, ends and weights; or a refusal. In a refusal with
 // number 11 the place is a line, from 1.
-#[derive(Drop)]
+#[derive(Clone, Copy)]
 pub enum ReadAnswer {
     Filled {
         k: usize,
@@ -19,7 +19,7 @@ pub enum ReadAnswer {
 }
 
 // WRITE: how many bytes it wrote; or a refusal.
-#[derive(Drop)]
+#[derive(Clone, Copy)]
 pub enum WriteAnswer {
     Written(usize),
     Refused { number: u32, place: usize },

@@ -7,14 +7,14 @@ pub mod inner;
 pub mod lines;
 
 // The weights up to a line's end: where the next line starts.
-#[derive(Drop)]
+#[derive(Clone, Copy)]
 pub enum Tail {
     Good { next: usize },
     Wrong,
 }
 
 // A string's line: where the next one starts, and how many letters and weights it has.
-#[derive(Drop)]
+#[derive(Clone, Copy)]
 pub enum Line {
     Good {
         next: usize,
@@ -25,14 +25,14 @@ pub enum Line {
 }
 
 // Line 1: k, and where line 2 starts.
-#[derive(Drop)]
+#[derive(Clone, Copy)]
 pub enum Head {
     Good { k: usize, next: usize },
     Wrong,
 }
 
 // What the strings' lines hold, or the number of the first wrong one.
-#[derive(Drop)]
+#[derive(Clone, Copy)]
 pub enum Counted {
     Good {
         letters: usize,

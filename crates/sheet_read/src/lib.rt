@@ -13,7 +13,7 @@ ghost use Rattle.sheet.specs.Read.{read_outcome, read_of};
 use sheet::ReadAnswer;
 
 // A judged sheet: k, where line 2 starts and what the lines hold; or the first refusal.
-#[derive(Drop)]
+#[derive(Clone, Copy)]
 pub(crate) enum Judged {
     Good {
         k: usize,

@@ -12,7 +12,7 @@ ghost use Rattle.summary_text.specs.Written.{outcome, written_of};
 use collection::Verdict;
 
 // The nine numbers of a collection.
-#[derive(Drop)]
+#[derive(Clone, Copy)]
 pub struct Numbers {
     pub strings: usize,
     pub kmers: usize,
@@ -26,14 +26,14 @@ pub struct Numbers {
 }
 
 // What there is to say of a sheet: the numbers of its collection, or why it is refused.
-#[derive(Drop)]
+#[derive(Clone, Copy)]
 pub enum Summary {
     Counted { numbers: Numbers },
     Refused { number: u32, place: usize },
 }
 
 // What a report answers: how many bytes it wrote; or a refusal, where the table is too short.
-#[derive(Drop)]
+#[derive(Clone, Copy)]
 pub enum ReportAnswer {
     Written { bytes: usize },
     Refused { number: u32, place: usize },

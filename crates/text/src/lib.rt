@@ -7,7 +7,7 @@ ghost use Rattle.std.specs.Prelude.{◌≡◌};
 ghost use Rattle.text.specs.Fields.{byte_is};
 
 // A number at a place of a text: its value, and where its field ends.
-#[derive(Drop)]
+#[derive(Clone, Copy)]
 pub enum Number {
     Good { value: u32, next: usize },
     Wrong,

@@ -11,7 +11,7 @@ ghost use Rattle.weight.specs.Weight.{weight_answer};
 use collection::Verdict;
 
 // What WEIGHT answers.
-#[derive(Drop)]
+#[derive(Clone, Copy)]
 pub enum WeightAnswer {
     Found { weight: u32 },
     Refused { number: u32, place: usize },
