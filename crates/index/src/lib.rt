@@ -105,7 +105,8 @@ fn index_judged(
         (lent firsts.old positions.old numbers.old before.old work.old) }
 {
     let repeat = repeats::inner::first_repeat(k, letters, ends, n, work);
-    if repeat != 0 {
+    let repeated = repeat != 0;
+    if repeated {
         collection::inner::zero_first(work, 4 * n);
         return IndexAnswer::Refused {
             number: 7,

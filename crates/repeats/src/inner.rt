@@ -31,7 +31,8 @@ fn least_second(work: &[u32], n: usize, m: usize) -> usize
     while i < m {
         let x = work[ids + (i - 1)] as usize;
         let y = work[ids + i] as usize;
-        if (y < least) & same_code(work, n, x, y) {
+        let better = (y < least) & same_code(work, n, x, y);
+        if better {
             least = y;
         }
         i += 1;

@@ -3,30 +3,17 @@ use mathlib.Core.Path.{ap}
 use Prim.Native.Nat.{ℕ, ◌+◌}
 use native.Mathlib.Omega.{arith}
 use Rattle.repeats.proofs.Arranged.{few_kmers}
-use Rattle.index.specs.Indexing.{Lent, lent}
+use Rattle.index.specs.Indexing.{lent}
 use Rattle.index.proofs.Indexed.{repeat_refused, judged_still, index_made_lem, work_still}
 use Rattle.index.proofs.index_judged.Goals as goal
-use Rattle.index.proofs.index_judged.Lts as lts
-use Rattle.index.proofs.index_judged.Tie as tie
-use Rattle.index.proofs.index_judged.Reads as reads
 
-abbrev Place-Start : Type 0
-Place-Start = lts.Start tie.the-claims reads.Pre reads.Post tie.handed_clauses
-
--- the five tables at the start
-abbrev tables : Place-Start → Lent
-tables s = lent s.args.firsts.now s.args.positions.now s.args.numbers.now s.args.before.now s.args.work.now
-
-pub returns-then-repeat-ne0 : goal.returns-then-repeat-ne0
-returns-then-repeat-ne0 c =
-    let t = c.before in
-    let f = t in
-    repeat_refused (tables f.before.before.before.before.before.before.before.before.before.before.before.before.before.before.before.before) f.requires f.first_repeat-repeat.ensures t.if-repeat-ne0.true c.zero_first.ensures
+pub returns-then-repeated : goal.returns-then-repeated
+returns-then-repeated c =
+    repeat_refused (lent c.args.firsts.now c.args.positions.now c.args.numbers.now c.args.before.now c.args.work.now) c.requires c.first_repeat-repeat.ensures c.if-repeated.true c.zero_first.ensures
 
 pub build-requires : goal.build-requires
 build-requires c =
-    let f = c.before in
-    judged_still (tables f.before.before.before.before.before.before.before.before.before.before.before.before.before.before.before.before.before) f.requires f.first_repeat-repeat.ensures
+    judged_still (lent c.args.firsts.now c.args.positions.now c.args.numbers.now c.args.before.now c.args.work.now) c.requires c.first_repeat-repeat.ensures
 
 pub overflow_mul-n-2 : goal.overflow_mul-n-2
 overflow_mul-n-2 c =
@@ -35,9 +22,7 @@ overflow_mul-n-2 c =
 
 pub zero_first-requires-2 : goal.zero_first-requires-2
 zero_first-requires-2 c =
-    let b = c.before in
-    let f = b in
-    work_still (tables f.before.before.before.before.before.before.before.before.before.before.before.before.before.before.before.before.before.before.before.before.before.before.before.before.before.before.before.before.before) f.requires f.first_repeat-repeat.ensures b.build.ensures
+    work_still (lent c.args.firsts.now c.args.positions.now c.args.numbers.now c.args.before.now c.args.work.now) c.requires c.first_repeat-repeat.ensures c.build.ensures
 
 pub word_count-starts-requires : goal.word_count-starts-requires
 word_count-starts-requires c = c.requires.p_high
@@ -49,7 +34,5 @@ overflow_add-starts c =
 
 pub returns : goal.returns
 returns c =
-    let b = c.before in
-    let f = b in
-    index_made_lem (tables f.before.before.before.before.before.before.before.before.before.before.before.before.before.before.before.before.before.before.before.before.before.before.before.before.before.before.before.before.before.before.before.before.before) f.requires f.first_repeat-repeat.ensures b.build.ensures c.if-repeat-ne0.false
+    index_made_lem (lent c.args.firsts.now c.args.positions.now c.args.numbers.now c.args.before.now c.args.work.now) c.requires c.first_repeat-repeat.ensures c.build.ensures c.if-repeated.false
     c.zero_first-2.ensures (ap (λ (d : ℕ). d + 1) c.word_count-starts.ensures)

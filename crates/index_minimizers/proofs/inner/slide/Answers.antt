@@ -17,4 +17,4 @@ returns c =
     let a = s.args in
     let e = c.piece-new.ensures ∙ last_piece a.p a.d in
     old_least a.p a.n a.v a.c a.d a.x s.requires.1 s.requires.2 s.requires.3 (omega (arith, e, c.if-new-v.false))
-    (λ q. c.if-piece-v.false (c.piece.ensures ∙ q))
+    (λ q. omega (arith, c.piece.ensures ∙ q))

@@ -8,7 +8,7 @@ use Rattle.repeats_canonical.specs.Codes.{held_at}
 use Rattle.repeats.specs.Order.{id_at, Least}
 use Rattle.repeats.proofs.Neighbours.{least_begin, least-take, least_keep, least_end}
 use Rattle.repeats.proofs.inner.least_second.Goals as goal
-use Rattle.repeats.proofs.inner.least_second.Goals.{then-y-least, else-y-least}
+use Rattle.repeats.proofs.inner.least_second.Goals.{then-better, else-better}
 
 pub loop-i-init : goal.loop-i-init
 loop-i-init c = (omega arith, least_begin _ _ _ _)
@@ -38,18 +38,18 @@ loop-i-preserved c =
     let n = s.args.n in
     let i = l.i in
     let test : Bool → Bool = λ (t : Bool). ltb (id_at n w₀ i) l.least && t in
-    elim c.if-y-least.branch [
-      | then-y-least w ↦ (
+    elim c.if-better.branch [
+      | then-better w ↦ (
         omega arith,
         subst (Least (held_at n w₀) (id_at n w₀) n s.args.m (i + 1)) (sym w.least-is)
             (least-take (held_at n w₀) (id_at n w₀) n s.args.m i l.least l.invariant.0 u.loop-i-test.true l.invariant.1
-            (ap test (sym c.same_code.ensures) ∙ w.if-y-least.true)),
+            (ap test (sym c.same_code.ensures) ∙ w.if-better.true)),
       )
-      | else-y-least w ↦ (
+      | else-better w ↦ (
         omega arith,
         subst (Least (held_at n w₀) (id_at n w₀) n s.args.m (i + 1)) (sym w.least-is)
             (least_keep (held_at n w₀) (id_at n w₀) n s.args.m i l.least l.invariant.0 u.loop-i-test.true l.invariant.1
-            (ap test (sym c.same_code.ensures) ∙ w.if-y-least.false)),
+            (ap test (sym c.same_code.ensures) ∙ w.if-better.false)),
       )
     ]
 
