@@ -97,7 +97,8 @@ marks_more m work places a p q r u marks b h = go (ℕ_discrete (suc b) a)
 pub sizes_more : (places : List ℤ) (i : ℕ) → i < length places
     → map nat_abs (take (i + 1) places) ≡ map nat_abs (take i places) ++ (nat_abs (get_or places i (pos 0)) ∷ [])
 sizes_more places i l =
-    ap (λ (n : ℕ). map nat_abs (take n places)) (add-one i) ∙ (ap (map nat_abs) (take-suc places i (pos 0) l) ∙ map_snoc (take i places) (get_or places i (pos 0)))
+    ap (λ (n : ℕ). map nat_abs (take n places)) (add-one i)
+    ∙ (ap (map nat_abs) (take-suc places i (pos 0) l) ∙ map_snoc (take i places) (get_or places i (pos 0)))
   where
     map_snoc : (ps : List ℤ) (p : ℤ) → map nat_abs (ps ++ (p ∷ [])) ≡ map nat_abs ps ++ (nat_abs p ∷ [])
     map_snoc [] p = refl

@@ -33,7 +33,8 @@ use Rattle.apply_strings.proofs.Reordered.{reordered_passes, reordered-strings, 
 module _ {k : ℕ} {ends : List ℕ} (g : Long k ends) (i a : ℕ) (l : i < length ends) (b : a < within k (start_of ends i) (get_or ends i 0)) where
   -- the k-mers of the strings before, then those of string i, then the others
   split : kmers k ends
-      ≡ kmers k (take i ends) ++ (count_from (start_of ends i) (within k (start_of ends i) (get_or ends i 0)) ++ kmers_from k (get_or ends i 0) (drop (i + 1) ends))
+      ≡ kmers k (take i ends) ++ (count_from (start_of ends i) (within k (start_of ends i) (get_or ends i 0)) ++ kmers_from k (get_or ends i 0)
+      (drop (i + 1) ends))
   split =
       ap (kmers k) (sym (take-append-drop i ends))
       ∙ (kmers_split k 0 (take i ends) (drop i ends) ∙ ap (λ (r : List ℕ). kmers k (take i ends) ++ r) (kmers_next k (start_of ends i) ends i l))

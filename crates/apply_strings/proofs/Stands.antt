@@ -99,7 +99,8 @@ module _ (word : List ℕ) where
           ∙ (once-turned (word_at k letters a) codes ∙ ap (λ (c : ℕ). once word (word_at k letters c)) (behind a))
         where
           codes : Letters (word_at k letters a)
-          codes = spell-letters (take k (drop a letters)) (all_take (λ b. is_letter b ≡ true) k (drop a letters) (all_drop (λ b. is_letter b ≡ true) a letters h))
+          codes = spell-letters (take k (drop a letters))
+              (all_take (λ b. is_letter b ≡ true) k (drop a letters) (all_drop (λ b. is_letter b ≡ true) a letters h))
 
   -- how often it stands in strings
   times_all : ℕ → List Str → ℕ

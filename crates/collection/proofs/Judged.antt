@@ -47,8 +47,10 @@ k_good k h =
 pub size_good : (N m : ℕ) → size_verdict N m ≡ Good → (N ≤ most_letters) × (m ≤ most_strings)
 unfolding size_verdict
 size_good N m h =
-    let t = (test_good (leb N most_letters && leb m most_strings) 3 0 Good h).0 in
-    (leb-true N most_letters (and_left (leb N most_letters) (leb m most_strings) t), leb-true m most_strings (and_right (leb N most_letters) (leb m most_strings) t))
+    let t = (test_good (leb N most_letters && leb m most_strings) 3 0 Good h).0 in (
+      leb-true N most_letters (and_left (leb N most_letters) (leb m most_strings) t),
+      leb-true m most_strings (and_right (leb N most_letters) (leb m most_strings) t),
+    )
 
 -- within the limits nothing is refused by 3
 pub good_size : {N m : ℕ} → N ≤ most_letters → m ≤ most_strings → size_verdict N m ≡ Good

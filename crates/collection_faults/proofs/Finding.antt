@@ -42,7 +42,8 @@ module _ (k before : ℕ) (ends : List ℕ) (i : ℕ) where
   none_short_step : i < length ends → none_short ≡ (leb (before + k) (get_or ends i 0) && eqb (first_short k (i + 1) (get_or ends i 0) (drop (i + 1) ends)) 0)
   none_short_step h = go (dec_le (before + k) (get_or ends i 0))
     where
-      go : Dec (before + k ≤ get_or ends i 0) → none_short ≡ (leb (before + k) (get_or ends i 0) && eqb (first_short k (i + 1) (get_or ends i 0) (drop (i + 1) ends)) 0)
+      go : Dec (before + k ≤ get_or ends i 0) → none_short ≡ (leb (before + k) (get_or ends i 0) && eqb
+          (first_short k (i + 1) (get_or ends i 0) (drop (i + 1) ends)) 0)
       go (yes l) = rw (short_next k before ends i h l, le-leb (before + k) (get_or ends i 0) l)
       go (no l) = let s : get_or ends i 0 < before + k = omega arith in
           rw (short_here k before ends i h s, lt-leb (before + k) (get_or ends i 0) s) (ne_eqb (i + 1) 0 (λ q. omega arith))

@@ -135,7 +135,8 @@ module _ (m n c : ℕ) (cs : List ℕ) (ps : List ℤ) (l : length ps ≡ m) (on
       (subst (λ (qs : List ℤ). MarkedAt m qs (n + 1 + suc j) (get_or (marks m cs) j (0, false))) (sym (all-string h))
       (more (n + 1) (placed_by m n c ps) (length_placed m n c ps ∙ l) j (omega arith)))
 
-  next_at : Dec (c < 2 * m) → (j : ℕ) → j < length (marks m (c ∷ cs)) → MarkedAt m (place_all m n (c ∷ cs) ps) (n + suc j) (get_or (marks m (c ∷ cs)) j (0, false))
+  next_at : Dec (c < 2 * m) → (j : ℕ) → j < length (marks m (c ∷ cs))
+      → MarkedAt m (place_all m n (c ∷ cs) ps) (n + suc j) (get_or (marks m (c ∷ cs)) j (0, false))
   next_at (yes h) j b =
       subst (λ (ks : List (ℕ × Bool)). MarkedAt m (place_all m n (c ∷ cs) ps) (n + suc j) (get_or ks j (0, false))) (sym (string-marked m c cs h))
       (string_at h j (rw (string-marked m c cs h) at b))
@@ -149,7 +150,8 @@ module _ (m n c : ℕ) (cs : List ℕ) (ps : List ℤ) (l : length ps ≡ m) (on
 pub marks_placed : (m n : ℕ) (cs : List ℕ) (ps : List ℤ) → length ps ≡ m → ((e : ℕ) → e < m → occurs e (numbers cs) ≤ 1)
     → (j : ℕ) → j < length (marks m cs) → MarkedAt m (place_all m n cs ps) (n + suc j) (get_or (marks m cs) j (0, false))
 marks_placed m n [] ps l once j b = absurd (unfold marks in (omega arith))
-marks_placed m n (c ∷ cs) ps l once j b = next_at m n c cs ps l once (λ i qs e k h. marks_placed m i cs qs e (once-later m c cs once) k h) (dec_lt c (2 * m)) j b
+marks_placed m n (c ∷ cs) ps l once j b = next_at m n c cs ps l once (λ i qs e k h. marks_placed m i cs qs e (once-later m c cs once) k h)
+    (dec_lt c (2 * m)) j b
 
 -- ─── the order that they make ────────────────────────────────────────────────
 

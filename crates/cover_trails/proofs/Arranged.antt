@@ -48,7 +48,8 @@ module _ (m : ℕ) (places : List ℤ) (number : length places ≡ m) where
         once = once_if_used m (map nat_abs places) size h;
       }
     where
-      within_range : (i : ℕ) → i < length places → length (map nat_abs places) ≡ m → (1 ≤ nat_abs (get_or places i (pos 0))) × (nat_abs (get_or places i (pos 0)) ≤ m)
+      within_range : (i : ℕ) → i < length places → length (map nat_abs places) ≡ m → (1 ≤ nat_abs (get_or places i (pos 0)))
+          × (nat_abs (get_or places i (pos 0)) ≤ m)
       within_range i l size = rw (map_at nat_abs (pos 0) places i) at (range_if_used m (map nat_abs places) size h i (omega arith))
 
   -- or if all are from 1 to m and none is used twice

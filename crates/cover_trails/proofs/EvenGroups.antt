@@ -73,7 +73,8 @@ module _ (strings : List Ends) where
       → (w : ℕ) × (1 ≤ occurs w (weights strings)) × (name_of strings w ≡ l) × ((v : ℕ) → Joined strings w v → oddly (weights strings) v ≡ 0)
   unfolding even_group
   counted_group l e =
-      let m = even_members (occurs l (map (name_of strings) (weights strings))) (odd_members (above (weights strings)) (name_of strings) (weights strings) l) e in
+      let m = even_members (occurs l (map (name_of strings) (weights strings))) (odd_members (above (weights strings)) (name_of strings) (weights strings) l)
+      e in
       let w = occurs-map-some (name_of strings) l (weights strings) m.0 in
       (w.0, w.1, w.2, λ v j. go v m.1 (sym w.2 ∙ joined-same_name strings j) (dec_lt v (above (weights strings))))
     where

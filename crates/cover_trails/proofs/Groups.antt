@@ -55,7 +55,8 @@ unfolding name_of
 name_of_name [] w = refl
 name_of_name (s ∷ strings) w = go (ℕ_discrete (name_of strings w) (name_of strings (back s))) (name_of_name strings)
   where
-    front_name : ((v : ℕ) → name_of strings (name_of strings v) ≡ name_of strings v) → Dec (name_of strings (name_of strings (front s)) ≡ name_of strings (back s))
+    front_name : ((v : ℕ) → name_of strings (name_of strings v) ≡ name_of strings v)
+        → Dec (name_of strings (name_of strings (front s)) ≡ name_of strings (back s))
         → name_of (s ∷ strings) (name_of strings (front s)) ≡ name_of strings (front s)
     front_name ih (yes e) = name_joined s strings (name_of strings (front s)) e
     front_name ih (no q) = name_other s strings (name_of strings (front s)) q ∙ ih (front s)

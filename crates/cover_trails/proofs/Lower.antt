@@ -188,7 +188,8 @@ module _ (n : ℕ) (name : ℕ → ℕ) where
   unfolding even_group
   even_at_ends order h l =
       rw (odd_members_at_ends order l)
-      (even_mono (occurs l (map name (weights order))) (occurs l (map name (path_ends order))) (odd_members n name (path_ends order) l) (present name l order h))
+      (even_mono (occurs l (map name (weights order))) (occurs l (map name (path_ends order))) (odd_members n name (path_ends order) l)
+      (present name l order h))
 
   -- of any names that are the same at both ends of each string
   pub lower_level : (order : List Ends) → Level name order → EndsBelow n order

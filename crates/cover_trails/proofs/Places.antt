@@ -213,7 +213,8 @@ module _ (xs order : List Ends) (k : Located xs order) where
   places_arrange : arranged turned places_of xs ≡ order
   places_arrange = arranged_by_string turned (0, 0) (length xs) places_of xs places_permute refl order k.size stands
     where
-      stands : (i : ℕ) → i < length xs → get_or order (nat_abs (get_or places_of i (pos 0)) - 1) (0, 0) ≡ turned_by turned (get_or places_of i (pos 0)) (get_or xs i (0, 0))
+      stands : (i : ℕ) → i < length xs → get_or order (nat_abs (get_or places_of i (pos 0)) - 1) (0, 0) ≡ turned_by turned (get_or places_of i (pos 0))
+          (get_or xs i (0, 0))
       stands i l =
           let at_i : nat_abs (get_or places_of i (pos 0)) - 1 ≡ k.place i = omega (arith, size_at i l) in
           let t : is_turned (get_or places_of i (pos 0)) ≡ k.turns i = unfold place_of in

@@ -103,7 +103,8 @@ writing_start k at ends ws w s h =
 module _ {k at : ℕ} {ends ws w₀ w : List ℕ} {before passed i : ℕ} (g : Writing k at ends ws w₀ w before passed i) where
   module _ (l : i < length ends) {e : ℕ} (is : e ≡ get_or ends i 0) where
     next_two : Storing (length w₀) w (put at (weights (ends_from k 0 ends ws)) w₀)
-        (get_or ws passed 0 ∷ (get_or ws (passed + within k before e - 1) 0 ∷ weights (ends_from k e (drop (i + 1) ends) (drop (passed + within k before e) ws))))
+        (get_or ws passed 0 ∷ (get_or ws (passed + within k before e - 1) 0 ∷ weights
+        (ends_from k e (drop (i + 1) ends) (drop (passed + within k before e) ws))))
         (at + 2 * i)
     next_two =
         let q : passed + within k before e - 1 ≡ passed + (within k before e - 1) = omega (arith, (string_here g.walk l is).long) in

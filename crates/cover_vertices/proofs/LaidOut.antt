@@ -152,7 +152,8 @@ blank_low {m} {keys} {w₁} {w₂} s o n b =
     (at_all (λ v. v < 2 * m) 0 (verts_in m w₂)
     (λ c l. vert_low m keys (verts_in m w₂) (named_verts o n) c (omega (arith, part_length 0 (2 * m) w₂ (omega arith)))))
 
-module _ {m : ℕ} {keys w₁ w₂ w₃ w₄ : List ℕ} (f : Fits m w₁) (lk : length keys ≡ 2 * m) (o : Ordered m keys w₁) (n : Named m (keys_in m w₁) (order_in m w₁) w₁ w₂)
+module _ {m : ℕ} {keys w₁ w₂ w₃ w₄ : List ℕ} (f : Fits m w₁) (lk : length keys ≡ 2 * m) (o : Ordered m keys w₁)
+    (n : Named m (keys_in m w₁) (order_in m w₁) w₁ w₂)
     (s₃ : length w₃ ≡ length w₁) (b : Blank m w₂ w₃) (d : Marked m w₃ w₄) where
   kept : (a k : ℕ) → Apart a k (3 * m) (2 * m) → a + k ≤ 16 * m → part a k w₄ ≡ part a k w₃
   kept a k c l = only_part (3 * m) (2 * m) w₃ w₄ d.rest a k c (omega (arith, f.size))

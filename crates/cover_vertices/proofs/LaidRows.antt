@@ -17,7 +17,8 @@ use Rattle.cover_vertices.proofs.Ladder.{ladder_at}
 use Rattle.cover_vertices.proofs.Ordering.{in_order, order_length, order_rising, order_place}
 
 -- Each end in the order has the first place with its weight as its vertex, and behind the order stands the hub's row.
-module _ (m : ℕ) (keys verts : List ℕ) (named : (q : ℕ) → q < 2 * m → get_or verts (get_or (in_order m keys) q 0) 0 ≡ first_of (keyed keys (in_order m keys)) q) where
+module _ (m : ℕ) (keys verts : List ℕ) (named : (q : ℕ) → q < 2 * m
+    → get_or verts (get_or (in_order m keys) q 0) 0 ≡ first_of (keyed keys (in_order m keys)) q) where
   -- the weight at each place
   abbrev at_place_lem : ℕ → ℕ
   at_place_lem = keyed keys (in_order m keys)

@@ -15,7 +15,8 @@ use Rattle.cover_vertices.specs.Ladder.{ladder}
 
 -- ─── the end weights ─────────────────────────────────────────────────────────
 
--- The end weights of strings from the ends and weights alone (they are `end_weights`: `end_weights_lem` in proofs/EndWeights): the next string starts at `before`,
+-- The end weights of strings from the ends and weights alone (they are `end_weights`: `end_weights_lem` in proofs/EndWeights): the next string starts at
+-- `before`,
 -- and its weights are the first of those that are left.
 unfoldable pub ends_from : ℕ → ℕ → List ℕ → List ℕ → List Ends
 ends_from k before [] weights = []

@@ -84,7 +84,8 @@ module _ (z : List ℕ → ℕ) (k : ℕ) (letters : List ℕ) (index : Index) (
     as_asked : (handle compared : ℕ) → Meets (is_word k letters w) 0 asked_row handle compared → Compares (Found handle Asked compared)
     as_turned : (handle compared : ℕ) → None (is_word k letters w) asked_row → Meets (is_word k letters (turn w)) (length asked_row) turned_row handle compared
         → Compares (Found handle Turned compared)
-    absent : (compared : ℕ) → compared ≡ length asked_row + length turned_row → None (is_word k letters w) asked_row → None (is_word k letters (turn w)) turned_row
+    absent : (compared : ℕ) → compared ≡ length asked_row + length turned_row → None (is_word k letters w) asked_row
+        → None (is_word k letters (turn w)) turned_row
         → Compares (Absent compared)
 
   -- the number compared is exact

@@ -103,7 +103,8 @@ write_kept c sheet number place e =
     let t = refused_by (λ (o : WriteOutcome). o.answer) _ _ _ (write.Refused number place) (λ q. refuted (cc)) e in
     t.2 ∙ ap (λ (r : WriteAnswer). write_outcome r sheet) t.3
 
-runs-kept : (c : Collection) (weights_of_runs firsts_of_runs : List ℕ) (number place : ℕ) → (runs_of c weights_of_runs firsts_of_runs).answer ≡ runs.Refused number place
+runs-kept : (c : Collection) (weights_of_runs firsts_of_runs : List ℕ) (number place : ℕ)
+    → (runs_of c weights_of_runs firsts_of_runs).answer ≡ runs.Refused number place
     → runs_of c weights_of_runs firsts_of_runs ≡ listing.outcome (runs.Refused number place) weights_of_runs firsts_of_runs
 unfolding runs_of
 runs-kept c weights_of_runs firsts_of_runs number place e =

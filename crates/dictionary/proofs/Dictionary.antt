@@ -49,7 +49,8 @@ pub found_weighs : (c : Collection) → Passes c → (answer : QuickAnswer) (han
     → weighed_of answer (weights_of_runs c.weights) (firsts_of_runs c.weights) (length c.weights) ≡ Weighs (weight_of c.weights handle)
 unfolding weighed_of weighs
 found_weighs c passes answer handle side compared l m e =
-    ap (λ (a : QuickAnswer). weighed_of a (weights_of_runs c.weights) (firsts_of_runs c.weights) (length c.weights)) e ∙ ap weighs (runs_then_weight c passes handle l m)
+    ap (λ (a : QuickAnswer). weighed_of a (weights_of_runs c.weights) (firsts_of_runs c.weights) (length c.weights)) e
+    ∙ ap weighs (runs_then_weight c passes handle l m)
 
 module _ (c : Collection) (p : ℕ) (passes : Passes c) (sizes : sizes_verdict c.k p ≡ Good) where
   judged : Judged c

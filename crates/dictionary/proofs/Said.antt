@@ -70,7 +70,8 @@ module _ (c : Collection) (p : ℕ) (places : List ℤ) (passes : Passes c) (per
       back : (weight : ℕ) → WeighsAt new (spell asked) weight → WeighsAt c (spell asked) weight
       back weight = weight_from c places passes perm (spell asked) weight
 
-      none : (compared : ℕ) → quick_of c.k p asked new.letters (index_with (spelling_of new) p) ≡ Absent compared → (weight : ℕ) → WeighsAt c (spell asked) weight
+      none : (compared : ℕ) → quick_of c.k p asked new.letters (index_with (spelling_of new) p) ≡ Absent compared → (weight : ℕ)
+          → WeighsAt c (spell asked) weight
           → ⊥
       none compared e weight u =
           let t = weight_kept c places passes perm (spell asked) weight u in

@@ -49,12 +49,14 @@ use Rattle.dictionary.specs.Starred.{Starred, bytes, sheet, letters, ends, weigh
 
 -- ─── the sheet and the reordered collection ──────────────────────────────────
 
-read : (sheet_k sheet ≡ 3) × (letters_in (sheet_strings sheet) ≡ letters) × (ends_in 0 (sheet_strings sheet) ≡ ends) × (weights_in (sheet_strings sheet) ≡ weights)
+read : (sheet_k sheet ≡ 3) × (letters_in (sheet_strings sheet) ≡ letters) × (ends_in 0 (sheet_strings sheet) ≡ ends)
+    × (weights_in (sheet_strings sheet) ≡ weights)
 unfolding part_up_to later strings_of value_from letters_in ends_in weights_in
 read = (refl, refl, refl, refl)
 
 turned : (letters_in (reordered (collection 3 letters ends weights) places) ≡ letters')
-    × (ends_in 0 (reordered (collection 3 letters ends weights) places) ≡ ends') × (weights_in (reordered (collection 3 letters ends weights) places) ≡ weights')
+    × (ends_in 0 (reordered (collection 3 letters ends weights) places) ≡ ends')
+    × (weights_in (reordered (collection 3 letters ends weights) places) ≡ weights')
 unfolding letters_in ends_in weights_in strings_from standing arranged_to turn_letters turn capital letter
 turned = (refl, refl, refl)
 
@@ -62,8 +64,10 @@ turned = (refl, refl, refl)
 
 -- CAG, TTT and CCC
 answered : (asked (bytes "CAG") ≡ Found 8 Turned 3) × (asked (bytes "TTT") ≡ Found 1 Turned 1) × (asked (bytes "CCC") ≡ Absent 0)
-unfolding quick_of quick_verdict ask_verdict sizes_verdict k_verdict size_verdict word_verdict rows_verdict tables_fit row_fits stretch_fits row_of entries built up_to pick
-    count_from stretches_from of_string open_from minimizer smallest code_from letter is_letter every same turn quick_found met_or seek is_word walk numbered and_then
+unfolding quick_of quick_verdict ask_verdict sizes_verdict k_verdict size_verdict word_verdict rows_verdict tables_fit row_fits stretch_fits row_of entries
+    built up_to pick
+    count_from stretches_from of_string open_from minimizer smallest code_from letter is_letter every same turn quick_found met_or seek is_word walk numbered
+    and_then
     settle
 answered = (refl, refl, refl)
 
@@ -76,14 +80,16 @@ cag_weighs = ap (λ (a : QuickAnswer). weighed_of a (weights_of_runs weights') (
 -- a weight of 16,777,215, and one more
 heaviest : (collection_verdict (collection 3 (bytes "ACG") (3 ∷ []) (16777215 ∷ [])) ≡ Good)
     × (collection_verdict (collection 3 (bytes "ACG") (3 ∷ []) (16777216 ∷ [])) ≡ Bad 6 1)
-unfolding collection_verdict shape_verdict k_verdict size_verdict ends_verdict first_short last_end letters_verdict weights_verdict first_from is_letter letter and_then
+unfolding collection_verdict shape_verdict k_verdict size_verdict ends_verdict first_short last_end letters_verdict weights_verdict first_from is_letter
+    letter and_then
     at_place
 heaviest = (refl, refl)
 
 -- ─── the list ────────────────────────────────────────────────────────────────
 
 pub starred : Starred
-unfolding least agree end_weights strings_from inner_runs runs later_runs sum open_from of_string minimizer smallest code_from letter k_verdict places_verdict first_bad
+unfolding least agree end_weights strings_from inner_runs runs later_runs sum open_from of_string minimizer smallest code_from letter k_verdict
+    places_verdict first_bad
     bad_place at_place
 starred =
     record {

@@ -64,7 +64,8 @@ pub record OneOutcome : Type 0 where
   pub access_told : (t : Spelling) (handle : ℕ) → One Told (λ r. r ≡ told (access_verdict t handle))
   pub plain : (c : Collection) (word : List ℕ) → One PlainAnswer (λ r. r ≡ plain_of c word)
   pub quick : (k p : ℕ) (word letters : List ℕ) (t : Index) → One QuickAnswer (λ r. r ≡ quick_of k p word letters t)
-  pub weigh : (answer : QuickAnswer) (weights_of_runs firsts_of_runs : List ℕ) (n : ℕ) → One WordAnswer (λ r. r ≡ weighed_of answer weights_of_runs firsts_of_runs n)
+  pub weigh : (answer : QuickAnswer) (weights_of_runs firsts_of_runs : List ℕ) (n : ℕ)
+      → One WordAnswer (λ r. r ≡ weighed_of answer weights_of_runs firsts_of_runs n)
   pub weight : (weights_of_runs firsts_of_runs : List ℕ) (n handle : ℕ) → One WeightAnswer (λ r. r ≡ weight_answer weights_of_runs firsts_of_runs n handle)
   pub weight_records : (records : List Run) (n handle : ℕ) → One WeightAnswer (λ r. r ≡ weight_answer (map weight_in records) (map first_in records) n handle)
   pub report : (sheet text : List ℕ) → One reporting.Outcome (λ o. o ≡ report_of sheet text)
@@ -78,7 +79,8 @@ pub record Kept : Type 0 where
       → read_of sheet t ≡ read_outcome (read.Refused number place) t
   pub write : (c : Collection) (sheet : List ℕ) (number place : ℕ) → (write_of c sheet).answer ≡ write.Refused number place
       → write_of c sheet ≡ write_outcome (write.Refused number place) sheet
-  pub runs : (c : Collection) (weights_of_runs firsts_of_runs : List ℕ) (number place : ℕ) → (runs_of c weights_of_runs firsts_of_runs).answer ≡ runs.Refused number place
+  pub runs : (c : Collection) (weights_of_runs firsts_of_runs : List ℕ) (number place : ℕ)
+      → (runs_of c weights_of_runs firsts_of_runs).answer ≡ runs.Refused number place
       → runs_of c weights_of_runs firsts_of_runs ≡ listing.outcome (runs.Refused number place) weights_of_runs firsts_of_runs
   -- COVER's places; its work is as it was too
   pub cover : (c : Collection) (places : List ℤ) (work : List ℕ) (number place : ℕ) (places' : List ℤ) (work' : List ℕ)

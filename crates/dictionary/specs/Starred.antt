@@ -89,7 +89,8 @@ pub record Starred : Type 0 where
   -- CCC is absent
   pub ccc : (compared : ℕ) × (asked (bytes "CCC") ≡ Absent compared)
   -- GGCTG, three k-mers from handle 6 and position 9 on, has stretches GC with handle 6 and CT with 7, 8
-  pub ggctg : (of_string (minimizer_at 3 2 letters') 6 9 3 ≡ stretch 6 9 1 ∷ (stretch 7 10 2 ∷ [])) × (minimizer_at 3 2 letters' 9 ≡ code (word_at 2 letters' 10))
+  pub ggctg : (of_string (minimizer_at 3 2 letters') 6 9 3 ≡ stretch 6 9 1 ∷ (stretch 7 10 2 ∷ []))
+      × (minimizer_at 3 2 letters' 9 ≡ code (word_at 2 letters' 10))
       × (minimizer_at 3 2 letters' 10 ≡ code (word_at 2 letters' 11))
   -- without AGAT: least 4, one path
   pub without : (least_runs (collection 3 (bytes "AAACCCAGCCTACA") (5 ∷ (10 ∷ (14 ∷ []))) (2 ∷ (2 ∷ (5 ∷ (7 ∷ (7 ∷ (3 ∷ (3 ∷ (5 ∷ []))))))))) ≡ 4)

@@ -47,7 +47,8 @@ module _ {q : ℕ → ℕ} {h a n o : ℕ} where
           }
 
       -- the open stretch ends before it
-      pub cutting_ended : (w ≡ v → ⊥) → Filling q o (of_string q h a n) fs₀ fs ps₀ ps ns₀ ns ks₀ ks (stretch (h + s) (a + s) (i - s) ∷ Open q h a n i (i + 1)) to
+      pub cutting_ended : (w ≡ v → ⊥) → Filling q o (of_string q h a n) fs₀ fs ps₀ ps ns₀ ns ks₀ ks
+          (stretch (h + s) (a + s) (i - s) ∷ Open q h a n i (i + 1)) to
       cutting_ended f = filling_restated (open_cut q h a n s i r.behind l (λ z. f (e ∙ (z ∙ sym r.key)))) r.filling
 
       -- that one is stored, and the k-mer begins another

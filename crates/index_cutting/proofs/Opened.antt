@@ -69,7 +69,8 @@ module _ (q : ℕ → ℕ) (k h before : ℕ) (ends : List ℕ) (i : ℕ) where
   -- the stretches from string i (from 0) on: those of this string, then the rest
   pub stretches_next : i < length ends
       → stretches_from q k h before (drop i ends)
-      ≡ of_string q h before (within k before (get_or ends i 0)) ++ stretches_from q k (h + within k before (get_or ends i 0)) (get_or ends i 0) (drop (i + 1) ends)
+      ≡ of_string q h before (within k before (get_or ends i 0)) ++ stretches_from q k (h + within k before (get_or ends i 0)) (get_or ends i 0)
+      (drop (i + 1) ends)
   unfolding stretches_from
   stretches_next l = ap (stretches_from q k h before) (drop_next ends i 0 l)
 

@@ -54,7 +54,8 @@ walk_open q h a n (suc left) = go (walk_open q h a (suc n) left) (walk_open q (h
   where
     go : walk (open_from q h a (suc n) left) ≡ kmers_of (stretch h a (suc n + left))
         → walk (open_from q (h + n) (a + n) 1 left) ≡ kmers_of (stretch (h + n) (a + n) (1 + left))
-        → (t : Bool) → walk (choose t (open_from q h a (suc n) left) (stretch h a n ∷ open_from q (h + n) (a + n) 1 left)) ≡ kmers_of (stretch h a (n + suc left))
+        → (t : Bool) → walk (choose t (open_from q h a (suc n) left) (stretch h a n ∷ open_from q (h + n) (a + n) 1 left)) ≡ kmers_of
+        (stretch h a (n + suc left))
     go more next true = let e : suc n + left ≡ n + suc left = omega arith in more ∙ ap (λ (m : ℕ). kmers_of (stretch h a m)) e
     go more next false =
         let e : n + (1 + left) ≡ n + suc left = omega arith in

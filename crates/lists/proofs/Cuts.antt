@@ -19,7 +19,8 @@ pub reverse_at : (ws : List ℕ) (a b : ℕ) → a + b + 1 ≡ length ws → get
 reverse_at [] a b e = absurd (omega arith)
 reverse_at (x ∷ ws) zero b e =
     let q : b ≡ length (reverse ws) + 0 = omega (arith, length-reverse ws) in
-    ap (λ (l : List ℕ). get_or l b 0) (reverse-cons x ws) ∙ (ap (λ (n : ℕ). get_or (reverse ws ++ (x ∷ [])) n 0) q ∙ get_or-append-add (reverse ws) (x ∷ []) 0 0)
+    ap (λ (l : List ℕ). get_or l b 0) (reverse-cons x ws)
+    ∙ (ap (λ (n : ℕ). get_or (reverse ws ++ (x ∷ [])) n 0) q ∙ get_or-append-add (reverse ws) (x ∷ []) 0 0)
 reverse_at (x ∷ ws) (suc a) b e =
     ap (λ (l : List ℕ). get_or l b 0) (reverse-cons x ws)
     ∙ (get_or-append (reverse ws) (x ∷ []) 0 b (omega (arith, length-reverse ws)) ∙ reverse_at ws a b (omega arith))

@@ -18,5 +18,6 @@ module _ {A : Type 0} (test : A → Bool) (d : A) where
       rw (h 0 (omega arith)) (first_at_from (suc b) xs i (omega arith) e (λ j g. h (suc j) (omega arith)) ∙ (omega arith))
 
   -- the first is known by its place: it meets the test, and none before it does
-  pub first_at : (xs : List A) (i : ℕ) → i < length xs → test (get_or xs i d) ≡ true → ((j : ℕ) → j < i → test (get_or xs j d) ≡ false) → first_that test xs ≡ suc i
+  pub first_at : (xs : List A) (i : ℕ) → i < length xs → test (get_or xs i d) ≡ true → ((j : ℕ) → j < i → test (get_or xs j d) ≡ false)
+      → first_that test xs ≡ suc i
   first_at xs i l e h = first_at_from 0 xs i l e h ∙ (omega arith)

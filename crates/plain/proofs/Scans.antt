@@ -54,7 +54,8 @@ module _ (is_asked is_turned : ℕ → Bool) where
         let q : suc (passed + i) ≡ passed + (i + 1) = omega arith in
         ap (scan_from is_asked is_turned (passed + i) turned) (count_next at number i l)
         ∙ (scan_other (passed + i) turned (at + i) _ e
-        ∙ (ap (λ (n : ℕ). scan_from is_asked is_turned n (choose (eqb turned 0 && is_turned (at + i)) n turned) (count_from (at + (i + 1)) (number - (i + 1)))) q
+        ∙ (ap (λ (n : ℕ). scan_from is_asked is_turned n (choose (eqb turned 0 && is_turned (at + i)) n turned)
+        (count_from (at + (i + 1)) (number - (i + 1)))) q
         ∙ ap (λ (n : ℕ). scan_from is_asked is_turned (passed + (i + 1)) n (count_from (at + (i + 1)) (number - (i + 1))))
         (sym (t ∙ ap (λ (s : Bool). choose (eqb turned 0 && s) (passed + (i + 1)) turned) b))))
 

@@ -48,7 +48,8 @@ ask_verdict k p word N = and_then (sizes_verdict k p) (and_then (size_verdict N 
 
 -- 2, 3, 9, then 10
 unfoldable pub quick_verdict : ℕ → ℕ → List ℕ → List ℕ → Index → Verdict
-quick_verdict k p word letters index = and_then (ask_verdict k p word (length letters)) (index_verdict (minimizer p) (4 ^ p) k (length letters) index (spell word))
+quick_verdict k p word letters index = and_then (ask_verdict k p word (length letters))
+    (index_verdict (minimizer p) (4 ^ p) k (length letters) index (spell word))
 
 -- what QUICK answers
 unfoldable pub quick_of : ℕ → ℕ → List ℕ → List ℕ → Index → QuickAnswer

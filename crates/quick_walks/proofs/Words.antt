@@ -23,7 +23,8 @@ letters-every [] h = refl
 letters-every (b ∷ bytes) h = and_both (lt-ltb (letter b) 4 h.0) (letters-every bytes h.1)
 
 -- what the machine tests: the code that it reads off any bytes, and then whether they are letters
-bytes_test : (bytes w : List ℕ) → Letters w → length bytes ≡ length w → same (spell bytes) w ≡ (eqb (code (map two_bits bytes)) (code w) && every is_letter bytes)
+bytes_test : (bytes w : List ℕ) → Letters w → length bytes ≡ length w
+    → same (spell bytes) w ≡ (eqb (code (map two_bits bytes)) (code w) && every is_letter bytes)
 bytes_test bytes w g l = go (every is_letter bytes) refl
   where
     go : (t : Bool) → every is_letter bytes ≡ t → same (spell bytes) w ≡ (eqb (code (map two_bits bytes)) (code w) && t)

@@ -95,7 +95,8 @@ module _ (f : ℕ → ℕ) (d : ℕ) where
 
 module _ (f : ℕ → ℕ) (xs : List ℕ) where
   -- ids at two places, of one slot, are kept: the first and the second
-  pub kept-both : (i j : ℕ) → i < j → j < length xs → f (get_or xs i 0) ≡ f (get_or xs j 0) → Stands (get_or xs i 0) (kept f xs) × Stands (get_or xs j 0) (kept f xs)
+  pub kept-both : (i j : ℕ) → i < j → j < length xs → f (get_or xs i 0) ≡ f (get_or xs j 0) → Stands (get_or xs i 0) (kept f xs)
+      × Stands (get_or xs j 0) (kept f xs)
   kept-both i j h l e =
       let t : told_of f xs (f (get_or xs j 0)) ≡ 2 = told_is f xs (f (get_or xs j 0)) ∙ to_two_many _ (two_places f (f (get_or xs j 0)) xs i j h l e refl) in
       rw (kept_is f xs) (

@@ -113,10 +113,12 @@ module _ (bs : List ℕ) (t : Tables) (k a b c : ℕ) (e : (read_of bs t).answer
   read_passes = ap collection_verdict read_is ∙ accepted_passes bs done.accepted done.within
 
   -- WRITE of what READ gives is the same bytes
-  pub write_of_read : (sheet : List ℕ) → length bs ≤ length sheet → write_of collection_read_lem sheet ≡ write_outcome (write.Written (length bs)) (fill bs sheet)
+  pub write_of_read : (sheet : List ℕ) → length bs ≤ length sheet → write_of collection_read_lem sheet ≡ write_outcome (write.Written (length bs))
+      (fill bs sheet)
   write_of_read sheet l =
       let t : write_text collection_read_lem ≡ bs = ap write_text read_is ∙ accepted_written bs done.accepted in
-      write_good collection_read_lem sheet read_passes (omega (arith, ap length t)) ∙ ap (λ (x : List ℕ). write_outcome (write.Written (length x)) (fill x sheet)) t
+      write_good collection_read_lem sheet read_passes (omega (arith, ap length t))
+      ∙ ap (λ (x : List ℕ). write_outcome (write.Written (length x)) (fill x sheet)) t
 
 -- ─── what a WRITE leaves ─────────────────────────────────────────────────────
 

@@ -24,7 +24,8 @@ sheet_weights bs = length (weights_in (sheet_strings bs))
 
 -- the lines (11, 2, 11), then 3, then 1
 unfoldable pub read_verdict : List ℕ → Rooms → Verdict
-read_verdict bs r = and_then (sheet_verdict bs) (and_then (size_verdict (sheet_n bs) (sheet_m bs)) (rooms_verdict r (sheet_n bs) (sheet_m bs) (sheet_weights bs)))
+read_verdict bs r = and_then (sheet_verdict bs)
+    (and_then (size_verdict (sheet_n bs) (sheet_m bs)) (rooms_verdict r (sheet_n bs) (sheet_m bs) (sheet_weights bs)))
 
 -- the answer, and the tables afterwards
 pub record ReadOutcome : Type 0 where

@@ -70,7 +70,8 @@ record Text (s : List ℕ) : Type 0 where
   short : length f ≤ 2
   same : s ≡ (75 ∷ (tab ∷ f)) ++ (feed ∷ rest)
 
-one_field : (l : List ℕ) (fs : List (List ℕ)) → is_k fs ≡ true → up_to tab l ≡ 75 ∷ [] → later tab l ≡ fs → (s m : List ℕ) (ms : List (List ℕ)) → up_to feed s ≡ l
+one_field : (l : List ℕ) (fs : List (List ℕ)) → is_k fs ≡ true → up_to tab l ≡ 75 ∷ [] → later tab l ≡ fs → (s m : List ℕ) (ms : List (List ℕ))
+    → up_to feed s ≡ l
     → later feed s ≡ m ∷ ms → Text s
 unfolding joined
 one_field l [] h u e s m ms p q = never h

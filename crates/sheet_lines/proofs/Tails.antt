@@ -106,7 +106,8 @@ module _ (s : List ℕ) (i : ℕ) where
   tail_here : (n : ℕ) {l : List ℕ} {ms : List (List ℕ)} → up_to feed (drop i s) ≡ l → later feed (drop i s) ≡ ms → tail_at s i n ≡ tail_of n i l ms
   tail_here n p q = λ x. tail_of n i (p x) (q x)
 
-  on_line : (n : ℕ) → i < length s → (get_or s i 0 ≡ feed → ⊥) → tail_at s i n ≡ tail_of n i (get_or s i 0 ∷ up_to feed (drop (i + 1) s)) (later feed (drop (i + 1) s))
+  on_line : (n : ℕ) → i < length s → (get_or s i 0 ≡ feed → ⊥) → tail_at s i n ≡ tail_of n i (get_or s i 0 ∷ up_to feed (drop (i + 1) s))
+      (later feed (drop (i + 1) s))
   on_line n h q = tail_here n (up_next feed s i h q) (later_next feed s i h q)
 
   at_feed : (n : ℕ) → i < length s → get_or s i 0 ≡ feed → tail_at s i n ≡ tail_of n i [] (up_to feed (drop (i + 1) s) ∷ later feed (drop (i + 1) s))

@@ -66,7 +66,8 @@ numbers_are : (c : Collection) {paths : ℕ} → paths ≡ least (end_weights c)
 unfolding numbers_from numbers_of
 numbers_are c p =
     λ j.
-    numbers (length c.ends) (length c.weights) (sum c.weights) (sym (inner_runs_lem c) j) (run_count c.weights) (p j) (sym (inner_runs_lem c) j - length c.ends + p j)
+    numbers (length c.ends) (length c.weights) (sum c.weights) (sym (inner_runs_lem c) j) (run_count c.weights) (p j)
+    (sym (inner_runs_lem c) j - length c.ends + p j)
     (distinct c.weights) (bits_of c.weights)
 
 -- ─── a judged collection ─────────────────────────────────────────────────────

@@ -36,8 +36,10 @@ sheet =
 -- its numbers
 pub sheet_summary : summary_of sheet
     ≡ Counted (record { strings = 4; kmers = 10; total = 43; inner = 8; given = 7; paths = 1; least = 5; distinct = 4; bits = 12 })
-unfolding summary_of long_verdict lines_verdict sheet_verdict size_verdict k_verdict and_then settle at_place up_to later is_k_line is_number value_from every is_weight_field
-    is_string is_string_line strings_of first_wrong letter is_letter letters_in ends_in weights_in checked_of first_repeat first_from repeated any_that alike same turn
+unfolding summary_of long_verdict lines_verdict sheet_verdict size_verdict k_verdict and_then settle at_place up_to later is_k_line is_number value_from
+    every is_weight_field
+    is_string is_string_line strings_of first_wrong letter is_letter letters_in ends_in weights_in checked_of first_repeat first_from repeated any_that alike
+    same turn
     kmers_from count_from numbers_of sum inner_runs runs later_runs strings_from end_weights least agree distinct fresh is_in bits_of bits_for bits_from largest
 sheet_summary = refl
 

@@ -46,8 +46,12 @@ lines_size (s ∷ ss) =
 pub sheet_size : (bs : List ℕ) → Accepted bs → 3 * sheet_m bs + sheet_n bs + 2 * sheet_weights bs ≤ length bs
 unfolding sheet_text
 sheet_size bs h =
-    omega
-    (arith, lines_size (sheet_strings bs), length-append (75 ∷ (tab ∷ digits (sheet_k bs))) (feed ∷ lines_text (sheet_strings bs)), ap length (accepted_text bs h))
+    omega (
+      arith,
+      lines_size (sheet_strings bs),
+      length-append (75 ∷ (tab ∷ digits (sheet_k bs))) (feed ∷ lines_text (sheet_strings bs)),
+      ap length (accepted_text bs h),
+    )
 
 -- ─── how many paths ──────────────────────────────────────────────────────────
 

@@ -165,7 +165,8 @@ map-insert f x (y ∷ ys) = go (lt_or_le (f y) (f x)) (map-insert f x ys)
 map_sorted : (f : ℕ → ℕ) (xs : List ℕ) → map f (sort_by f xs) ≡ sort_by itself (map f xs)
 map_sorted f [] = ap (map f) (sort_by_nil f) ∙ sym (sort_by_nil itself)
 map_sorted f (x ∷ xs) =
-    ap (map f) (sort_by_cons f x xs) ∙ (map-insert f x (sort_by f xs) ∙ (ap (insert itself (f x)) (map_sorted f xs) ∙ sym (sort_by_cons itself (f x) (map f xs))))
+    ap (map f) (sort_by_cons f x xs) ∙ (map-insert f x (sort_by f xs)
+    ∙ (ap (insert itself (f x)) (map_sorted f xs) ∙ sym (sort_by_cons itself (f x) (map f xs))))
 
 -- the weights of all ids are the weights
 all_weights : (ws : List ℕ) → map (key_at ws) (count_from 0 (length ws)) ≡ ws

@@ -135,7 +135,8 @@ module _ (label : List ℕ) (n at : ℕ) (out : List ℕ) (room : at + length (e
 
     -- the table keeps its length
     pub entry_size : {out₂ : List ℕ} → out₂ ≡ put (at + length label + 1) (digits n) (set out₁ (at + length label) tab) → length out₂ ≡ length out
-    entry_size g = ap length g ∙ ((put_only (at + length label + 1) (digits n) (set out₁ (at + length label) tab) digits_room).size ∙ (store labelled).size_kept)
+    entry_size g = ap length g ∙ ((put_only (at + length label + 1) (digits n) (set out₁ (at + length label) tab) digits_room).size
+        ∙ (store labelled).size_kept)
 
     -- label, tab and number are the entry
     pub entry_end : {p : ℕ} {out₂ : List ℕ} → p ≡ at + length label + 1 + length (digits n)

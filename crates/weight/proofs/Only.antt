@@ -69,7 +69,8 @@ module _ (n : ℕ) where
       r = follow_good n v g vs gs (and_right (follows n w f v g) (all_follow n v g vs gs) a)
 
       go : Dec (g ≡ suc h)
-          → (All (λ x. suc h < x) (g ∷ gs) → ((handle : ℕ) → suc h ≤ handle → handle ≤ n → last_at handle w (v ∷ vs) (g ∷ gs) ≡ get_or (w ∷ us) (handle - suc h) 0)
+          → (All (λ x. suc h < x) (g ∷ gs) → ((handle : ℕ) → suc h ≤ handle → handle ≤ n
+          → last_at handle w (v ∷ vs) (g ∷ gs) ≡ get_or (w ∷ us) (handle - suc h) 0)
           → Columns (v ∷ vs) (g ∷ gs) (later_runs (suc h) w us))
           → (All (λ x. suc h < x) gs → ((handle : ℕ) → suc h ≤ handle → handle ≤ n → last_at handle v vs gs ≡ get_or (v ∷ us) (handle - suc h) 0)
           → Columns vs gs (later_runs (suc h) v us))

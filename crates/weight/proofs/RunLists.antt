@@ -82,7 +82,8 @@ list_good n (w ∷ weights) (f ∷ firsts) e =
     }
 
 -- what passes 12
-pub list_verdict_good : (n : ℕ) (weights firsts : List ℕ) → run_list_verdict n weights firsts ≡ Good → (n ≤ most_letters) × (is_run_list n weights firsts ≡ true)
+pub list_verdict_good : (n : ℕ) (weights firsts : List ℕ) → run_list_verdict n weights firsts ≡ Good → (n ≤ most_letters)
+    × (is_run_list n weights firsts ≡ true)
 unfolding run_list_verdict
 list_verdict_good n weights firsts h =
     let t = (test_good (leb n most_letters && is_run_list n weights firsts) 12 0 Good h).0 in

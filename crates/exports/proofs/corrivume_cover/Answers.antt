@@ -8,7 +8,11 @@ use Rattle.exports.proofs.corrivume_cover.Goals as goal
 pub returns-then-answer-lt-ANSWER : goal.returns-then-answer-lt-ANSWER
 returns-then-answer-lt-ANSWER c =
     let a = c.args in
-    record { given = Refused 1 0; promised = λ h. absurd (omega (arith, h, c.if-answer-lt-ANSWER.true)); shown = too_short a.answer.now _ _ c.if-answer-lt-ANSWER.true }
+    record {
+      given = Refused 1 0;
+      promised = λ h. absurd (omega (arith, h, c.if-answer-lt-ANSWER.true));
+      shown = too_short a.answer.now _ _ c.if-answer-lt-ANSWER.true;
+    }
 
 pub returns : goal.returns
 returns c =

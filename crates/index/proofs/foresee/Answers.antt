@@ -15,24 +15,17 @@ use Rattle.index.proofs.foresee.Lts as lts
 use Rattle.index.proofs.foresee.Tie as tie
 use Rattle.index.proofs.foresee.Reads as reads
 
-abbrev Place-Start : Type 0
-Place-Start = lts.Start tie.the-claims reads.Pre reads.Post tie.handed_clauses
-
 abbrev Place-After-enum_told : Type 0
 Place-After-enum_told = lts.Past-After-enum_told tie.the-claims reads.Pre reads.Post tie.handed_clauses
 
 abbrev Place-After-enum_told2 : Type 0
 Place-After-enum_told2 = lts.Past-After-enum_told2 tie.the-claims reads.Pre reads.Post tie.handed_clauses
 
--- the collection that was handed over
-abbrev strings : Place-Start → Collection
-strings s = collection s.args.k s.args.letters.now s.args.ends.now s.args.weights.now
-
 -- k and p are in their ranges, and the collection passes
 sizes : (c : Place-After-enum_told) → sizes_verdict c.args.k c.args.p ≡ Good
 sizes c = sym c.judge_sizes-a.ensures ∙ c.in_default.is
 
-passes : (c : Place-After-enum_told2) → Passes (strings c.before.before.before.before.before.before.before)
+passes : (c : Place-After-enum_told2) → Passes (collection c.args.k c.args.letters.now c.args.ends.now c.args.weights.now)
 passes c = sym c.judge_collection-b.ensures ∙ c.in_default-b.is
 
 pub returns-in-Bad : goal.returns-in-Bad
@@ -45,7 +38,10 @@ returns-in-Bad-b c =
 
 pub count_all-stretches-requires : goal.count_all-stretches-requires
 count_all-stretches-requires c =
-    let s = sizes_good _ _ (sizes c.before.before.before) in record { ready = judged_ready (collection_good _ (passes c.before)); le_p = (s.p_low, s.p_high, s.p_fits) }
+    let s = sizes_good _ _ (sizes c.before.before.before) in record {
+      ready = judged_ready (collection_good _ (passes c.before));
+      le_p = (s.p_low, s.p_high, s.p_fits);
+    }
 
 pub word_count-starts-requires : goal.word_count-starts-requires
 word_count-starts-requires c = (sizes_good _ _ (sizes c.before.before.before.before)).p_high
@@ -57,7 +53,7 @@ pub returns-then-stretches-firsts : goal.returns-then-stretches-firsts
 returns-then-stretches-firsts c =
     let g = c.before in
     let a = g.args in
-    room_enough (strings g.before.before.before.before.before.before.before.before.before.before) a.p (sizes g.before.before.before.before.before)
+    room_enough (collection g.args.k g.args.letters.now g.args.ends.now g.args.weights.now) a.p (sizes g.before.before.before.before.before)
     (passes c.before.before.before.before) c.count_all-stretches.ensures (ap (λ (d : ℕ). d + 1) c.word_count-starts.ensures)
     a.firsts a.positions a.numbers a.before a.work c.if-stretches-firsts.true
 
@@ -65,6 +61,6 @@ pub returns : goal.returns
 returns c =
     let g = c.before in
     let a = g.args in
-    room_refused (strings g.before.before.before.before.before.before.before.before.before.before) a.p (sizes g.before.before.before.before.before)
+    room_refused (collection g.args.k g.args.letters.now g.args.ends.now g.args.weights.now) a.p (sizes g.before.before.before.before.before)
     (passes c.before.before.before.before) c.count_all-stretches.ensures (ap (λ (d : ℕ). d + 1) c.word_count-starts.ensures)
     a.firsts a.positions a.numbers a.before a.work c.if-stretches-firsts.false

@@ -9,7 +9,8 @@ use Rattle.index.proofs.index_judged.Goals as goal
 
 pub returns-then-repeated : goal.returns-then-repeated
 returns-then-repeated c =
-    repeat_refused (lent c.args.firsts.now c.args.positions.now c.args.numbers.now c.args.before.now c.args.work.now) c.requires c.first_repeat-repeat.ensures c.if-repeated.true c.zero_first.ensures
+    repeat_refused (lent c.args.firsts.now c.args.positions.now c.args.numbers.now c.args.before.now c.args.work.now) c.requires
+    c.first_repeat-repeat.ensures c.if-repeated.true c.zero_first.ensures
 
 pub build-requires : goal.build-requires
 build-requires c =
@@ -22,7 +23,8 @@ overflow_mul-n-2 c =
 
 pub zero_first-requires-2 : goal.zero_first-requires-2
 zero_first-requires-2 c =
-    work_still (lent c.args.firsts.now c.args.positions.now c.args.numbers.now c.args.before.now c.args.work.now) c.requires c.first_repeat-repeat.ensures c.build.ensures
+    work_still (lent c.args.firsts.now c.args.positions.now c.args.numbers.now c.args.before.now c.args.work.now) c.requires c.first_repeat-repeat.ensures
+    c.build.ensures
 
 pub word_count-starts-requires : goal.word_count-starts-requires
 word_count-starts-requires c = c.requires.p_high
@@ -34,5 +36,6 @@ overflow_add-starts c =
 
 pub returns : goal.returns
 returns c =
-    index_made_lem (lent c.args.firsts.now c.args.positions.now c.args.numbers.now c.args.before.now c.args.work.now) c.requires c.first_repeat-repeat.ensures c.build.ensures c.if-repeated.false
+    index_made_lem (lent c.args.firsts.now c.args.positions.now c.args.numbers.now c.args.before.now c.args.work.now) c.requires
+    c.first_repeat-repeat.ensures c.build.ensures c.if-repeated.false
     c.zero_first-2.ensures (ap (λ (d : ℕ). d + 1) c.word_count-starts.ensures)

@@ -66,7 +66,8 @@ told : (c : Place-After-question)
     → let s = c in
     let a = s.args in
     let q = c.question-q.result in
-    rows_verdict (4 ^ a.p) a.k (length a.letters.now) (held s.before.before.before.before.before.before.before.before.before) q.row q.other ≡ quick_verdict a.k a.p a.word.now a.letters.now (held s.before.before.before.before.before.before.before.before.before)
+    rows_verdict (4 ^ a.p) a.k (length a.letters.now) (held s.before.before.before.before.before.before.before.before.before) q.row q.other ≡ quick_verdict
+    a.k a.p a.word.now a.letters.now (held s.before.before.before.before.before.before.before.before.before)
 told c =
     let s = c in
     let a = s.args in
@@ -96,8 +97,14 @@ ask-requires c =
     let q = c.before in
     let s = q in
     let a = s.args in
-    let r = rows_good _ _ _ (held s.before.before.before.before.before.before.before.before.before.before.before) _ _ (rows q.before.before).0 (rows q.before.before).1 (sym c.judge_index-b.ensures ∙ c.in_default-b.is) in
-    record { askable = can-ask a.k a.p a.word.now a.letters.now (held s.before.before.before.before.before.before.before.before.before.before.before) (good q.before.before.before) _ q.question-q.ensures; row = r.0; row_2 = r.1 }
+    let r = rows_good _ _ _ (held s.before.before.before.before.before.before.before.before.before.before.before) _ _ (rows q.before.before).0
+    (rows q.before.before).1 (sym c.judge_index-b.ensures ∙ c.in_default-b.is) in
+    record {
+      askable = can-ask a.k a.p a.word.now a.letters.now (held s.before.before.before.before.before.before.before.before.before.before.before)
+          (good q.before.before.before) _ q.question-q.ensures;
+      row = r.0;
+      row_2 = r.1;
+    }
 
 pub returns : goal.returns
 unfolding quick_of
@@ -105,5 +112,7 @@ returns c =
     let q = c.before in
     let s = q in
     let a = s.args in
-    settled _ (c.ask.ensures ∙ asked a.k a.p a.word.now a.letters.now (held s.before.before.before.before.before.before.before.before.before.before.before.before) (good q.before.before.before.before) _ q.question-q.ensures)
+    settled _ (c.ask.ensures ∙ asked a.k a.p a.word.now a.letters.now
+    (held s.before.before.before.before.before.before.before.before.before.before.before.before)
+    (good q.before.before.before.before) _ q.question-q.ensures)
     (sym (told q.before.before.before) ∙ (sym c.judge_index-b.ensures ∙ c.in_default-b.is))

@@ -82,4 +82,5 @@ returns c =
     let e = j in
     settled _ (λ x. outcome (Filled (e.count_runs-n.ensures x)) (f.fill_runs.ensures.weights_filled x) (f.fill_runs.ensures.firsts_filled x))
     (then_good _ (good e.before.before.before.before.before.before.before.before.before.before.before.before)
-    (then_good _ (room-weights e.before.before.before.before.before.before.before.before.before.before ∙ e.in_default-b.is) (room-firsts j.before.before.before.before.before.before.before.before ∙ d.in_default-c.is)))
+    (then_good _ (room-weights e.before.before.before.before.before.before.before.before.before.before ∙ e.in_default-b.is)
+    (room-firsts j.before.before.before.before.before.before.before.before ∙ d.in_default-c.is)))

@@ -11,7 +11,10 @@ returns-in-Bad c =
     let z = j in
     let y = z in
     let x = y in
-    let n = counted-length x.args.n x.numbers_length-a.ensures.0 y.numbers_length-b.ensures.0 z.numbers_length-c.ensures.0 in record { text_after = written_refused _ _ n j.judge_room-v.ensures c.in-Bad.is; n_len_bound = omega (arith, n, x.numbers_length-a.ensures.1, y.numbers_length-b.ensures.1, z.numbers_length-c.ensures.1) }
+    let n = counted-length x.args.n x.numbers_length-a.ensures.0 y.numbers_length-b.ensures.0 z.numbers_length-c.ensures.0 in record {
+      text_after = written_refused _ _ n j.judge_room-v.ensures c.in-Bad.is;
+      n_len_bound = omega (arith, n, x.numbers_length-a.ensures.1, y.numbers_length-b.ensures.1, z.numbers_length-c.ensures.1);
+    }
 
 pub put_counted-bytes-requires : goal.put_counted-bytes-requires
 put_counted-bytes-requires c =

@@ -11,7 +11,10 @@ returns-in-Bad c =
     let y = j in
     let x = y in
     let n = refused_length _ _ x.digit_count-a.ensures.0 y.digit_count-b.ensures.0 in
-    record { text_after = written_refused _ _ n j.judge_room-v.ensures c.in-Bad.is; place_len_bound = omega (arith, n, x.digit_count-a.ensures.1, y.digit_count-b.ensures.1) }
+    record {
+      text_after = written_refused _ _ n j.judge_room-v.ensures c.in-Bad.is;
+      place_len_bound = omega (arith, n, x.digit_count-a.ensures.1, y.digit_count-b.ensures.1);
+    }
 
 pub put_refused-n-requires : goal.put_refused-n-requires
 put_refused-n-requires c =

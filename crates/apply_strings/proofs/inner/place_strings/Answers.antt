@@ -2,7 +2,8 @@
 use Prim.Native.Nat.{◌+◌, ◌-◌, ◌≤◌}
 use native.Mathlib.Omega.{arith}
 use lib.ListN.{length}
-use Rattle.apply_strings.proofs.Placements.{placing_begins, placing_next, placing_ends, named, part-asked, letters_inside, weights_inside, letters-asked, letters_room, weights_room, ends_room, at_few, kmer_few, few_strings, few_weights}
+use Rattle.apply_strings.proofs.Placements.{placing_begins, placing_next, placing_ends, named, part-asked, letters_inside, weights_inside}
+use Rattle.apply_strings.proofs.Placements.{letters-asked, letters_room, weights_room, ends_room, at_few, kmer_few, few_strings, few_weights}
 use Rattle.apply_strings.proofs.inner.place_strings.Goals as goal
 use Rattle.apply_strings.proofs.inner.place_strings.Lts as lts
 use Rattle.apply_strings.proofs.inner.place_strings.Tie as tie

@@ -8,7 +8,8 @@ use Rattle.apply_strings.proofs.inner.place_strings.Given as goal
 
 abbrev pub invariant-loop-j : goal.invariant-loop-j
 invariant-loop-j l =
-    Placing (reordered (collection l.k l.letters l.ends l.weights) l.signed) (length l.ends) l.initial.new_letters l.initial.new_ends l.initial.new_weights l.new_letters l.new_ends l.new_weights l.at l.kmer l.j
+    Placing (reordered (collection l.k l.letters l.ends l.weights) l.signed) (length l.ends) l.initial.new_letters l.initial.new_ends l.initial.new_weights
+    l.new_letters l.new_ends l.new_weights l.at l.kmer l.j
 
 abbrev pub decreases-loop-j : goal.decreases-loop-j
 decreases-loop-j l = length l.ends - l.j

@@ -12,9 +12,6 @@ use Rattle.cover_tours.proofs.inner.find.Lts as lts
 use Rattle.cover_tours.proofs.inner.find.Tie as tie
 use Rattle.cover_tours.proofs.inner.find.Reads as reads
 
-abbrev Place-Start : Type 0
-Place-Start = lts.Start tie.the-claims reads.Pre reads.Post tie.handed_clauses
-
 abbrev Place-After-wide : Type 0
 Place-After-wide = lts.After-wide tie.the-claims reads.Pre reads.Post tie.handed_clauses
 

@@ -15,7 +15,8 @@ use Rattle.cover_tours.proofs.inner.walk.Tie as tie
 use Rattle.cover_tours.proofs.inner.walk.Reads as reads
 
 abbrev Place-After-slice_known2 : Type 0
-Place-After-slice_known2 = lts.After-slice_known2 tie.the-claims reads.Pre reads.Post goal.the-invariant-loop-here goal.the-decreases-loop-here tie.handed_clauses
+Place-After-slice_known2 = lts.After-slice_known2 tie.the-claims reads.Pre reads.Post goal.the-invariant-loop-here goal.the-decreases-loop-here
+    tie.handed_clauses
 
 abbrev Place-At-loop : Type 0
 Place-At-loop = lts.At-loop tie.the-claims reads.Pre reads.Post goal.the-invariant-loop-here goal.the-decreases-loop-here tie.handed_clauses
@@ -30,13 +31,15 @@ abbrev Place-Else2 : Type 0
 Place-Else2 = lts.Else2 tie.the-claims reads.Pre reads.Post goal.the-invariant-loop-here goal.the-decreases-loop-here tie.handed_clauses
 
 abbrev Place-After-slice_known3 : Type 0
-Place-After-slice_known3 = lts.After-slice_known3 tie.the-claims reads.Pre reads.Post goal.the-invariant-loop-here goal.the-decreases-loop-here tie.handed_clauses
+Place-After-slice_known3 = lts.After-slice_known3 tie.the-claims reads.Pre reads.Post goal.the-invariant-loop-here goal.the-decreases-loop-here
+    tie.handed_clauses
 
 abbrev Place-Then1 : Type 0
 Place-Then1 = lts.Then1 tie.the-claims reads.Pre reads.Post goal.the-invariant-loop-here goal.the-decreases-loop-here tie.handed_clauses
 
 abbrev Place-After-slice_known4 : Type 0
-Place-After-slice_known4 = lts.After-slice_known4 tie.the-claims reads.Pre reads.Post goal.the-invariant-loop-here goal.the-decreases-loop-here tie.handed_clauses
+Place-After-slice_known4 = lts.After-slice_known4 tie.the-claims reads.Pre reads.Post goal.the-invariant-loop-here goal.the-decreases-loop-here
+    tie.handed_clauses
 
 -- a turn of the loop, seen from where the table is known after the search
 abbrev turn : Place-After-slice_known2 → Place-At-loop

@@ -42,7 +42,17 @@ overflow_sub-e c = omega (arith, next_string c.loop-i.invariant.strings c.loop-i
 pub count_string-count-requires : goal.count_string-count-requires
 count_string-count-requires c =
     let r = c.requires in
-    let e = next_string c.loop-i.invariant.strings c.loop-i-test.true in record { letters_value = r.ready.all_letters; le_p = (r.le_p.0, r.le_p.2, r.ready.ends_long.k_high, omega (arith, e.long), omega (arith, e.long, e.inside), r.ready.few_letters) }
+    let e = next_string c.loop-i.invariant.strings c.loop-i-test.true in record {
+      letters_value = r.ready.all_letters;
+      le_p = (
+        r.le_p.0,
+        r.le_p.2,
+        r.ready.ends_long.k_high,
+        omega (arith, e.long),
+        omega (arith, e.long, e.inside),
+        r.ready.few_letters,
+      );
+    }
 
 pub overflow_add-count : goal.overflow_add-count
 overflow_add-count c =

@@ -7,7 +7,8 @@ use Rattle.index_cutting.proofs.inner.cut_all.Given as goal
 
 abbrev pub invariant-loop-i : goal.invariant-loop-i
 invariant-loop-i l =
-    Passed (minimizer_at l.k l.p l.letters) l.k (length l.letters) l.ends l.initial.firsts l.firsts l.initial.positions l.positions l.initial.numbers l.numbers l.initial.keys l.keys l.at l.h l.o l.i
+    Passed (minimizer_at l.k l.p l.letters) l.k (length l.letters) l.ends l.initial.firsts l.firsts l.initial.positions l.positions l.initial.numbers
+    l.numbers l.initial.keys l.keys l.at l.h l.o l.i
 
 abbrev pub decreases-loop-i : goal.decreases-loop-i
 decreases-loop-i l = length l.ends - l.i

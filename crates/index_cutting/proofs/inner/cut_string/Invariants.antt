@@ -10,7 +10,8 @@ abbrev pub invariant-loop-i : goal.invariant-loop-i
 invariant-loop-i l =
     (l.i ≤ l.n)
     × Carried l.k l.p l.letters (l.a + l.i) l.c l.v
-    × Cutting (minimizer_at l.k l.p l.letters) l.h l.a l.n l.o l.initial.firsts l.firsts l.initial.positions l.positions l.initial.numbers l.numbers l.initial.keys l.keys l.v l.s l.to l.i
+    × Cutting (minimizer_at l.k l.p l.letters) l.h l.a l.n l.o l.initial.firsts l.firsts l.initial.positions l.positions l.initial.numbers l.numbers
+    l.initial.keys l.keys l.v l.s l.to l.i
 
 abbrev pub decreases-loop-i : goal.decreases-loop-i
 decreases-loop-i l = l.n - l.i

@@ -13,7 +13,8 @@ abbrev pub invariant-loop-i : goal.invariant-loop-i
 invariant-loop-i l =
     StringsLeft l.k (length l.letters) l.ends l.i l.at l.passed
     × (scan_from (λ a. eqb (code (word_at l.k l.letters a)) l.asked) (λ a. eqb (code (word_at l.k l.letters a)) l.turned) 0 0 (kmers l.k l.ends)
-    ≡ scan_from (λ a. eqb (code (word_at l.k l.letters a)) l.asked) (λ a. eqb (code (word_at l.k l.letters a)) l.turned) l.passed l.first (kmers_from l.k l.at (drop l.i l.ends)))
+    ≡ scan_from (λ a. eqb (code (word_at l.k l.letters a)) l.asked) (λ a. eqb (code (word_at l.k l.letters a)) l.turned) l.passed l.first
+    (kmers_from l.k l.at (drop l.i l.ends)))
 
 abbrev pub decreases-loop-i : goal.decreases-loop-i
 decreases-loop-i l = length l.ends - l.i

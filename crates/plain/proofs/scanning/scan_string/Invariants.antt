@@ -13,8 +13,10 @@ abbrev pub invariant-loop-i : goal.invariant-loop-i
 invariant-loop-i l =
     (l.i ≤ l.number)
     × Rolls l.k l.letters (l.at + l.i) l.c
-    × (scan_from (λ a. eqb (code (word_at l.k l.letters a)) l.asked) (λ a. eqb (code (word_at l.k l.letters a)) l.turned) l.passed l.seen (count_from l.at l.number)
-    ≡ scan_from (λ a. eqb (code (word_at l.k l.letters a)) l.asked) (λ a. eqb (code (word_at l.k l.letters a)) l.turned) (l.passed + l.i) l.first (count_from (l.at + l.i) (l.number - l.i)))
+    × (scan_from (λ a. eqb (code (word_at l.k l.letters a)) l.asked) (λ a. eqb (code (word_at l.k l.letters a)) l.turned) l.passed l.seen
+    (count_from l.at l.number)
+    ≡ scan_from (λ a. eqb (code (word_at l.k l.letters a)) l.asked) (λ a. eqb (code (word_at l.k l.letters a)) l.turned) (l.passed + l.i) l.first
+    (count_from (l.at + l.i) (l.number - l.i)))
 
 abbrev pub decreases-loop-i : goal.decreases-loop-i
 decreases-loop-i l = l.number - l.i

@@ -64,7 +64,11 @@ pub stretch_by_key-met-requires : goal.stretch_by_key-met-requires
 stretch_by_key-met-requires c =
     let p = c.requires in
     let l = c.loop-i.invariant in
-    let r = walking_room l c.loop-i-test.true in record { le_k = (p.le_k.0, p.le_k.1, p.le_k.2, p.le_k.3); k_in_bounds = (r.letters, omega (arith, r.some, r.handles), omega (arith, l.few, c.loop-i-test.true, l.inside, p.row.alike.few)); key_of = p.key_of }
+    let r = walking_room l c.loop-i-test.true in record {
+      le_k = (p.le_k.0, p.le_k.1, p.le_k.2, p.le_k.3);
+      k_in_bounds = (r.letters, omega (arith, r.some, r.handles), omega (arith, l.few, c.loop-i-test.true, l.inside, p.row.alike.few));
+      key_of = p.key_of;
+    }
 
 pub returns-in_default : goal.returns-in_default
 returns-in_default c =

@@ -33,7 +33,11 @@ is_word-requires c =
     let l = c.loop-i in
     let s = c.before in
     let a = s.args in
-    let p = s.requires in record { w_bound = (p.le_k.2, omega arith, p.le_k.3, p.le_k.1); c_value = c.roll-c.ensures ∙ rolls_here a.k a.letters.now p.le_k.0 p.le_k.1 a.at l.i _ _ (omega arith) l.invariant.1 c.letter_code.ensures }
+    let p = s.requires in record {
+      w_bound = (p.le_k.2, omega arith, p.le_k.3, p.le_k.1);
+      c_value = c.roll-c.ensures
+          ∙ rolls_here a.k a.letters.now p.le_k.0 p.le_k.1 a.at l.i _ _ (omega arith) l.invariant.1 c.letter_code.ensures;
+    }
 
 pub returns-then-is_word : goal.returns-then-is_word
 returns-then-is_word c =

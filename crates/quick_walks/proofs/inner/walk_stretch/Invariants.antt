@@ -13,7 +13,8 @@ abbrev pub invariant-loop-i : goal.invariant-loop-i
 invariant-loop-i l =
     (l.i ≤ l.number)
     × Rolls l.k l.letters (l.at + l.i) l.c
-    × (seek (is_word l.k l.letters (spelled l.k l.w)) l.compared (kmers_of (stretch l.first l.at l.number)) ≡ left (is_word l.k l.letters (spelled l.k l.w)) l.compared l.first l.at l.number l.i)
+    × (seek (is_word l.k l.letters (spelled l.k l.w)) l.compared (kmers_of (stretch l.first l.at l.number)) ≡ left
+    (is_word l.k l.letters (spelled l.k l.w)) l.compared l.first l.at l.number l.i)
 
 abbrev pub decreases-loop-i : goal.decreases-loop-i
 decreases-loop-i l = l.number - l.i

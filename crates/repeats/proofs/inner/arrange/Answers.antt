@@ -25,21 +25,18 @@ Place-Start = lts.Start tie.the-claims reads.Pre reads.Post tie.handed_clauses
 abbrev count : Place-After-number_ids → ℕ
 count c = c.args.n
 
-abbrev coded : Place-After-number_ids → List ℕ
-coded c = c.code_all.new.work
-
 abbrev table : Place-After-number_ids → List ℕ
-table c = put_mid (count c + count c) (count c + count c + count c - (count c + count c)) (coded c) c.number_ids.new.ids
+table c = put_mid (count c + count c) (count c + count c + count c - (count c + count c)) (c.code_all.new.work) c.number_ids.new.ids
 
-room : (c : Place-After-number_ids) → 4 * count c ≤ length (coded c)
+room : (c : Place-After-number_ids) → 4 * count c ≤ length (c.code_all.new.work)
 room c = omega (arith, c.requires.n_value.1, c.code_all.ensures.rest.size)
 
 -- the numbers are all that was written after the codes
-only : (c : Place-After-number_ids) → Only (count c + count c) (count c) (coded c) (table c)
-only c = numbered_only (count c + count c) (count c) (coded c) (omega (arith, room c)) c.number_ids.ensures
+only : (c : Place-After-number_ids) → Only (count c + count c) (count c) (c.code_all.new.work) (table c)
+only c = numbered_only (count c + count c) (count c) (c.code_all.new.work) (omega (arith, room c)) c.number_ids.ensures
 
 ids : (c : Place-After-number_ids) → part (count c + count c) (count c) (table c) ≡ count_from 0 (count c)
-ids c = numbered-part (count c + count c) (count c) (coded c) (omega (arith, room c)) c.number_ids.ensures
+ids c = numbered-part (count c + count c) (count c) (c.code_all.new.work) (omega (arith, room c)) c.number_ids.ensures
 
 few : (s : Place-Start) → s.args.n < 2 ^ 32
 few s = omega (arith, few_kmers s.requires.ready, s.requires.n_value.0)
@@ -63,7 +60,13 @@ pub sieve-m-requires : goal.sieve-m-requires
 sieve-m-requires c =
     let d = c.before in
     let s = d in
-    record { n_bound = (omega (arith, few_kmers s.requires.ready, s.requires.n_value.0), omega (arith, room d.before.before.before, (only d.before.before.before).size)); work_value = ids d.before.before.before }
+    record {
+      n_bound = (
+        omega (arith, few_kmers s.requires.ready, s.requires.n_value.0),
+        omega (arith, room d.before.before.before, (only d.before.before.before).size),
+      );
+      work_value = ids d.before.before.before;
+    }
 
 pub sort_by_code-requires : goal.sort_by_code-requires
 sort_by_code-requires c =
@@ -72,8 +75,21 @@ sort_by_code-requires c =
     let s = d in
     let n = s.args.n in
     let l = z.sieve-m.ensures in
-    let size : 4 * n ≤ length z.sieve-m.new.work = omega (arith, room d.before.before.before.before.before.before.before, (only d.before.before.before.before.before.before.before).size, l.rest.size) in
-    record { laid = (laid _ n _ 0 (few s.before.before.before.before.before.before.before.before.before.before.before.before.before.before.before.before) size l.few (omega arith), laid _ n _ n (few s.before.before.before.before.before.before.before.before.before.before.before.before.before.before.before.before) size l.few (omega arith)); all = l.sieved.inside }
+    let size : 4 * n ≤ length z.sieve-m.new.work = omega (
+      arith,
+      room d.before.before.before.before.before.before.before,
+      (only d.before.before.before.before.before.before.before).size,
+      l.rest.size,
+    ) in
+    record {
+      laid = (
+        laid _ n _ 0 (few s.before.before.before.before.before.before.before.before.before.before.before.before.before.before.before.before)
+            size l.few (omega arith),
+        laid _ n _ n (few
+            s.before.before.before.before.before.before.before.before.before.before.before.before.before.before.before.before) size l.few (omega arith),
+      );
+      all = l.sieved.inside;
+    }
 
 pub shape_of-work : goal.shape_of-work
 shape_of-work c =
@@ -87,5 +103,6 @@ returns c =
     let z = c.before in
     let d = z in
     let s = d in
-    arranged _ _ _ s.args.n _ _ (coded d.before.before.before.before.before.before.before.before.before.before) (table d.before.before.before.before.before.before.before.before.before.before) z.sieve-m.new.work _ s.requires.n_value.1 (sym s.requires.n_value.0)
+    arranged _ _ _ s.args.n _ _ (d.code_all.new.work)
+    (table d.before.before.before.before.before.before.before.before.before.before) z.sieve-m.new.work _ s.requires.n_value.1 (sym s.requires.n_value.0)
     d.code_all.ensures (only d.before.before.before.before.before.before.before.before.before.before) z.sieve-m.ensures c.sort_by_code.ensures

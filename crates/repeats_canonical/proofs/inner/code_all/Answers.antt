@@ -25,7 +25,11 @@ code_string-requires c =
     let s = c.before in
     let l = c.loop-i in
     let t = c.loop-i-test.true in
-    let e = next_string l.invariant.0 t in record { letters_value = s.requires.ready.all_letters; le_k = (s.requires.ready.ends_long.k_low, s.requires.ready.ends_long.k_high, omega (arith, e.long, e.inside)); number_bound = (coding_room _ _ _ l.invariant.1 s.requires.n_value.0 t, omega (arith, s.requires.n_value.1, l.invariant.1.coded.rest.size)) }
+    let e = next_string l.invariant.0 t in record {
+      letters_value = s.requires.ready.all_letters;
+      le_k = (s.requires.ready.ends_long.k_low, s.requires.ready.ends_long.k_high, omega (arith, e.long, e.inside));
+      number_bound = (coding_room _ _ _ l.invariant.1 s.requires.n_value.0 t, omega (arith, s.requires.n_value.1, l.invariant.1.coded.rest.size));
+    }
 
 pub overflow_add-passed : goal.overflow_add-passed
 overflow_add-passed c =

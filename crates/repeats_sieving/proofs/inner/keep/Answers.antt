@@ -47,7 +47,8 @@ slot_is c =
     let u = c in
     let l = u in
     let s = l in
-    slot_same s.args.work.now l.loop-i.work l.loop-i.i s.requires.sifting s.requires.all u.loop-i-test.true (id-is u.before.before) l.loop-i.invariant.rest (omega arith)
+    slot_same s.args.work.now l.loop-i.work l.loop-i.i s.requires.sifting s.requires.all u.loop-i-test.true (id-is u.before.before) l.loop-i.invariant.rest
+    (omega arith)
     c.slot_of-s.ensures
 
 has-slot : (c : Place-After-slot_of) → c.slot_of-s.result < 16 * c.args.entries
@@ -55,7 +56,8 @@ has-slot c =
     let u = c in
     let l = u in
     let s = l in
-    slot_inside s.args.work.now l.loop-i.work l.loop-i.i s.requires.sifting s.requires.all u.loop-i-test.true (id-is u.before.before) l.loop-i.invariant.rest (omega arith)
+    slot_inside s.args.work.now l.loop-i.work l.loop-i.i s.requires.sifting s.requires.all u.loop-i-test.true (id-is u.before.before) l.loop-i.invariant.rest
+    (omega arith)
     c.slot_of-s.ensures
 
 -- so is its counter, which tells of its slot
@@ -88,7 +90,10 @@ overflow_cast-x c = omega (arith, id-lt c.before)
 pub slot_of-s-requires : goal.slot_of-s-requires
 slot_of-s-requires c =
     let s = c in
-    let r = s.requires.sifting in record { x_lt_n = (id-lt c.before, omega (arith, r.room, c.loop-i.invariant.rest.size)); slots_bound = (omega (arith, r.few, r.counters), r.a_low, r.c_low) }
+    let r = s.requires.sifting in record {
+      x_lt_n = (id-lt c.before, omega (arith, r.room, c.loop-i.invariant.rest.size));
+      slots_bound = (omega (arith, r.few, r.counters), r.a_low, r.c_low);
+    }
 
 pub overflow_add-tab-in-loop-i : goal.overflow_add-tab-in-loop-i
 overflow_add-tab-in-loop-i c = omega (arith, has-slot c)

@@ -38,7 +38,8 @@ abbrev tab : Place-Start → ℕ
 tab s = s.args.n + s.args.n + s.args.n
 
 abbrev zeroed : Place-After-clear → List ℕ
-zeroed z = let s = z in put_mid (tab s.before.before.before) (tab s.before.before.before + s.args.entries - tab s.before.before.before) s.args.work.now z.clear.new.count
+zeroed z = let s = z in put_mid (tab s.before.before.before) (tab s.before.before.before + s.args.entries - tab s.before.before.before) s.args.work.now
+    z.clear.new.count
 
 fits : (s : Place-Start) → tab s + s.args.entries ≤ length s.args.work.now
 fits s = omega (arith, s.requires.sifting.room, s.requires.sifting.counters)
@@ -49,7 +50,9 @@ size s = ap length (part-lent (tab s) s.args.entries s.args.work.now) ∙ part_l
 lent : (z : Place-After-clear) → length z.clear.new.count ≡ z.args.entries
 lent z =
     let s = z in
-    let e : length z.clear.new.count ≡ length (take (tab s.before.before.before + s.args.entries - tab s.before.before.before) (drop (tab s.before.before.before) s.args.work.now)) = z.clear.auto.count in
+    let e : length z.clear.new.count ≡ length
+    (take (tab s.before.before.before + s.args.entries - tab s.before.before.before)
+    (drop (tab s.before.before.before) s.args.work.now)) = z.clear.auto.count in
     e ∙ size s.before.before.before
 
 only : (z : Place-After-clear) → let s = z in Only (tab s.before.before.before) s.args.entries s.args.work.now (zeroed z)
@@ -71,13 +74,22 @@ pub tell-requires : goal.tell-requires
 tell-requires c =
     let z = c in
     let s = z in
-    record { sifting = sifting_stay s.requires.sifting (only z.before.before.before); all = inside_stay s.requires.sifting (only z.before.before.before) s.requires.all; by_index = zeros z.before.before.before }
+    record {
+      sifting = sifting_stay s.requires.sifting (only z.before.before.before);
+      all = inside_stay s.requires.sifting (only z.before.before.before) s.requires.all;
+      by_index = zeros z.before.before.before;
+    }
 
 pub keep-requires : goal.keep-requires
 keep-requires c =
     let t = c in
     let z = after-clear t.before.before.before in
-    let s = z in record { sifting = sifting_stay s.requires.sifting (told t.before.before.before); all = inside_stay s.requires.sifting (told t.before.before.before) s.requires.all; told = told_stay (sifting_stay s.requires.sifting (only z)) t.tell.ensures.counters_alone (part (tab s.before.before.before) s.args.entries t.tell.new.work) t.tell.ensures.counted }
+    let s = z in record {
+      sifting = sifting_stay s.requires.sifting (told t.before.before.before);
+      all = inside_stay s.requires.sifting (told t.before.before.before) s.requires.all;
+      told = told_stay (sifting_stay s.requires.sifting (only z)) t.tell.ensures.counters_alone
+          (part (tab s.before.before.before) s.args.entries t.tell.new.work) t.tell.ensures.counted;
+    }
 
 pub shape_of-work : goal.shape_of-work
 shape_of-work c =

@@ -47,7 +47,8 @@ slot_is c =
     let l = u in
     let s = l in
     let n = s.args.n in
-    slot_same s.args.work.now l.loop-i.work l.loop-i.i s.requires.sifting s.requires.all u.loop-i-test.true (id-is u.before.before) l.loop-i.invariant.1 (omega arith)
+    slot_same s.args.work.now l.loop-i.work l.loop-i.i s.requires.sifting s.requires.all u.loop-i-test.true (id-is u.before.before) l.loop-i.invariant.1
+    (omega arith)
     c.slot_of-s.ensures
     ∙ ap (slot_in n s.args.work.now (16 * s.args.entries) s.args.a s.args.c) (id-is u.before.before)
 
@@ -56,7 +57,8 @@ has-slot c =
     let u = c in
     let l = u in
     let s = l in
-    slot_inside s.args.work.now l.loop-i.work l.loop-i.i s.requires.sifting s.requires.all u.loop-i-test.true (id-is u.before.before) l.loop-i.invariant.1 (omega arith)
+    slot_inside s.args.work.now l.loop-i.work l.loop-i.i s.requires.sifting s.requires.all u.loop-i-test.true (id-is u.before.before) l.loop-i.invariant.1
+    (omega arith)
     c.slot_of-s.ensures
 
 pub loop-i-init : goal.loop-i-init
@@ -70,7 +72,10 @@ overflow_cast-x c = omega (arith, id-lt c.before)
 pub slot_of-s-requires : goal.slot_of-s-requires
 slot_of-s-requires c =
     let s = c in
-    let r = s.requires.sifting in record { x_lt_n = (id-lt c.before, omega (arith, r.room, c.loop-i.invariant.1.size)); slots_bound = (omega (arith, r.few, r.counters), r.a_low, r.c_low) }
+    let r = s.requires.sifting in record {
+      x_lt_n = (id-lt c.before, omega (arith, r.room, c.loop-i.invariant.1.size));
+      slots_bound = (omega (arith, r.few, r.counters), r.a_low, r.c_low);
+    }
 
 pub overflow_add-t : goal.overflow_add-t
 overflow_add-t c = omega (arith, has-slot c)

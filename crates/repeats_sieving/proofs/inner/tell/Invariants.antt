@@ -9,7 +9,8 @@ abbrev pub invariant-loop-i : goal.invariant-loop-i
 invariant-loop-i l =
     (l.i ≤ l.m)
     × Only (l.n + l.n + l.n) l.entries l.initial.work l.work
-    × Told (slot_in l.n l.initial.work (16 * l.entries) l.a l.c) (16 * l.entries) (take l.i (part (l.n + l.n) l.m l.initial.work)) (part (l.n + l.n + l.n) l.entries l.work)
+    × Told (slot_in l.n l.initial.work (16 * l.entries) l.a l.c) (16 * l.entries) (take l.i (part (l.n + l.n) l.m l.initial.work))
+    (part (l.n + l.n + l.n) l.entries l.work)
 
 abbrev pub decreases-loop-i : goal.decreases-loop-i
 decreases-loop-i l = l.m - l.i

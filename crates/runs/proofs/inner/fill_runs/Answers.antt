@@ -8,7 +8,10 @@ use Rattle.runs.proofs.Loops.{later_same, later_new, later_end, column_stored, c
 use Rattle.runs.proofs.inner.fill_runs.Goals as goal
 
 pub returns-then-weights-eq0 : goal.returns-then-weights-eq0
-returns-then-weights-eq0 c = record { weights_filled = column_none (λ r. r.0) _ _ c.if-weights-eq0.true; firsts_filled = column_none (λ r. r.1) _ _ c.if-weights-eq0.true }
+returns-then-weights-eq0 c = record {
+  weights_filled = column_none (λ r. r.0) _ _ c.if-weights-eq0.true;
+  firsts_filled = column_none (λ r. r.1) _ _ c.if-weights-eq0.true;
+}
 
 pub bounds-run_weights-0 : goal.bounds-run_weights-0
 bounds-run_weights-0 c = room_some _ _ c.if-weights-eq0.false c.requires.weights_in_bounds.0

@@ -10,7 +10,8 @@ use Rattle.sheet_read.proofs.filling.fill_lines.Given as goal
 
 abbrev pub invariant-loop-i : goal.invariant-loop-i
 invariant-loop-i l =
-    State l.k l.s (length l.initial.letters) (length l.initial.ends) (length l.initial.weights) (fill (letters_in (strings_at l.s l.at)) l.initial.letters) (fill (ends_in 0 (strings_at l.s l.at)) l.initial.ends)
+    State l.k l.s (length l.initial.letters) (length l.initial.ends) (length l.initial.weights) (fill (letters_in (strings_at l.s l.at)) l.initial.letters)
+    (fill (ends_in 0 (strings_at l.s l.at)) l.initial.ends)
     (fill (weights_in (strings_at l.s l.at)) l.initial.weights) l.i l.n l.m l.w l.letters l.ends l.weights
 
 abbrev pub decreases-loop-i : goal.decreases-loop-i

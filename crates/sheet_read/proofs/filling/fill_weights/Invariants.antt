@@ -9,7 +9,8 @@ use Rattle.sheet_read.proofs.filling.fill_weights.Given as goal
 
 abbrev pub invariant-loop-j : goal.invariant-loop-j
 invariant-loop-j l =
-    (fine (tail_at l.s l.i l.j) ≡ true) × Storing (length l.initial.out) l.out (put l.o (weights_at l.s l.at) l.initial.out) (weights_at l.s l.i) l.p × (tail_at l.s l.at l.n ≡ tail_at l.s l.i l.j)
+    (fine (tail_at l.s l.i l.j) ≡ true) × Storing (length l.initial.out) l.out (put l.o (weights_at l.s l.at) l.initial.out) (weights_at l.s l.i) l.p
+    × (tail_at l.s l.at l.n ≡ tail_at l.s l.i l.j)
 
 abbrev pub decreases-loop-j : goal.decreases-loop-j
 decreases-loop-j l = l.j

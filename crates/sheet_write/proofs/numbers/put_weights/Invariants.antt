@@ -8,7 +8,8 @@ use Rattle.sheet_write.proofs.numbers.put_weights.Given as goal
 
 abbrev pub invariant-loop-i : goal.invariant-loop-i
 invariant-loop-i l =
-    Weighing (length l.initial.out) l.weights (l.w + l.n) (l.at + length (weights_text (take l.n (drop l.w l.weights)))) (put l.at (weights_text (take l.n (drop l.w l.weights))) l.initial.out) l.out l.i l.p
+    Weighing (length l.initial.out) l.weights (l.w + l.n) (l.at + length (weights_text (take l.n (drop l.w l.weights))))
+    (put l.at (weights_text (take l.n (drop l.w l.weights))) l.initial.out) l.out l.i l.p
 
 abbrev pub decreases-loop-i : goal.decreases-loop-i
 decreases-loop-i l = l.w + l.n - l.i

@@ -27,8 +27,11 @@ overflow_add-at c =
 
 pub copy_bytes-requires : goal.copy_bytes-requires
 copy_bytes-requires c =
-    let g = c.before in
-    (g.requires.b_le_e.0, g.requires.b_le_e.1, letters_room g.args.letters.now g.args.weights.now g.args.out.now _ _ _ _ _ g.requires.b_le_e g.requires.n_in_bounds)
+    let g = c.before in (
+      g.requires.b_le_e.0,
+      g.requires.b_le_e.1,
+      letters_room g.args.letters.now g.args.weights.now g.args.out.now _ _ _ _ _ g.requires.b_le_e g.requires.n_in_bounds,
+    )
 
 pub overflow_add-at-2 : goal.overflow_add-at-2
 overflow_add-at-2 c =
@@ -48,8 +51,11 @@ overflow_add-at-3 c =
 pub put_weights-p-requires : goal.put_weights-p-requires
 put_weights-p-requires c =
     let y = c.before in
-    let g = y in
-    (g.requires.b_le_e.2, weights_room g.args.letters.now g.args.weights.now g.args.out.now _ _ _ _ _ g.requires.b_le_e g.requires.n_in_bounds y.copy_bytes.ensures)
+    let g = y in (
+      g.requires.b_le_e.2,
+      weights_room g.args.letters.now g.args.weights.now g.args.out.now _ _ _ _ _ g.requires.b_le_e g.requires.n_in_bounds
+          y.copy_bytes.ensures,
+    )
 
 pub bounds-out-p : goal.bounds-out-p
 bounds-out-p c =

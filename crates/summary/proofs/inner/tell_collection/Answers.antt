@@ -13,7 +13,14 @@ pub count_all-numbers-requires : goal.count_all-numbers-requires
 count_all-numbers-requires c =
     let b = c.before in
     let v = b in
-    let g = v in record { strung = (strung _ g.requires.passes, weighed _ g.requires.passes); paths_in_bounds = (paths_low _ g.requires.passes v.cover-b.ensures g.requires.ends_in_bounds.0 (omega (arith, g.requires.ends_in_bounds.1)) b.in-Covered.is, omega (arith, g.requires.ends_in_bounds.2)) }
+    let g = v in record {
+      strung = (strung _ g.requires.passes, weighed _ g.requires.passes);
+      paths_in_bounds = (
+        paths_low _ g.requires.passes v.cover-b.ensures g.requires.ends_in_bounds.0
+            (omega (arith, g.requires.ends_in_bounds.1)) b.in-Covered.is,
+        omega (arith, g.requires.ends_in_bounds.2),
+      );
+    }
 
 pub returns-in-Covered : goal.returns-in-Covered
 returns-in-Covered c =
@@ -23,7 +30,8 @@ returns-in-Covered c =
     let h = a in
     let g = h in
     check_passed _ g.requires.passes _ g.requires.ends_in_bounds.2 h.check-a.ensures a.in_default.is
-    (numbers-told _ g.requires.passes v.cover-b.ensures g.requires.ends_in_bounds.0 (omega (arith, g.requires.ends_in_bounds.1)) b.in-Covered.is c.count_all-numbers.ensures)
+    (numbers-told _ g.requires.passes v.cover-b.ensures g.requires.ends_in_bounds.0 (omega (arith, g.requires.ends_in_bounds.1)) b.in-Covered.is
+    c.count_all-numbers.ensures)
 
 pub returns-in-Refused-b : goal.returns-in-Refused-b
 returns-in-Refused-b c =

@@ -46,7 +46,10 @@ slice_bounds-tell_collection-end-in-Filled-5 c =
 pub tell_collection-requires : goal.tell_collection-requires
 tell_collection-requires c =
     let a = c.before in
-    let r = a in record { passes = read_judged _ _ _ _ r.if-sheet-gt8192.false r.requires r.read-a.ensures a.in-Filled.is; ends_in_bounds = tables_room _ _ _ _ r.if-sheet-gt8192.false r.requires r.read-a.ensures a.in-Filled.is }
+    let r = a in record {
+      passes = read_judged _ _ _ _ r.if-sheet-gt8192.false r.requires r.read-a.ensures a.in-Filled.is;
+      ends_in_bounds = tables_room _ _ _ _ r.if-sheet-gt8192.false r.requires r.read-a.ensures a.in-Filled.is;
+    }
 
 pub returns-in-Filled : goal.returns-in-Filled
 returns-in-Filled c =

@@ -11,7 +11,8 @@ pub overflow_cast-run_firsts : goal.overflow_cast-run_firsts
 overflow_cast-run_firsts c = omega (arith, c.shared_slice_known-1.given (c.loop-high.low + (c.loop-high.high - c.loop-high.low) / 2))
 
 pub loop-high-preserved-then-run_firsts-mid : goal.loop-high-preserved-then-run_firsts-mid
-loop-high-preserved-then-run_firsts-mid c = let h = c.loop-high.invariant in record { order = omega arith; inside = h.inside; before = c.if-run_firsts-mid.true; after = h.after }
+loop-high-preserved-then-run_firsts-mid c = let h = c.loop-high.invariant in record
+    { order = omega arith; inside = h.inside; before = c.if-run_firsts-mid.true; after = h.after }
 
 pub loop-high-preserved : goal.loop-high-preserved
 loop-high-preserved c =
