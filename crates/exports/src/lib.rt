@@ -1,4 +1,4 @@
-// The calls for hosts in C and other languages. Numbers pass as themselves, a table as a pointer and its number of entries. Each function
+// The calls for hosts in C and other languages, which `exports_c` gives to the static library. A table is lent with its number of entries. Each function
 // returns the number of the refusal, 0 when done, and tells the rest through `answer`: the place of a refusal, or what the call answers.
 #![tactic(auto)]
 
@@ -25,8 +25,7 @@ ghost use Rattle.collection.specs.Tables.{tables as collection_tables};
 const ANSWER: usize = 4;
 
 // READ: k, and how many letters, ends and weights were filled.
-#[unsafe(no_mangle)]
-pub extern "C" fn corrivume_read(
+pub fn corrivume_read(
     sheet: &[u8],
     letters: &mut [u8],
     ends: &mut [u32],
@@ -46,8 +45,7 @@ pub extern "C" fn corrivume_read(
 }
 
 // WRITE: how many bytes were written.
-#[unsafe(no_mangle)]
-pub extern "C" fn corrivume_write(
+pub fn corrivume_write(
     k: usize,
     letters: &[u8],
     ends: &[u32],
@@ -68,8 +66,7 @@ pub extern "C" fn corrivume_write(
 }
 
 // CHECK: how many k-mers were looked at.
-#[unsafe(no_mangle)]
-pub extern "C" fn corrivume_check(
+pub fn corrivume_check(
     k: usize,
     letters: &[u8],
     ends: &[u32],
@@ -90,8 +87,7 @@ pub extern "C" fn corrivume_check(
 }
 
 // COVER: the paths, and how many places were filled.
-#[unsafe(no_mangle)]
-pub extern "C" fn corrivume_cover(
+pub fn corrivume_cover(
     k: usize,
     letters: &[u8],
     ends: &[u32],
@@ -112,8 +108,7 @@ pub extern "C" fn corrivume_cover(
 }
 
 // APPLY: how many letters, ends and weights were filled.
-#[unsafe(no_mangle)]
-pub extern "C" fn corrivume_apply(
+pub fn corrivume_apply(
     k: usize,
     letters: &[u8],
     ends: &[u32],
@@ -151,8 +146,7 @@ pub extern "C" fn corrivume_apply(
 }
 
 // RUNS: how many runs were filled in each table.
-#[unsafe(no_mangle)]
-pub extern "C" fn corrivume_runs(
+pub fn corrivume_runs(
     k: usize,
     letters: &[u8],
     ends: &[u32],
@@ -174,8 +168,7 @@ pub extern "C" fn corrivume_runs(
 }
 
 // WEIGHT: the weight of a handle, by the run list of n k-mers.
-#[unsafe(no_mangle)]
-pub extern "C" fn corrivume_weight(
+pub fn corrivume_weight(
     run_weights: &[u32],
     run_firsts: &[u32],
     n: usize,
@@ -194,8 +187,7 @@ pub extern "C" fn corrivume_weight(
 }
 
 // ACCESS: the position of the first of the k letters of a handle, and k.
-#[unsafe(no_mangle)]
-pub extern "C" fn corrivume_access(
+pub fn corrivume_access(
     k: usize,
     letters: &[u8],
     ends: &[u32],
@@ -214,8 +206,7 @@ pub extern "C" fn corrivume_access(
 }
 
 // PLAIN: the handle of a word and its side, by a scan; handle 0 where it is absent.
-#[unsafe(no_mangle)]
-pub extern "C" fn corrivume_plain(
+pub fn corrivume_plain(
     k: usize,
     letters: &[u8],
     ends: &[u32],
@@ -236,8 +227,7 @@ pub extern "C" fn corrivume_plain(
 }
 
 // INDEX: how many stretches were filled in each of three tables, and how many entries in the fourth.
-#[unsafe(no_mangle)]
-pub extern "C" fn corrivume_index(
+pub fn corrivume_index(
     k: usize,
     p: usize,
     letters: &[u8],
@@ -267,8 +257,7 @@ pub extern "C" fn corrivume_index(
 }
 
 // QUICK: the handle of a word, its side and the number compared, by the index; handle 0 where it is absent.
-#[unsafe(no_mangle)]
-pub extern "C" fn corrivume_quick(
+pub fn corrivume_quick(
     k: usize,
     p: usize,
     word: &[u8],
@@ -293,8 +282,7 @@ pub extern "C" fn corrivume_quick(
 }
 
 // The weight of a word, by the index and the run list of n k-mers: 1 and the weight, 0 and 0 where it is absent.
-#[unsafe(no_mangle)]
-pub extern "C" fn corrivume_weigh(
+pub fn corrivume_weigh(
     k: usize,
     p: usize,
     word: &[u8],
