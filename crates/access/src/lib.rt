@@ -8,22 +8,14 @@ ghost use Rattle.collection.specs.Collection.{spelling};
 ghost use Rattle.collection.specs.Verdict.{told};
 ghost use Rattle.access.specs.Access.{access_verdict, access_part, access_start, access_at};
 
-use collection::{Told, Verdict};
-
-// What ACCESS answers where no part can be handed back: the position of the first of the k letters.
-#[derive(Clone, Copy)]
-pub enum AccessAnswer {
-    At { position: usize },
-    Refused { number: u32, place: usize },
-}
+use collection::{Refusal, Told};
 
 // ACCESS: the k letters of a handle as a part of the lent letters, not a copy; refused, the empty part at their start.
 pub fn access<'a>(k: usize, letters: &'a [u8], ends: &[u32], handle: usize) -> &'a [u8]
     ensures { (result.now ≡ access_part (spelling k letters.now ends.now) handle) × (result.ref_ptr.0 ≡ letters.entry.ref_ptr.0)
         × (result.ref_ptr.1 ≡ letters.entry.ref_ptr.1 + access_start (spelling k letters.now ends.now) handle) }
 {
-    let v = locating::judge_access(k, letters, ends, handle);
-    let Verdict::Good = v else {
+    let Ok(()) = locating::judge_access(k, letters, ends, handle) else {
         return &letters[..0];
     };
     let p = locating::position(k, ends, handle);
@@ -31,27 +23,27 @@ pub fn access<'a>(k: usize, letters: &'a [u8], ends: &[u32], handle: usize) -> &
 }
 
 // The number and the place with which ACCESS refuses; 0 and 0 where it does not.
+#[tactic(auto, unfolding(collection::specs::Verdict::told))]
 pub fn access_told(k: usize, letters: &[u8], ends: &[u32], handle: usize) -> Told
     ensures { result ≡ told (access_verdict (spelling k letters.now ends.now) handle) }
 {
-    let v = locating::judge_access(k, letters, ends, handle);
-    match v {
-        Verdict::Good => Told {
+    match locating::judge_access(k, letters, ends, handle) {
+        Ok(()) => Told {
             number: 0,
             place: 0,
         },
-        Verdict::Bad { number, place } => Told { number, place },
+        Err(refusal) => Told {
+            number: refusal.number(),
+            place: refusal.place(),
+        },
     }
 }
 
 // ACCESS for a caller that has no use for a part: where it starts in the lent letters, or the refusal.
-pub fn access_at(k: usize, letters: &[u8], ends: &[u32], handle: usize) -> AccessAnswer
+#[tactic(auto, unfolding(crate::specs::Access::access_at, collection::specs::Verdict::settle))]
+pub fn access_at(k: usize, letters: &[u8], ends: &[u32], handle: usize) -> Result<usize, Refusal>
     ensures { result ≡ access_at (spelling k letters.now ends.now) handle }
 {
-    let v = locating::judge_access(k, letters, ends, handle);
-    if let Verdict::Bad { number, place } = v {
-        return AccessAnswer::Refused { number, place };
-    }
-    let p = locating::position(k, ends, handle);
-    AccessAnswer::At { position: p }
+    locating::judge_access(k, letters, ends, handle)?;
+    Ok(locating::position(k, ends, handle))
 }

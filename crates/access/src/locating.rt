@@ -6,16 +6,19 @@ ghost use Rattle.collection.specs.Kmers.{kmers, position_of};
 ghost use Rattle.collection.specs.Ready.{Long};
 ghost use Rattle.access.specs.Located.{Holds};
 
-use collection::Verdict;
+use collection::Refusal;
 
 // The verdict of ACCESS: 2, 3, 4, then 9.
-pub(crate) fn judge_access(k: usize, letters: &[u8], ends: &[u32], handle: usize) -> Verdict
+#[tactic(auto, unfolding(crate::specs::Access::access_verdict, collection::specs::Verdict::and_then))]
+pub(crate) fn judge_access(
+    k: usize,
+    letters: &[u8],
+    ends: &[u32],
+    handle: usize,
+) -> Result<(), Refusal>
     ensures { result ≡ access_verdict (spelling k letters.now ends.now) handle }
 {
-    let a = collection::judge_shape(k, letters, ends);
-    let Verdict::Good = a else {
-        return a;
-    };
+    collection::judge_shape(k, letters, ends)?;
     let n = collection::inner::kmer_count(k, letters.len(), ends.len());
     collection::judge_handle(n, handle)
 }

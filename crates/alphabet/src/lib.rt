@@ -17,10 +17,8 @@ pub fn all_letters(bytes: &[u8]) -> bool
     ensures { result ≡ every is_letter bytes.now }
 {
     let mut good = true;
-    let mut i = 0;
-    while i < bytes.len() {
-        good = good & is_letter(bytes[i]);
-        i += 1;
+    for b in bytes {
+        good = good & is_letter(*b);
     }
     good
 }
@@ -33,19 +31,16 @@ pub fn letter_code(b: u8) -> u64
 }
 
 // The capital of a code; of a number that is no code, T.
+#[tactic(auto, unfolding(crate::specs::Letter::capital))]
 pub fn capital_of(x: u64) -> u8
     ensures { result ≡ capital x }
 {
-    if x == 0 {
-        return b'A';
+    match x {
+        0 => b'A',
+        1 => b'C',
+        2 => b'G',
+        _ => b'T',
     }
-    if x == 1 {
-        return b'C';
-    }
-    if x == 2 {
-        return b'G';
-    }
-    b'T'
 }
 
 // The pair of a letter: A and T, C and G exchanged.

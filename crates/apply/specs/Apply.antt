@@ -1,15 +1,14 @@
 -- APPLY: a collection and signed places to a new collection.
 -- Specification: 9.5.
-use Rattle.std.specs.Prelude.{List, ℕ, ℤ, length, replicate}
+use Rattle.apply.specs.declared.Filled.{Filled}
+use Rattle.collection.specs.declared.refusal.Refusal.{Refusal}
+use Rattle.std.specs.Prelude.{List, ℕ, ℤ, length, replicate, Err, Result, Ok}
 use Rattle.lists.specs.Fill.{fill}
 use Rattle.collection.specs.Collection.{Collection}
-use Rattle.collection.specs.declared.Verdict.{Verdict}
 use Rattle.collection.specs.Judge.{collection_verdict}
 use Rattle.collection.specs.Tables.{Tables, filled_by, Rooms, rooms_of, rooms_verdict}
-use Rattle.collection.specs.Verdict.{and_then, settle, room_verdict}
+use Rattle.collection.specs.Verdict.{and_then, settle, room_verdict, Verdict}
 use Rattle.apply_strings.specs.Reordered.{reordered}
-use Rattle.apply.specs.declared.ApplyAnswer.{ApplyAnswer}
-use Rattle.apply.specs.declared.ApplyAnswer.TheVariants.{Filled, Refused}
 use Rattle.apply_places.specs.Places.{places_verdict}
 
 -- the lent tables: those of the new collection, and work
@@ -20,12 +19,16 @@ pub record Lent : Type 0 where
 abbrev pub lent : Tables → List ℕ → Lent
 lent new work = record { new = new; work = work }
 
+-- so many letters, ends and weights are filled
+abbrev pub filled : ℕ → ℕ → ℕ → Result Filled Refusal
+filled letters ends weights = Ok (record { letters = letters; ends = ends; weights = weights })
+
 -- the answer, and what the lent tables hold afterwards
 pub record Outcome : Type 0 where
-  pub answer : ApplyAnswer
+  pub answer : Result Filled Refusal
   pub after : Lent
 
-abbrev pub outcome : ApplyAnswer → Lent → Outcome
+abbrev pub outcome : Result Filled Refusal → Lent → Outcome
 outcome answer after = record { answer = answer; after = after }
 
 -- 2 to 6, then 1: new tables as long as the old ones, and m entries to work with
@@ -41,11 +44,11 @@ zeroed m work = fill (replicate m 0) work
 unfoldable pub placed_of : Collection → List ℤ → Lent → Outcome
 placed_of c places t =
     settle (places_verdict (length c.ends) places)
-    (λ number place. outcome (Refused number place) (lent t.new (zeroed (length c.ends) t.work)))
-    (outcome (Filled (length c.letters) (length c.ends) (length c.weights)) (lent (filled_by (reordered c places) t.new) (zeroed (length c.ends) t.work)))
+    (λ r. outcome (Err r) (lent t.new (zeroed (length c.ends) t.work)))
+    (outcome (filled (length c.letters) (length c.ends) (length c.weights)) (lent (filled_by (reordered c places) t.new) (zeroed (length c.ends) t.work)))
 
 -- refused up to 1: all tables as they were
 unfoldable pub apply_of : Collection → List ℤ → Lent → Outcome
 unfolding placed_of
 apply_of c places t =
-    settle (tables_verdict c (rooms_of t.new) (length t.work)) (λ number place. outcome (Refused number place) t) (placed_of c places t)
+    settle (tables_verdict c (rooms_of t.new) (length t.work)) (λ r. outcome (Err r) t) (placed_of c places t)

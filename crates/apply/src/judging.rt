@@ -4,9 +4,10 @@ ghost use Rattle.collection.specs.Collection.{collection};
 ghost use Rattle.collection.specs.Tables.{rooms};
 ghost use Rattle.apply.specs.Apply.{tables_verdict};
 
-use collection::Verdict;
+use collection::Refusal;
 
 // 2 to 6, then 1: the new tables, then work.
+#[tactic(auto, unfolding(crate::specs::Apply::tables_verdict, collection::specs::Verdict::and_then))]
 pub(crate) fn judge_tables(
     k: usize,
     letters: &[u8],
@@ -16,24 +17,18 @@ pub(crate) fn judge_tables(
     new_ends: usize,
     new_weights: usize,
     work: usize,
-) -> Verdict
+) -> Result<(), Refusal>
     ensures { result ≡ tables_verdict (collection k letters.now ends.now weights.now)
         (rooms new_letters new_ends new_weights) work }
 {
-    let a = collection::judge_collection(k, letters, ends, weights);
-    let Verdict::Good = a else {
-        return a;
-    };
-    let b = collection::judge_rooms(
+    collection::judge_collection(k, letters, ends, weights)?;
+    collection::judge_rooms(
         new_letters,
         new_ends,
         new_weights,
         letters.len(),
         ends.len(),
         weights.len(),
-    );
-    let Verdict::Good = b else {
-        return b;
-    };
+    )?;
     collection::judge_room(work, ends.len())
 }

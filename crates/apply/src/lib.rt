@@ -9,20 +9,14 @@ ghost use Rattle.apply.specs.Ready.{Ready};
 ghost use Rattle.collection.specs.Collection.{collection};
 ghost use Rattle.collection.specs.Tables.{tables, rooms_of};
 
-use collection::Verdict;
+use collection::Refusal;
 
 // What APPLY answers: how many letters, ends and weights it filled.
-#[derive(Clone, Copy)]
-pub enum ApplyAnswer {
-    Filled {
-        letters: usize,
-        ends: usize,
-        weights: usize,
-    },
-    Refused {
-        number: u32,
-        place: usize,
-    },
+#[derive(Clone, Copy, Debug, PartialEq, Eq)]
+pub struct Filled {
+    pub letters: usize,
+    pub ends: usize,
+    pub weights: usize,
 }
 
 // 8, then each string written at its place. Work is zero afterwards in both cases.
@@ -36,7 +30,7 @@ fn apply_places(
     new_ends: &mut [u32],
     new_weights: &mut [u32],
     work: &mut [u32],
-) -> ApplyAnswer
+) -> Result<Filled, Refusal>
     requires { Ready (collection k letters.now ends.now weights.now)
         (rooms_of (tables new_letters.old new_ends.old new_weights.old)) (length work.old) }
     ensures { outcome result (lent (tables new_letters.new new_ends.new new_weights.new) work.new)
@@ -44,10 +38,9 @@ fn apply_places(
         (lent (tables new_letters.old new_ends.old new_weights.old) work.old) }
 {
     let m = ends.len();
-    let v = apply_places::inner::judge_places(signed, work, m);
-    if let Verdict::Bad { number, place } = v {
+    if let Err(refusal) = apply_places::inner::judge_places(signed, work, m) {
         collection::inner::zero_first(work, m);
-        return ApplyAnswer::Refused { number, place };
+        return Err(refusal);
     }
     apply_strings::inner::place_strings(
         k,
@@ -61,11 +54,11 @@ fn apply_places(
         new_weights,
     );
     collection::inner::zero_first(work, m);
-    ApplyAnswer::Filled {
+    Ok(Filled {
         letters: letters.len(),
         ends: m,
         weights: weights.len(),
-    }
+    })
 }
 
 // APPLY: each string once, at its place, turned where the place is negative, its weights turned with it.
@@ -79,12 +72,12 @@ pub fn apply(
     new_ends: &mut [u32],
     new_weights: &mut [u32],
     work: &mut [u32],
-) -> ApplyAnswer
+) -> Result<Filled, Refusal>
     ensures { outcome result (lent (tables new_letters.new new_ends.new new_weights.new) work.new)
         ≡ apply_of (collection k letters.now ends.now weights.now) signed.now
         (lent (tables new_letters.old new_ends.old new_weights.old) work.old) }
 {
-    let v = judging::judge_tables(
+    judging::judge_tables(
         k,
         letters,
         ends,
@@ -93,10 +86,7 @@ pub fn apply(
         new_ends.len(),
         new_weights.len(),
         work.len(),
-    );
-    if let Verdict::Bad { number, place } = v {
-        return ApplyAnswer::Refused { number, place };
-    }
+    )?;
     apply_places(
         k,
         letters,

@@ -1,4 +1,3 @@
 -- Laws of signed places.
-pub mod Signs
 pub mod Marking
 pub mod Permutation

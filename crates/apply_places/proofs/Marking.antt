@@ -11,13 +11,13 @@ use lib.Dec.{eqb}
 use lib.IntN.{ℤ, pos, nat_abs}
 use lib.ListN.{length, take, drop, get_or, set, replicate, get_or-replicate, length-replicate, length-map, length-set, drop_of_length-le}
 use lib.Seq.{get_or-take, get_or-set_same, get_or-set_other, take-suc, length-take-le, take_all, drop-set-lt}
+use Rattle.std.specs.Prelude.{Err}
+use Rattle.collection.specs.declared.refusal.Refusal.TheVariants.{Places}
 use Rattle.lists.specs.Choose.{choose}
 use Rattle.lists.proofs.First.{first_snoc-none, first_snoc-other}
 use Rattle.lists.specs.Fill.{fill}
 use Rattle.lists.proofs.Storing.{drop_next, take_fill, drop_fill, length_fill}
-use Rattle.collection.specs.declared.Verdict.{Verdict}
-use Rattle.collection.specs.declared.Verdict.TheVariants.{Good, Bad}
-use Rattle.collection.specs.Verdict.{at_place}
+use Rattle.collection.specs.Verdict.{at_place, Verdict, good}
 use Rattle.collection.proofs.Verdicts.{bad_good}
 use Rattle.apply_places.specs.Places.{holder, bad_place, first_bad, places_verdict}
 use Rattle.apply_places.specs.Judged.{PlacesJudged}
@@ -169,19 +169,19 @@ marking_ends {places} {before} {work} {i} w l =
 -- ─── the judgement ───────────────────────────────────────────────────────────
 
 -- not m places
-pub judged_number : (m : ℕ) (places : List ℤ) (work : List ℕ) → (length places ≡ m → ⊥) → PlacesJudged m places work work (Bad 8 0)
+pub judged_number : (m : ℕ) (places : List ℤ) (work : List ℕ) → (length places ≡ m → ⊥) → PlacesJudged m places work work (Err (Places 0))
 unfolding places_verdict
 judged_number m places work n = record { judged = rw (ne_eqb (length places) m n); size = refl; rest = refl; marked = λ q. absurd (bad_good q) }
 
 -- m places, judged one after the other over zeros
 pub judged_each : (m : ℕ) (places : List ℤ) (before zeros after : List ℕ) (r : ℕ) (verdict : Verdict) → length places ≡ m → m ≤ length before
     → zeros ≡ fill (replicate m 0) before
-    → Scanned (length places) places zeros after r → verdict ≡ at_place 8 r → (verdict ≡ Good → r ≡ 0) → PlacesJudged m places before after verdict
+    → Scanned (length places) places zeros after r → verdict ≡ at_place Places r → (verdict ≡ good → r ≡ 0) → PlacesJudged m places before after verdict
 unfolding places_verdict
 judged_each m places before zeros after r verdict e l z s v g =
     record {
-      judged = v ∙ (ap (at_place 8) (s.first ∙ ap (λ (n : ℕ). first_bad n 0 [] places) e)
-          ∙ sym (ap (λ (b : Bool). choose b (at_place 8 (first_bad m 0 [] places)) (Bad 8 0)) (eq-eqb (length places) m e)));
+      judged = v ∙ (ap (at_place Places) (s.first ∙ ap (λ (n : ℕ). first_bad n 0 [] places) e)
+          ∙ sym (ap (λ (b : Bool). choose b (at_place Places (first_bad m 0 [] places)) (Err (Places 0))) (eq-eqb (length places) m e)));
       size = s.size ∙ (ap length z ∙ length_fill (replicate m 0) before (omega (arith, length-replicate {A = ℕ} m 0)));
       rest = subst (λ (n : ℕ). drop n after ≡ drop n zeros) e s.rest ∙ (ap (drop m) z ∙ drop_fill (replicate m 0) before m (length-replicate {A = ℕ} m 0));
       marked = λ q. subst (λ (n : ℕ). Marks n after (map nat_abs places)) e (s.marked (g q));

@@ -11,13 +11,14 @@ use borrow.Author.Tests.{eq-eqb, ne_eqb, eqb-true, eqb-false, ltb-false}
 use lib.Dec.{eqb, ltb}
 use lib.IntN.{ℤ, pos, nat_abs}
 use lib.ListN.{length, get_or, length-map}
+use Rattle.std.specs.Prelude.{Err}
+use Rattle.collection.specs.declared.refusal.Refusal.TheVariants.{Places}
 use Rattle.lists.specs.Choose.{choose}
 use Rattle.lists.specs.Every.{All}
 use Rattle.lists.proofs.Every.{all_at}
 use Rattle.lists.proofs.Mapped.{map_at}
 use Rattle.lists.proofs.First.{first_none, none_first}
-use Rattle.collection.specs.declared.Verdict.TheVariants.{Good, Bad}
-use Rattle.collection.specs.Verdict.{at_place}
+use Rattle.collection.specs.Verdict.{at_place, good}
 use Rattle.collection.proofs.Verdicts.{test_good, place_good, place_none}
 use Rattle.lists.specs.Count.{agree}
 use Rattle.cover_trails.specs.Counting.{occurs}
@@ -94,11 +95,11 @@ apart m i earlier (p ∷ places) o h = go (bad_place m earlier (nat_abs p)) refl
         still a (inr w) f = omega (arith, w.1, o a, used-more a (nat_abs p) earlier)
 
 -- 8 is not given: the places are a signed permutation
-pub places_good : (m : ℕ) (places : List ℤ) → places_verdict m places ≡ Good → SignedPermutation m places
+pub places_good : (m : ℕ) (places : List ℤ) → places_verdict m places ≡ good → SignedPermutation m places
 unfolding places_verdict occurs
 places_good m places h =
-    let t = test_good (eqb (length places) m) 8 0 (at_place 8 (first_bad m 0 [] places)) h in
-    let r = apart m 0 [] places (λ a. omega arith) (place_good 8 (first_bad m 0 [] places) t.1) in
+    let t = test_good (eqb (length places) m) (Places 0) (at_place Places (first_bad m 0 [] places)) h in
+    let r = apart m 0 [] places (λ a. omega arith) (place_good Places (first_bad m 0 [] places) t.1) in
     permutation_if_apart m places (eqb-true (length places) m t.0) r.range (λ a. omega (arith, r.once a))
 
 -- ─── and the other way round ─────────────────────────────────────────────────
@@ -116,11 +117,11 @@ none_bad m i earlier (p ∷ places) r o =
     (none_bad m (suc i) (earlier ++ (nat_abs p ∷ [])) places r.1 (λ a l u. omega (arith, o a l u, used-more a (nat_abs p) earlier)))
 
 -- a signed permutation is not refused
-pub permutation_passes : (m : ℕ) (places : List ℤ) → SignedPermutation m places → places_verdict m places ≡ Good
+pub permutation_passes : (m : ℕ) (places : List ℤ) → SignedPermutation m places → places_verdict m places ≡ good
 unfolding places_verdict occurs
 permutation_passes m places s =
     let z = none_bad m 0 [] places s.range (λ a l u. omega (arith, s.once a l u)) in
-    ap (λ (t : Bool). choose t (at_place 8 (first_bad m 0 [] places)) (Bad 8 0)) (eq-eqb (length places) m s.number) ∙ sym (place_none 8 z)
+    ap (λ (t : Bool). choose t (at_place Places (first_bad m 0 [] places)) (Err (Places 0))) (eq-eqb (length places) m s.number) ∙ sym (place_none Places z)
 
 -- ─── no two strings have one place ───────────────────────────────────────────
 

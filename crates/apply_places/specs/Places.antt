@@ -1,11 +1,10 @@
 -- 8: when signed places are refused.
 -- Specification: 8.2.
-use Rattle.std.specs.Prelude.{Bool, not, ◌||◌, List, [], ◌∷◌, ◌++◌, ℕ, suc, eqb, ltb, ℤ, nat_abs, length}
+use Rattle.collection.specs.declared.refusal.Refusal.TheVariants.{Places}
+use Rattle.std.specs.Prelude.{Bool, not, ◌||◌, List, [], ◌∷◌, ◌++◌, ℕ, suc, eqb, ltb, ℤ, nat_abs, length, Err}
 use Rattle.lists.specs.Choose.{choose}
 use Rattle.lists.specs.First.{first_that, first_from}
-use Rattle.collection.specs.declared.Verdict.{Verdict}
-use Rattle.collection.specs.declared.Verdict.TheVariants.{Bad}
-use Rattle.collection.specs.Verdict.{at_place}
+use Rattle.collection.specs.Verdict.{at_place, Verdict}
 
 -- the string, from 1, that has the place a, sign aside; 0 where none has
 abbrev pub holder : ℕ → List ℕ → ℕ
@@ -24,4 +23,4 @@ first_bad m i earlier (p ∷ places) = choose (bad_place m earlier (nat_abs p)) 
 -- 8: not m places, at 0; else the first string whose place is bad
 unfoldable pub places_verdict : ℕ → List ℤ → Verdict
 unfolding first_bad
-places_verdict m places = choose (eqb (length places) m) (at_place 8 (first_bad m 0 [] places)) (Bad 8 0)
+places_verdict m places = choose (eqb (length places) m) (at_place Places (first_bad m 0 [] places)) (Err (Places 0))

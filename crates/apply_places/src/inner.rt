@@ -5,17 +5,13 @@ ghost use Rattle.cover_trails.specs.Places.{is_turned};
 ghost use Rattle.apply_places.specs.Marks.{Scanned};
 ghost use Rattle.apply_places.specs.Judged.{PlacesJudged};
 
-use collection::Verdict;
+use collection::Refusal;
 
-// A place without its sign. The smallest 32-bit number has no negative of its own width, so it goes through 64 bits.
+// A place without its sign.
 pub fn size_of(p: i32) -> u32
     ensures { result ≡ nat_abs p }
 {
-    if p < 0 {
-        let q = -(p as i64);
-        return q as u32;
-    }
-    p as u32
+    p.unsigned_abs()
 }
 
 // Whether a string with this place is turned.
@@ -32,43 +28,35 @@ fn mark_places(signed: &[i32], work: &mut [u32]) -> usize
     ensures { Scanned (length signed.now) signed.now work.old work.new result }
 {
     let m = signed.len();
-    let mut i = 0;
-    while i < m {
-        let p = signed[i];
-        let a = size_of(p) as usize;
-        i += 1;
+    for (i, p) in signed.iter().enumerate() {
+        let a = size_of(*p) as usize;
         if a == 0 {
-            return i;
+            return i + 1;
         }
         if m < a {
-            return i;
+            return i + 1;
         }
-        if work[a - 1] != 0 {
-            return i;
+        let used = work[a - 1] != 0;
+        if used {
+            return i + 1;
         }
-        work[a - 1] = i as u32;
+        work[a - 1] = i as u32 + 1;
     }
     0
 }
 
 // 8: not m places, or the first string whose place is zero, beyond m or used by an earlier string.
-pub fn judge_places(signed: &[i32], work: &mut [u32], m: usize) -> Verdict
+pub fn judge_places(signed: &[i32], work: &mut [u32], m: usize) -> Result<(), Refusal>
     requires { (m ≤ most_strings) × (m ≤ length work.old) }
     ensures { PlacesJudged m signed.now work.old work.new result }
 {
     if signed.len() != m {
-        return Verdict::Bad {
-            number: 8,
-            place: 0,
-        };
+        return Err(Refusal::Places { place: 0 });
     }
     collection::inner::zero_first(work, m);
     let r = mark_places(signed, work);
     if r != 0 {
-        return Verdict::Bad {
-            number: 8,
-            place: r,
-        };
+        return Err(Refusal::Places { place: r });
     }
-    Verdict::Good
+    Ok(())
 }

@@ -12,11 +12,11 @@ use lib.Seq.{length-take-le}
 use Rattle.lists.specs.Choose.{choose}
 use Rattle.lists.specs.Every.{every}
 use Rattle.lists.specs.Fill.{put, fill}
-use Rattle.lists.specs.Limits.{most_letters, most_strings}
+use Rattle.lists.specs.Limits.{most_letters}
 use Rattle.lists.proofs.Every.{all_at, all_take, all_drop, all-every}
 use Rattle.lists.proofs.First.{first_none, first_found_from}
 use Rattle.lists.proofs.Mapped.{map_at}
-use Rattle.lists.proofs.Storing.{Storing, begin, inside, store, store_many, restated, stored, drop_next}
+use Rattle.lists.proofs.Storing.{Storing, begin, store, store_many, restated, stored, drop_next}
 use Rattle.lists.proofs.Refuted.{refuted}
 use Rattle.alphabet.specs.Letter.{is_letter}
 use Rattle.collection.specs.Collection.{Collection}
@@ -63,9 +63,6 @@ module _ {c : Collection} {places : List ℤ} {work : List ℕ} (p : Placeable c
   long = shape_long judged.shape
 
   -- no number that is counted here comes near the widest
-  pub few_strings : length c.ends ≤ most_strings
-  few_strings = judged.shape.m_high
-
   pub few_weights : length c.weights ≤ most_letters
   few_weights = omega (arith, judged.counted, judged.shape.letters_high)
 
@@ -252,9 +249,6 @@ module _ {c : Collection} {places : List ℤ} {work : List ℕ} (p : Placeable c
             weights-length p j l r o,
           )
 
-      pub ends_room : j < length ends₁
-      ends_room = inside ends_step
-
       few_left : at + (r.end - r.start) + length (letters_in (drop (j + 1) (reordered c places))) ≤ most_letters
       few_left =
           omega (
@@ -277,9 +271,6 @@ module _ {c : Collection} {places : List ℤ} {work : List ℕ} (p : Placeable c
             length-append (column_by r.turned (weights_from p j l r o)) (weights_in (drop (j + 1) (reordered c places))),
             weights-length p j l r o,
           )
-
-      pub kmer_few : kmer + (r.last - r.first) ≤ most_letters
-      kmer_few = omega (arith, few_weights-left)
 
       -- the next string is written
       pub placing_next : {letters₂ weights₂ : List ℕ} → letters₂ ≡ put at (letters_by r.turned (letters_from p j l r o)) letters₁

@@ -11,7 +11,7 @@ use crate::writing::{write_column, write_letters};
 use apply_places::inner::is_turned;
 
 // Where a string stands: its letters from `start` to `end`, its weights from `first` to `last`; and whether its place turns it.
-#[derive(Clone, Copy)]
+#[derive(Clone, Copy, Debug, PartialEq, Eq)]
 struct Part {
     start: usize,
     end: usize,
@@ -69,8 +69,7 @@ pub fn place_strings(
 {
     let mut at = 0;
     let mut kmer = 0;
-    let mut j = 0;
-    while j < ends.len() {
+    for j in 0..ends.len() {
         let Part {
             start,
             end,
@@ -83,6 +82,5 @@ pub fn place_strings(
         at += end - start;
         kmer += last - first;
         new_ends[j] = at as u32;
-        j += 1;
     }
 }

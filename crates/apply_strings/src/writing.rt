@@ -5,39 +5,13 @@ ghost use Rattle.lists.specs.Fill.{fill, put};
 ghost use Rattle.alphabet.specs.Letter.{is_letter};
 ghost use Rattle.apply_strings.specs.Turned.{turn_letters, letters_by, column_by};
 
-fn copy_letters(from: &[u8], to: &mut [u8])
-    requires { length from.now ≤ length to.old }
-    ensures { to.new ≡ fill from.now to.old }
-{
-    let mut i = 0;
-    while i < from.len() {
-        to[i] = from[i];
-        i += 1;
-    }
-}
-
 // The last letter's pair first.
 fn turn_letters(from: &[u8], to: &mut [u8])
     requires { (length from.now ≤ length to.old) × (every is_letter from.now ≡ true) }
     ensures { to.new ≡ fill (turn_letters from.now) to.old }
 {
-    let mut left = from.len();
-    let mut at = 0;
-    while 0 < left {
-        left -= 1;
-        to[at] = alphabet::turned_letter(from[left]);
-        at += 1;
-    }
-}
-
-fn copy_column(from: &[u32], to: &mut [u32])
-    requires { length from.now ≤ length to.old }
-    ensures { to.new ≡ fill from.now to.old }
-{
-    let mut i = 0;
-    while i < from.len() {
-        to[i] = from[i];
-        i += 1;
+    for (i, letter) in from.iter().rev().enumerate() {
+        to[i] = alphabet::turned_letter(*letter);
     }
 }
 
@@ -46,12 +20,8 @@ fn turn_column(from: &[u32], to: &mut [u32])
     requires { length from.now ≤ length to.old }
     ensures { to.new ≡ fill (reverse from.now) to.old }
 {
-    let mut left = from.len();
-    let mut at = 0;
-    while 0 < left {
-        left -= 1;
-        to[at] = from[left];
-        at += 1;
+    for (i, weight) in from.iter().rev().enumerate() {
+        to[i] = *weight;
     }
 }
 
@@ -63,7 +33,7 @@ pub(crate) fn write_letters(turned: bool, from: &[u8], to: &mut [u8], at: usize)
     if turned {
         turn_letters(from, &mut to[at..]);
     } else {
-        copy_letters(from, &mut to[at..]);
+        to[at..at + from.len()].copy_from_slice(from);
     }
 }
 
@@ -75,6 +45,6 @@ pub(crate) fn write_column(turned: bool, from: &[u32], to: &mut [u32], at: usize
     if turned {
         turn_column(from, &mut to[at..]);
     } else {
-        copy_column(from, &mut to[at..]);
+        to[at..at + from.len()].copy_from_slice(from);
     }
 }

@@ -1,8 +1,8 @@
 // The index of the collection, with p = 2, and questions to it: one line each, what was asked and the answer.
-use crate::{ENDS, LETTERS, WEIGHTS, wide};
-use collection::Side;
-use index::IndexAnswer;
-use quick::{QuickAnswer, WordAnswer};
+use crate::{ENDS, LETTERS, WEIGHTS, side_shown};
+use collection::Refusal;
+use index::Indexed;
+use quick::QuickAnswer;
 use std::io;
 use std::io::Write;
 
@@ -15,74 +15,78 @@ fn show(rt: &impl Print, asked: &[u8], a: u64, b: u64, c: u64) -> io::Result<()>
     println!(rt; "\t{a}\t{b}\t{c}")
 }
 
-// One stretch: first handle, position, number of k-mers.
-fn show_stretch(
+// Each stretch in a line of its own: first handle, position, number of k-mers.
+fn show_stretches(
     rt: &impl Print,
     firsts: &[u32],
     positions: &[u32],
     numbers: &[u32],
-    i: usize,
 ) -> io::Result<()> {
-    if firsts.len() <= i {
-        return Ok(());
+    for ((first, at), number) in firsts.iter().zip(positions).zip(numbers) {
+        show(
+            rt,
+            b"stretch",
+            u64::from(*first),
+            u64::from(*at),
+            u64::from(*number),
+        )?;
     }
-    if positions.len() <= i {
-        return Ok(());
-    }
-    if numbers.len() <= i {
-        return Ok(());
-    }
+    Ok(())
+}
+
+// 100 + the number of a refusal, and its place.
+fn show_refusal(rt: &impl Print, asked: &[u8], refusal: Refusal) -> io::Result<()> {
     show(
         rt,
-        b"stretch",
-        wide(firsts[i]),
-        wide(positions[i]),
-        wide(numbers[i]),
+        asked,
+        100 + u64::from(refusal.number()),
+        refusal.place() as u64,
+        0,
     )
 }
 
 // INDEX's answer: stretches and entries of the fourth table; 100 + number and the place if refused.
-fn show_index(rt: &impl Print, asked: &[u8], answer: IndexAnswer) -> io::Result<()> {
+fn show_index(rt: &impl Print, asked: &[u8], answer: Result<Indexed, Refusal>) -> io::Result<()> {
     match answer {
-        IndexAnswer::Indexed { stretches, starts } => {
-            show(rt, asked, stretches as u64, starts as u64, 0)
-        }
-        IndexAnswer::Refused { number, place } => {
-            show(rt, asked, 100 + number as u64, place as u64, 0)
-        }
+        Ok(indexed) => show(
+            rt,
+            asked,
+            indexed.stretches as u64,
+            indexed.starts as u64,
+            0,
+        ),
+        Err(refusal) => show_refusal(rt, asked, refusal),
     }
 }
 
 // The handle, 1 for side + or 2 for side -, and the number compared; 0, 0 and the number if absent; 100 + number and the place if refused.
-fn show_quick(rt: &impl Print, asked: &[u8], answer: QuickAnswer) -> io::Result<()> {
+fn show_quick(
+    rt: &impl Print,
+    asked: &[u8],
+    answer: Result<QuickAnswer, Refusal>,
+) -> io::Result<()> {
     match answer {
-        QuickAnswer::Found {
-            handle,
-            side,
-            compared,
-        } => match side {
-            Side::Asked => show(rt, asked, handle as u64, 1, compared),
-            Side::Turned => show(rt, asked, handle as u64, 2, compared),
-        },
-        QuickAnswer::Absent { compared } => show(rt, asked, 0, 0, compared),
-        QuickAnswer::Refused { number, place } => {
-            show(rt, asked, 100 + number as u64, place as u64, 0)
-        }
+        Ok(
+            QuickAnswer::Found {
+                handle,
+                side,
+                compared,
+            },
+        ) => show(rt, asked, handle as u64, side_shown(side), compared),
+        Ok(QuickAnswer::Absent { compared }) => show(rt, asked, 0, 0, compared),
+        Err(refusal) => show_refusal(rt, asked, refusal),
     }
 }
 
 // The weight of a word; 0 if it is absent; 100 + number and the place if refused.
-fn show_weight(rt: &impl Print, asked: &[u8], answer: WordAnswer) -> io::Result<()> {
+fn show_weight(
+    rt: &impl Print,
+    asked: &[u8],
+    answer: Result<Option<u32>, Refusal>,
+) -> io::Result<()> {
     match answer {
-        WordAnswer::Weighs { weight } => show(rt, asked, wide(weight), 0, 0),
-        WordAnswer::Absent => show(rt, asked, 0, 0, 0),
-        WordAnswer::Refused { number, place } => show(
-            rt,
-            asked,
-            100 + number as u64,
-            place as u64,
-            0,
-        ),
+        Ok(weight) => show(rt, asked, u64::from(weight.unwrap_or(0)), 0, 0),
+        Err(refusal) => show_refusal(rt, asked, refusal),
     }
 }
 
@@ -229,21 +233,6 @@ fn refused(rt: &impl Print) -> io::Result<()> {
     index_short(rt, b"ACG and CGT", b"ACGCGT", &[3, 6], &[1, 1])
 }
 
-fn stretches_all(
-    rt: &impl Print,
-    firsts: &[u32],
-    positions: &[u32],
-    numbers: &[u32],
-) -> io::Result<()> {
-    show_stretch(rt, firsts, positions, numbers, 0)?;
-    show_stretch(rt, firsts, positions, numbers, 1)?;
-    show_stretch(rt, firsts, positions, numbers, 2)?;
-    show_stretch(rt, firsts, positions, numbers, 3)?;
-    show_stretch(rt, firsts, positions, numbers, 4)?;
-    show_stretch(rt, firsts, positions, numbers, 5)?;
-    show_stretch(rt, firsts, positions, numbers, 6)
-}
-
 // The seven stretches, and the questions.
 fn after(
     rt: &impl Print,
@@ -252,7 +241,7 @@ fn after(
     numbers: &[u32],
     before: &[u32],
 ) -> io::Result<()> {
-    stretches_all(rt, firsts, positions, numbers)?;
+    show_stretches(rt, firsts, positions, numbers)?;
     ask_words(rt, firsts, positions, numbers, before)?;
     weigh_all(rt, firsts, positions, numbers, before)
 }

@@ -5,13 +5,9 @@
 mod asking;
 mod reordering;
 
-use collection::{Side, Verdict};
-use plain::PlainAnswer;
-use repeats::CheckAnswer;
-use runs::RunsAnswer;
+use collection::{Refusal, Side};
 use std::io;
 use std::io::Write;
-use weight::WeightAnswer;
 
 // The sheet of the examples after the places +1 +4 -3 -2.
 pub(crate) const LETTERS: [u8; 18] = *b"AAACCTGTAGGCTGAGAT";
@@ -25,11 +21,34 @@ pub(crate) fn show(rt: &impl Print, asked: &[u8], a: u64, b: u64) -> io::Result<
     println!(rt; "\t{a}\t{b}")
 }
 
+// A refusal of a call that answers something else too: 100 + number, and the place.
+pub(crate) fn show_refusal(rt: &impl Print, asked: &[u8], refusal: Refusal) -> io::Result<()> {
+    show(
+        rt,
+        asked,
+        100 + u64::from(refusal.number()),
+        refusal.place() as u64,
+    )
+}
+
 // The number and the place of a refusal, 0 and 0 where there is none.
-fn show_verdict(rt: &impl Print, asked: &[u8], v: Verdict) -> io::Result<()> {
-    match v {
-        Verdict::Good => show(rt, asked, 0, 0),
-        Verdict::Bad { number, place } => show(rt, asked, number as u64, place as u64),
+fn show_verdict(rt: &impl Print, asked: &[u8], verdict: Result<(), Refusal>) -> io::Result<()> {
+    match verdict {
+        Ok(()) => show(rt, asked, 0, 0),
+        Err(refusal) => show(
+            rt,
+            asked,
+            u64::from(refusal.number()),
+            refusal.place() as u64,
+        ),
+    }
+}
+
+// 1 for side +, 2 for side -.
+pub(crate) fn side_shown(side: Side) -> u64 {
+    match side {
+        Side::Asked => 1,
+        Side::Turned => 2,
     }
 }
 
@@ -39,51 +58,35 @@ fn show_access(rt: &impl Print, asked: &[u8], k: usize, handle: usize) -> io::Re
     let part = access::access(k, &LETTERS, &ENDS, handle);
     io::writer(rt).write_all(part)?;
     io::writer(rt).write_all(b" ")?;
-    show(rt, asked, told.number as u64, told.place as u64)
+    show(rt, asked, u64::from(told.number), told.place as u64)
 }
 
 // The handle of a word and 1 for side +, 2 for side -; 0 and 0 if absent; 100 + number and the place if refused.
 fn show_plain(rt: &impl Print, word: &[u8]) -> io::Result<()> {
-    let answer = plain::plain(3, &LETTERS, &ENDS, &WEIGHTS, word);
-    match answer {
-        PlainAnswer::Found { handle, side } => match side {
-            Side::Asked => show(rt, word, handle as u64, 1),
-            Side::Turned => show(rt, word, handle as u64, 2),
-        },
-        PlainAnswer::Absent => show(rt, word, 0, 0),
-        PlainAnswer::Refused { number, place } => show(rt, word, 100 + number as u64, place as u64),
+    match plain::plain(3, &LETTERS, &ENDS, &WEIGHTS, word) {
+        Ok(Some(standing)) => show(rt, word, standing.handle as u64, side_shown(standing.side)),
+        Ok(None) => show(rt, word, 0, 0),
+        Err(refusal) => show_refusal(rt, word, refusal),
     }
 }
 
-pub(crate) fn wide(x: u32) -> u64 {
-    x as u64
-}
-
-// One run's weight and first handle.
-fn show_run(rt: &impl Print, weights: &[u32], firsts: &[u32], i: usize) -> io::Result<()> {
-    if weights.len() <= i {
-        return Ok(());
-    }
-    if firsts.len() <= i {
-        return Ok(());
-    }
-    show(rt, b"run", wide(weights[i]), wide(firsts[i]))
-}
-
-// Each of five runs in a line of its own.
+// Each run's weight and first handle, in a line of its own.
 fn show_list(rt: &impl Print, weights: &[u32], firsts: &[u32]) -> io::Result<()> {
-    show_run(rt, weights, firsts, 0)?;
-    show_run(rt, weights, firsts, 1)?;
-    show_run(rt, weights, firsts, 2)?;
-    show_run(rt, weights, firsts, 3)?;
-    show_run(rt, weights, firsts, 4)
+    for (weight, first) in weights.iter().zip(firsts) {
+        show(rt, b"run", u64::from(*weight), u64::from(*first))?;
+    }
+    Ok(())
 }
 
-// How many runs there are, or 100 + number and the place if RUNS refuses.
-pub(crate) fn show_count(rt: &impl Print, asked: &[u8], answer: RunsAnswer) -> io::Result<()> {
+// How many there are of what was counted, or 100 + number and the place if the call refuses.
+pub(crate) fn show_count(
+    rt: &impl Print,
+    asked: &[u8],
+    answer: Result<usize, Refusal>,
+) -> io::Result<()> {
     match answer {
-        RunsAnswer::Filled { runs } => show(rt, asked, runs as u64, 0),
-        RunsAnswer::Refused { number, place } => show(rt, asked, 100 + number as u64, place as u64),
+        Ok(count) => show(rt, asked, count as u64, 0),
+        Err(refusal) => show_refusal(rt, asked, refusal),
     }
 }
 
@@ -99,13 +102,8 @@ fn runs_all(rt: &impl Print) -> io::Result<()> {
 // The weight of a handle in the run list of the sheet, or 100 + number and the place if refused.
 fn show_weight(rt: &impl Print, asked: &[u8], n: usize, handle: usize) -> io::Result<()> {
     match weight::weight(&[2, 5, 3, 7, 2], &[1, 3, 5, 7, 10], n, handle) {
-        WeightAnswer::Found { weight } => show(rt, asked, weight as u64, 0),
-        WeightAnswer::Refused { number, place } => show(
-            rt,
-            asked,
-            100 + number as u64,
-            place as u64,
-        ),
+        Ok(weight) => show(rt, asked, u64::from(weight), 0),
+        Err(refusal) => show_refusal(rt, asked, refusal),
     }
 }
 
@@ -187,15 +185,7 @@ fn show_check(
 ) -> io::Result<()> {
     let mut work = [0u32; 64];
     let answer = repeats::check(k, letters, ends, weights, &mut work);
-    match answer {
-        CheckAnswer::Checked { kmers } => show(rt, asked, kmers as u64, 0),
-        CheckAnswer::Refused { number, place } => show(
-            rt,
-            asked,
-            100 + number as u64,
-            place as u64,
-        ),
-    }
+    show_count(rt, asked, answer)
 }
 
 // Two strings of three letters.

@@ -1,7 +1,7 @@
 // The sheet of the examples as it was given: COVER finds places, APPLY writes the new collection, RUNS counts its runs.
-use crate::{show, show_count};
-use apply::ApplyAnswer;
-use cover::CoverAnswer;
+use crate::{show, show_count, show_refusal};
+use collection::Refusal;
+use cover::Covered;
 use std::io;
 
 const LETTERS: [u8; 18] = *b"AAACCAGATCAGCCTACA";
@@ -42,28 +42,19 @@ fn show_applied(rt: &impl Print, asked: &[u8], places: &[i32]) -> io::Result<()>
         &mut work,
     );
     match answer {
-        ApplyAnswer::Filled {
-            letters: _,
-            ends: _,
-            weights: _,
-        } => show_runs(rt, asked, &letters, &ends, &weights),
-        ApplyAnswer::Refused { number, place } => show(
-            rt,
-            asked,
-            100 + number as u64,
-            place as u64,
-        ),
+        Ok(_) => show_runs(rt, asked, &letters, &ends, &weights),
+        Err(refusal) => show_refusal(rt, asked, refusal),
     }
 }
 
-fn show_cover(rt: &impl Print, answer: CoverAnswer) -> io::Result<()> {
+fn show_cover(rt: &impl Print, answer: Result<Covered, Refusal>) -> io::Result<()> {
     match answer {
-        CoverAnswer::Covered { places, paths } => show(rt, b"covered", places as u64, paths as u64),
-        CoverAnswer::Refused { number, place } => show(
+        Ok(covered) => show(rt, b"covered", covered.places as u64, covered.paths as u64),
+        Err(refusal) => show(
             rt,
             b"cover refused",
-            number as u64,
-            place as u64,
+            u64::from(refusal.number()),
+            refusal.place() as u64,
         ),
     }
 }

@@ -15,8 +15,9 @@ use Rattle.lists.proofs.Every.{and_left, and_right, and_both, all_map}
 use Rattle.lists.proofs.First.{first_none}
 use Rattle.alphabet.specs.Letter.{is_letter}
 use Rattle.collection.specs.Collection.{Spelling, Collection, spelling_of}
-use Rattle.collection.specs.declared.Verdict.TheVariants.{Good, Bad}
-use Rattle.collection.specs.Verdict.{at_place}
+use Rattle.std.specs.Prelude.{Err}
+use Rattle.collection.specs.declared.refusal.Refusal.TheVariants.{Sizes, Limits, Ends, Letters, Weights, Question}
+use Rattle.collection.specs.Verdict.{good, at_place}
 use Rattle.collection.specs.Judge.{
   k_verdict,
   size_verdict,
@@ -37,25 +38,25 @@ use Rattle.collection.proofs.Verdicts.{both_good, test_good, place_good}
 -- ─── 2 and 3 ─────────────────────────────────────────────────────────────────
 
 -- what passes 2
-pub k_good : (k : ℕ) → k_verdict k ≡ Good → (least_k ≤ k) × (k ≤ most_k)
+pub k_good : (k : ℕ) → k_verdict k ≡ good → (least_k ≤ k) × (k ≤ most_k)
 unfolding k_verdict
 k_good k h =
-    let t = (test_good (leb least_k k && leb k most_k) 2 0 Good h).0 in
+    let t = (test_good (leb least_k k && leb k most_k) Sizes good h).0 in
     (leb-true least_k k (and_left (leb least_k k) (leb k most_k) t), leb-true k most_k (and_right (leb least_k k) (leb k most_k) t))
 
 -- what passes 3
-pub size_good : (N m : ℕ) → size_verdict N m ≡ Good → (N ≤ most_letters) × (m ≤ most_strings)
+pub size_good : (N m : ℕ) → size_verdict N m ≡ good → (N ≤ most_letters) × (m ≤ most_strings)
 unfolding size_verdict
 size_good N m h =
-    let t = (test_good (leb N most_letters && leb m most_strings) 3 0 Good h).0 in (
+    let t = (test_good (leb N most_letters && leb m most_strings) Limits good h).0 in (
       leb-true N most_letters (and_left (leb N most_letters) (leb m most_strings) t),
       leb-true m most_strings (and_right (leb N most_letters) (leb m most_strings) t),
     )
 
 -- within the limits nothing is refused by 3
-pub good_size : {N m : ℕ} → N ≤ most_letters → m ≤ most_strings → size_verdict N m ≡ Good
+pub good_size : {N m : ℕ} → N ≤ most_letters → m ≤ most_strings → size_verdict N m ≡ good
 unfolding size_verdict
-good_size {N} {m} a b = ap (λ t. choose t Good (Bad 3 0)) (and_both (le-leb N most_letters a) (le-leb m most_strings b))
+good_size {N} {m} a b = ap (λ t. choose t good (Err Limits)) (and_both (le-leb N most_letters a) (le-leb m most_strings b))
 
 -- ─── 4 ───────────────────────────────────────────────────────────────────────
 
@@ -78,11 +79,11 @@ ends_room k i before (e ∷ ends) h =
     rw suc-mul (omega arith)
 
 -- what passes 4
-pub ends_good : (k N : ℕ) (ends : List ℕ) → ends_verdict k N ends ≡ Good → (first_short k 0 0 ends ≡ 0) × (last_end 0 ends ≡ N)
+pub ends_good : (k N : ℕ) (ends : List ℕ) → ends_verdict k N ends ≡ good → (first_short k 0 0 ends ≡ 0) × (last_end 0 ends ≡ N)
 unfolding ends_verdict
 ends_good k N ends h =
-    let a = both_good (at_place 4 (first_short k 0 0 ends)) _ h in
-    (place_good 4 _ a.0, eqb-true _ _ (test_good (eqb (last_end 0 ends) N) 4 (length ends + 1) Good a.1).0)
+    let a = both_good (at_place Ends (first_short k 0 0 ends)) _ h in
+    (place_good Ends _ a.0, eqb-true _ _ (test_good (eqb (last_end 0 ends) N) (Ends (length ends + 1)) good a.1).0)
 
 -- ─── 2, 3, 4 together ────────────────────────────────────────────────────────
 
@@ -97,7 +98,7 @@ pub record Shape (t : Spelling) : Type 0 where
   pub room : length t.ends * t.k ≤ length t.letters
 
 -- what passes 2, 3 and 4
-pub shape_good : (t : Spelling) → shape_verdict t ≡ Good → Shape t
+pub shape_good : (t : Spelling) → shape_verdict t ≡ good → Shape t
 unfolding shape_verdict
 shape_good t h =
     let a = both_good (k_verdict t.k) _ h in
@@ -121,17 +122,17 @@ shape_long s = record { k_low = omega (arith, s.k_low); k_high = s.k_high; few =
 -- ─── 5 and 6 ─────────────────────────────────────────────────────────────────
 
 -- what passes 5
-pub letters_good : (letters : List ℕ) → letters_verdict letters ≡ Good → All (λ b. is_letter b ≡ true) letters
+pub letters_good : (letters : List ℕ) → letters_verdict letters ≡ good → All (λ b. is_letter b ≡ true) letters
 unfolding letters_verdict
 letters_good letters h =
-    all_map (λ b e. not-false (is_letter b) e) letters (first_none (λ b. not (is_letter b)) letters (place_good 5 _ h))
+    all_map (λ b e. not-false (is_letter b) e) letters (first_none (λ b. not (is_letter b)) letters (place_good Letters _ h))
 
 -- what passes 6
-pub weights_good : (n : ℕ) (weights : List ℕ) → weights_verdict n weights ≡ Good → (length weights ≡ n) × All (λ w. is_weight w ≡ true) weights
+pub weights_good : (n : ℕ) (weights : List ℕ) → weights_verdict n weights ≡ good → (length weights ≡ n) × All (λ w. is_weight w ≡ true) weights
 unfolding weights_verdict
 weights_good n weights h =
-    let a = test_good (eqb (length weights) n) 6 0 _ h in
-    (eqb-true _ _ a.0, all_map (λ w e. not-false (is_weight w) e) weights (first_none (λ w. not (is_weight w)) weights (place_good 6 _ a.1)))
+    let a = test_good (eqb (length weights) n) (Weights 0) _ h in
+    (eqb-true _ _ a.0, all_map (λ w e. not-false (is_weight w) e) weights (first_none (λ w. not (is_weight w)) weights (place_good Weights _ a.1)))
 
 -- what a collection that passes 2 to 6 keeps to
 pub record Judged (c : Collection) : Type 0 where
@@ -152,15 +153,15 @@ collection_good c h =
 -- ─── 9 ───────────────────────────────────────────────────────────────────────
 
 -- a handle that passes 9
-pub handle_good : (n handle : ℕ) → handle_verdict n handle ≡ Good → (1 ≤ handle) × (handle ≤ n)
+pub handle_good : (n handle : ℕ) → handle_verdict n handle ≡ good → (1 ≤ handle) × (handle ≤ n)
 unfolding handle_verdict
 handle_good n handle h =
-    let t = (test_good (leb 1 handle && leb handle n) 9 0 Good h).0 in
+    let t = (test_good (leb 1 handle && leb handle n) Question good h).0 in
     (leb-true 1 handle (and_left (leb 1 handle) (leb handle n) t), leb-true handle n (and_right (leb 1 handle) (leb handle n) t))
 
 -- a word that passes 9
-pub word_good : (k : ℕ) (word : List ℕ) → word_verdict k word ≡ Good → (length word ≡ k) × (every is_letter word ≡ true)
+pub word_good : (k : ℕ) (word : List ℕ) → word_verdict k word ≡ good → (length word ≡ k) × (every is_letter word ≡ true)
 unfolding word_verdict
 word_good k word h =
-    let t = (test_good (eqb (length word) k && every is_letter word) 9 0 Good h).0 in
+    let t = (test_good (eqb (length word) k && every is_letter word) Question good h).0 in
     (eqb-true (length word) k (and_left (eqb (length word) k) (every is_letter word) t), and_right (eqb (length word) k) (every is_letter word) t)

@@ -13,7 +13,9 @@ use Rattle.lists.specs.Every.{All}
 use Rattle.lists.proofs.Every.{all_append, all_take, all_drop}
 use Rattle.alphabet.specs.Letter.{is_letter}
 use Rattle.collection.specs.Collection.{Collection, spelling_of}
-use Rattle.collection.specs.declared.Verdict.TheVariants.{Good, Bad}
+use Rattle.std.specs.Prelude.{Err}
+use Rattle.collection.specs.declared.refusal.Refusal.TheVariants.{Ends, Letters, Weights}
+use Rattle.collection.specs.Verdict.{good}
 use Rattle.collection.specs.Judge.{k_verdict, size_verdict, ends_verdict, shape_verdict, kmers_in, letters_verdict, weights_verdict, collection_verdict, Passes}
 use Rattle.collection_faults.specs.Faults.{first_short, last_end, is_weight}
 use Rattle.collection.specs.Kmers.{within}
@@ -134,7 +136,7 @@ each_weights P k before letters (e ∷ ends) weights h = (
 )
 
 -- the tables of strings pass 2 to 6
-pub tables_pass : (k : ℕ) (ss : List Str) → k_verdict k ≡ Good → size_verdict (length (letters_in ss)) (length ss) ≡ Good
+pub tables_pass : (k : ℕ) (ss : List Str) → k_verdict k ≡ good → size_verdict (length (letters_in ss)) (length ss) ≡ good
     → All (Whole k) ss → All (λ s. All (λ b. is_letter b ≡ true) s.letters) ss → All (λ s. All (λ w. is_weight w ≡ true) s.weights) ss
     → Passes (joined k ss)
 unfolding collection_verdict shape_verdict ends_verdict letters_verdict weights_verdict
@@ -144,10 +146,11 @@ tables_pass k ss range size whole letters weights =
     then_good _
     (then_good _ range
     (then_good _ (ap (size_verdict (length (letters_in ss))) (ends-length 0 ss) ∙ size)
-    (then_good _ (sym (place_none 4 (ends_long k 0 0 ss whole)))
-    (ap (λ t. choose t Good (Bad 4 (length (ends_in 0 ss) + 1))) (eq-eqb _ _ last)))))
-    (then_good _ (sym (place_none 5 (every_first is_letter (letters_in ss) (all-letters_in _ ss letters))))
-    (rw (eq-eqb _ _ (weights-counted k ss (omega arith) whole)) (sym (place_none 6 (every_first is_weight (weights_in ss) (all-weights_in _ ss weights))))))
+    (then_good _ (sym (place_none Ends (ends_long k 0 0 ss whole)))
+    (ap (λ t. choose t good (Err (Ends (length (ends_in 0 ss) + 1)))) (eq-eqb _ _ last)))))
+    (then_good _ (sym (place_none Letters (every_first is_letter (letters_in ss) (all-letters_in _ ss letters))))
+    (rw (eq-eqb _ _ (weights-counted k ss (omega arith) whole))
+    (sym (place_none Weights (every_first is_weight (weights_in ss) (all-weights_in _ ss weights))))))
 
 -- ─── tables, cut, are the tables of their strings ────────────────────────────
 

@@ -3,9 +3,8 @@
 use Rattle.std.specs.Prelude.{List, ℕ, length, take}
 use Rattle.lists.specs.Fill.{fill}
 use Rattle.collection.specs.Collection.{Collection, collection}
-use Rattle.collection.specs.declared.Verdict.{Verdict}
 use Rattle.collection.specs.Strings.{Str, letters_in, ends_in, weights_in}
-use Rattle.collection.specs.Verdict.{and_then, room_verdict}
+use Rattle.collection.specs.Verdict.{Verdict, and_then, room_verdict}
 
 -- tables for letters, ends and weights
 pub record Tables : Type 0 where

@@ -1,31 +1,81 @@
 -- Verdicts: a call finds nothing to refuse, or refuses with a number and a place.
 -- Specification: 8.1, 8.3, 8.4.
-use Rattle.std.specs.Prelude.{ℕ, zero, suc, ltb}
+use Rattle.std.specs.Prelude.{ℕ, zero, suc, ltb, Result, Ok, Err}
 use Rattle.lists.specs.Choose.{choose}
-use Rattle.collection.specs.declared.Told.{Told}
-use Rattle.collection.specs.declared.Verdict.{Verdict}
-use Rattle.collection.specs.declared.Verdict.TheVariants.{Good, Bad}
+use Rattle.collection.specs.declared.refusal.Told.{Told}
+use Rattle.collection.specs.declared.refusal.Refusal.{Refusal}
+use Rattle.collection.specs.declared.refusal.Refusal.TheVariants.{
+  Room,
+  Sizes,
+  Limits,
+  Ends,
+  Letters,
+  Weights,
+  Repeated,
+  Places,
+  Question,
+  Index,
+  Line,
+  RunList,
+}
+
+-- the number of a refusal
+abbrev pub number_of : Refusal → ℕ
+number_of Room = 1
+number_of Sizes = 2
+number_of Limits = 3
+number_of (Ends place) = 4
+number_of (Letters place) = 5
+number_of (Weights place) = 6
+number_of (Repeated place) = 7
+number_of (Places place) = 8
+number_of Question = 9
+number_of Index = 10
+number_of (Line place) = 11
+number_of RunList = 12
+
+-- its place; 0 where the table of refusals gives it none
+abbrev pub place_of : Refusal → ℕ
+place_of Room = 0
+place_of Sizes = 0
+place_of Limits = 0
+place_of (Ends place) = place
+place_of (Letters place) = place
+place_of (Weights place) = place
+place_of (Repeated place) = place
+place_of (Places place) = place
+place_of Question = 0
+place_of Index = 0
+place_of (Line place) = place
+place_of RunList = 0
+
+-- nothing to refuse, or the first refusal
+abbrev pub Verdict : Type 0
+Verdict = Result (Unit {0}) Refusal
+
+abbrev pub good : Verdict
+good = Ok tt
 
 -- the number and the place of a refusal; 0 and 0 where nothing is refused
 unfoldable pub told : Verdict → Told
-told Good = record { number = 0; place = 0 }
-told (Bad number place) = record { number = number; place = place }
+told (Ok u) = record { number = 0; place = 0 }
+told (Err r) = record { number = number_of r; place = place_of r }
 
 -- a refusal at the place of the first that is wrong; none where that place is 0
-unfoldable pub at_place : ℕ → ℕ → Verdict
-at_place number zero = Good
-at_place number (suc place) = Bad number (suc place)
+unfoldable pub at_place : (ℕ → Refusal) → ℕ → Verdict
+at_place refusal zero = good
+at_place refusal (suc place) = Err (refusal (suc place))
 
 -- the order of refusals: the second verdict counts where the first is good
 unfoldable pub and_then : Verdict → Verdict → Verdict
-and_then Good next = next
-and_then (Bad number place) next = Bad number place
+and_then (Ok u) next = next
+and_then (Err r) next = Err r
 
 -- what a call comes to: what it answers to a refusal, or what it does where nothing is refused
-unfoldable pub settle : {Out : Type 0} → Verdict → (ℕ → ℕ → Out) → Out → Out
-settle Good refuse done = done
-settle (Bad number place) refuse done = refuse number place
+unfoldable pub settle : {Out : Type 0} → Verdict → (Refusal → Out) → Out → Out
+settle (Ok u) refuse done = done
+settle (Err r) refuse done = refuse r
 
 -- 1: a lent table of `have` entries where `need` are needed
 unfoldable pub room_verdict : ℕ → ℕ → Verdict
-room_verdict have need = choose (ltb have need) (Bad 1 0) Good
+room_verdict have need = choose (ltb have need) (Err Room) good

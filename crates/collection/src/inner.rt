@@ -17,9 +17,5 @@ pub fn zero_first(work: &mut [u32], n: usize)
     requires { n ≤ length work.old }
     ensures { work.new ≡ fill (replicate n 0) work.old }
 {
-    let mut i = 0;
-    while i < n {
-        work[i] = 0;
-        i += 1;
-    }
+    work[..n].fill(0);
 }

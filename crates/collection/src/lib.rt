@@ -4,6 +4,7 @@
 
 pub mod inner;
 mod judging;
+mod refusal;
 
 ghost use Rattle.std.specs.Prelude.{◌≡◌};
 ghost use Rattle.collection.specs.Collection.{spelling, collection};
@@ -11,98 +12,76 @@ ghost use Rattle.collection.specs.Tables.{rooms, rooms_verdict};
 ghost use Rattle.collection.specs.Verdict.{room_verdict};
 ghost use Rattle.collection.specs.Judge.{k_verdict, size_verdict, shape_verdict, collection_verdict, handle_verdict, word_verdict};
 
-// What judging finds: nothing to refuse, or the first refusal, in the order of the specification (8.3).
-#[derive(Clone, Copy)]
-pub enum Verdict {
-    Good,
-    Bad { number: u32, place: usize },
-}
-
-// The number and the place of a refusal; 0 and 0 where nothing is refused.
-#[derive(Clone, Copy)]
-pub struct Told {
-    pub number: u32,
-    pub place: usize,
-}
+pub use refusal::{Refusal, Told};
 
 // As it was asked (+), or as its reverse complement (-).
-#[derive(Clone, Copy)]
+#[derive(Clone, Copy, Debug, PartialEq, Eq)]
 pub enum Side {
     Asked,
     Turned,
 }
 
 // 2: k outside its range.
-pub fn judge_k(k: usize) -> Verdict
+#[tactic(auto, unfolding(crate::specs::Judge::k_verdict))]
+pub fn judge_k(k: usize) -> Result<(), Refusal>
     ensures { result ≡ k_verdict k }
 {
     if (3 <= k) & (k <= 31) {
-        return Verdict::Good;
+        return Ok(());
     }
-    Verdict::Bad {
-        number: 2,
-        place: 0,
-    }
+    Err(Refusal::Sizes)
 }
 
 // 3: too many letters or strings.
-pub fn judge_size(letters: usize, strings: usize) -> Verdict
+#[tactic(auto, unfolding(crate::specs::Judge::size_verdict))]
+pub fn judge_size(letters: usize, strings: usize) -> Result<(), Refusal>
     ensures { result ≡ size_verdict letters strings }
 {
     if (letters <= 1048576) & (strings <= 65536) {
-        return Verdict::Good;
+        return Ok(());
     }
-    Verdict::Bad {
-        number: 3,
-        place: 0,
-    }
+    Err(Refusal::Limits)
 }
 
 // 2, 3, 4: the strings have their places.
-pub fn judge_shape(k: usize, letters: &[u8], ends: &[u32]) -> Verdict
+#[tactic(auto, unfolding(crate::specs::Judge::shape_verdict, crate::specs::Verdict::and_then), using(crate::proofs::Judged::k_good))]
+pub fn judge_shape(k: usize, letters: &[u8], ends: &[u32]) -> Result<(), Refusal>
     ensures { result ≡ shape_verdict (spelling k letters.now ends.now) }
 {
-    let a = judge_k(k);
-    let Verdict::Good = a else {
-        return a;
-    };
-    let b = judge_size(letters.len(), ends.len());
-    let Verdict::Good = b else {
-        return b;
-    };
+    judge_k(k)?;
+    judge_size(letters.len(), ends.len())?;
     judging::judge_ends(k, letters.len(), ends)
 }
 
 // 2 to 6, in order.
-pub fn judge_collection(k: usize, letters: &[u8], ends: &[u32], weights: &[u32]) -> Verdict
+#[tactic(auto, unfolding(crate::specs::Judge::collection_verdict, crate::specs::Verdict::and_then))]
+pub fn judge_collection(
+    k: usize,
+    letters: &[u8],
+    ends: &[u32],
+    weights: &[u32],
+) -> Result<(), Refusal>
     ensures { result ≡ collection_verdict (collection k letters.now ends.now weights.now) }
 {
-    let a = judge_shape(k, letters, ends);
-    let Verdict::Good = a else {
-        return a;
-    };
-    let b = judging::judge_letters(letters);
-    let Verdict::Good = b else {
-        return b;
-    };
+    judge_shape(k, letters, ends)?;
+    judging::judge_letters(letters)?;
     let n = inner::kmer_count(k, letters.len(), ends.len());
     judging::judge_weights(n, weights)
 }
 
 // 1: a lent table of `have` entries where `need` are needed.
-pub fn judge_room(have: usize, need: usize) -> Verdict
+#[tactic(auto, unfolding(crate::specs::Verdict::room_verdict))]
+pub fn judge_room(have: usize, need: usize) -> Result<(), Refusal>
     ensures { result ≡ room_verdict have need }
 {
     if have < need {
-        return Verdict::Bad {
-            number: 1,
-            place: 0,
-        };
+        return Err(Refusal::Room);
     }
-    Verdict::Good
+    Ok(())
 }
 
 // 1: tables of these lengths for so many letters, ends and weights.
+#[tactic(auto, unfolding(crate::specs::Tables::rooms_verdict, crate::specs::Verdict::and_then))]
 pub fn judge_rooms(
     letters: usize,
     ends: usize,
@@ -110,42 +89,32 @@ pub fn judge_rooms(
     need_letters: usize,
     need_ends: usize,
     need_weights: usize,
-) -> Verdict
+) -> Result<(), Refusal>
     ensures { result ≡ rooms_verdict (rooms letters ends weights) need_letters need_ends need_weights }
 {
-    let a = judge_room(letters, need_letters);
-    let Verdict::Good = a else {
-        return a;
-    };
-    let b = judge_room(ends, need_ends);
-    let Verdict::Good = b else {
-        return b;
-    };
+    judge_room(letters, need_letters)?;
+    judge_room(ends, need_ends)?;
     judge_room(weights, need_weights)
 }
 
 // 9: a handle that is not 1 to n.
-pub fn judge_handle(n: usize, handle: usize) -> Verdict
+#[tactic(auto, unfolding(crate::specs::Judge::handle_verdict))]
+pub fn judge_handle(n: usize, handle: usize) -> Result<(), Refusal>
     ensures { result ≡ handle_verdict n handle }
 {
     if (1 <= handle) & (handle <= n) {
-        return Verdict::Good;
+        return Ok(());
     }
-    Verdict::Bad {
-        number: 9,
-        place: 0,
-    }
+    Err(Refusal::Question)
 }
 
 // 9: an asked word that is not k letters.
-pub fn judge_word(k: usize, word: &[u8]) -> Verdict
+#[tactic(auto, unfolding(crate::specs::Judge::word_verdict))]
+pub fn judge_word(k: usize, word: &[u8]) -> Result<(), Refusal>
     ensures { result ≡ word_verdict k word.now }
 {
     if (word.len() == k) & alphabet::all_letters(word) {
-        return Verdict::Good;
+        return Ok(());
     }
-    Verdict::Bad {
-        number: 9,
-        place: 0,
-    }
+    Err(Refusal::Question)
 }

@@ -1,6 +1,6 @@
 -- How loops over one table find its first fault, or that there is none. Assumes nothing.
 use mathlib.Core.Path.{◌≡◌, refl, sym, ap, ◌∙◌}
-use mathlib.Core.Bool.{Bool, true, not, ◌&&◌}
+use mathlib.Core.Bool.{Bool, true, false, not, ◌&&◌}
 use mathlib.Core.List.{List, [], ◌∷◌}
 use Prim.Native.Nat.{ℕ, ◌+◌, ◌-◌, ◌<◌, ◌≤◌, ◌^◌}
 use native.Mathlib.Numerals.{add-one, sub-one}
@@ -10,11 +10,13 @@ use borrow.Author.Tests.{le-leb, lt-leb, ne_eqb, lt-ltb, le-ltb, leb-true}
 use lib.Dec.{leb, eqb}
 use lib.ListN.{length, drop, get_or, drop_of_length-le}
 use lib.Seq.{drop-cons}
+use Rattle.std.specs.List.{HoldsAt, AllWithin}
 use Rattle.lists.specs.Every.{All}
 use Rattle.lists.specs.First.{first_that}
 use Rattle.lists.specs.Limits.{most_weight}
-use Rattle.lists.proofs.Every.{and_assoc, and_true, all_map, and_right}
+use Rattle.lists.proofs.Every.{and_assoc, and_true, all_map, at_all, and_right}
 use Rattle.lists.proofs.First.{none_first}
+use Rattle.lists.proofs.FirstAt.{first_at}
 use Rattle.collection_faults.specs.Faults.{first_short, last_end, is_weight}
 
 -- ─── short strings ───────────────────────────────────────────────────────────
@@ -82,6 +84,14 @@ last_none (e ∷ ends) h = absurd (omega arith)
 -- a test of a whole table that all pass finds no first that fails
 pub every_first : (test : ℕ → Bool) (xs : List ℕ) → All (λ x. test x ≡ true) xs → first_that (λ x. not (test x)) xs ≡ 0
 every_first test xs h = none_first (λ x. not (test x)) xs (all_map (λ x e. ap not e) xs h)
+
+-- what `position` finds is the first
+module _ (test : ℕ → Bool) (xs : List ℕ) where
+  pub first_found : (i : ℕ) → (i < length xs) × HoldsAt (λ x. test x ≡ true) xs i × AllWithin (λ x. test x ≡ false) xs 0 i → i + 1 ≡ first_that test xs
+  first_found i h = sym (first_at test 0 xs i h.0 (h.1 0) (λ j l. h.2 j 0 (omega arith) l) ∙ sym (add-one i))
+
+  pub first_missing : AllWithin (λ x. test x ≡ false) xs 0 (length xs) → 0 ≡ first_that test xs
+  first_missing h = sym (none_first test xs (at_all (λ x. test x ≡ false) 0 xs (λ j l. h j 0 (omega arith) l)))
 
 -- ─── weights ─────────────────────────────────────────────────────────────────
 

@@ -14,12 +14,10 @@ fn none_short(k: usize, ends: &[u32]) -> bool
 {
     let mut good = true;
     let mut before: usize = 0;
-    let mut i = 0;
-    while i < ends.len() {
-        let e = ends[i] as usize;
+    for end in ends {
+        let e = *end as usize;
         good = good & (before + k <= e);
         before = e;
-        i += 1;
     }
     good
 }
@@ -33,14 +31,12 @@ pub fn first_short(k: usize, ends: &[u32]) -> usize
         return 0;
     }
     let mut before: usize = 0;
-    let mut i = 0;
-    while i < ends.len() {
-        let e = ends[i] as usize;
+    for (i, end) in ends.iter().enumerate() {
+        let e = *end as usize;
         if e < before + k {
             return i + 1;
         }
         before = e;
-        i += 1;
     }
     0
 }
@@ -49,11 +45,10 @@ pub fn first_short(k: usize, ends: &[u32]) -> usize
 pub fn last_end(ends: &[u32]) -> usize
     ensures { result ≡ last_end 0 ends.now }
 {
-    let m = ends.len();
-    if m == 0 {
-        return 0;
+    match ends.last() {
+        Some(end) => *end as usize,
+        None => 0,
     }
-    ends[m - 1] as usize
 }
 
 // The place of the first byte that is no letter, or 0.
@@ -63,14 +58,10 @@ pub fn first_other(letters: &[u8]) -> usize
     if alphabet::all_letters(letters) {
         return 0;
     }
-    let mut i = 0;
-    while i < letters.len() {
-        if !alphabet::is_letter(letters[i]) {
-            return i + 1;
-        }
-        i += 1;
+    match letters.iter().position(|b| !alphabet::is_letter(*b)) {
+        Some(i) => i + 1,
+        None => 0,
     }
-    0
 }
 
 // Whether all weights are in range.
@@ -78,10 +69,8 @@ fn all_weights(weights: &[u32]) -> bool
     ensures { result ≡ every is_weight weights.now }
 {
     let mut good = true;
-    let mut i = 0;
-    while i < weights.len() {
-        good = good & crate::is_weight(weights[i]);
-        i += 1;
+    for w in weights {
+        good = good & crate::is_weight(*w);
     }
     good
 }
@@ -93,12 +82,8 @@ pub fn first_weight(weights: &[u32]) -> usize
     if all_weights(weights) {
         return 0;
     }
-    let mut i = 0;
-    while i < weights.len() {
-        if !crate::is_weight(weights[i]) {
-            return i + 1;
-        }
-        i += 1;
+    match weights.iter().position(|w| !crate::is_weight(*w)) {
+        Some(i) => i + 1,
+        None => 0,
     }
-    0
 }

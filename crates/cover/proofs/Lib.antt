@@ -1,6 +1,6 @@
 -- Laws of COVER, one file a topic.
 pub mod Signs
 pub mod PlacedHalves
-pub mod Covered
+pub mod Covers
 pub mod Promised
 pub mod Laws

@@ -3,17 +3,19 @@ use mathlib.Core.Path.{◌≡◌, refl, ap, ap₂, sym, ◌∙◌, subst}
 use mathlib.Core.Logic.{inl, inr}
 use mathlib.Core.Bool.{Bool, false}
 use mathlib.Core.List.{List, [], ◌∷◌, map}
-use Prim.Native.Nat.{ℕ, zero, suc, ◌+◌, ◌*◌, ◌/◌, ◌%◌, ◌<◌, ◌≤◌}
+use Prim.Native.Nat.{ℕ, zero, suc, ◌+◌, ◌-◌, ◌*◌, ◌/◌, ◌%◌, ◌<◌, ◌≤◌}
 use native.Mathlib.Omega.{arith}
 use native.Mathlib.Decide.{ℕ_discrete, dec_lt}
 use borrow.Author.Tests.{lt-ltb, le-ltb, eq-eqb, ne_eqb}
 use lib.Dec.{eqb, ltb}
 use lib.IntN.{ℤ, pos}
-use lib.ListN.{length, get_or, set, drop, length-set, drop_of_length-le}
+use lib.ListN.{length, get_or, set, take, drop, length-set, drop_of_length-le}
 use Rattle.lists.proofs.Storing.{drop_next}
-use lib.Seq.{get_or-set_same, get_or-set_other}
+use lib.Seq.{get_or-set_same, get_or-set_other, drop-drop}
+use Rattle.std.proofs.lemmas.Slice.{between_is}
 use Rattle.lists.specs.Choose.{choose}
 use Rattle.lists.specs.Count.{agree}
+use Rattle.lists.specs.Regions.{part}
 use Rattle.cover_trails.specs.Counting.{occurs}
 use Rattle.cover_trails.specs.Places.{signed}
 use Rattle.cover_trails.specs.Strings.{Ends, front, back, turned}
@@ -21,6 +23,7 @@ use Rattle.cover_trails.specs.Hub.{unspoked}
 use Rattle.cover_trails.proofs.Arranged.{marked}
 use Rattle.lists.proofs.Agree.{agree_same, agree-other, Agreeing, agree_cases}
 use Rattle.cover_tours.specs.Halves.{near, other, gone, numbered}
+use Rattle.cover_tours.specs.Layout.{tables}
 use Rattle.cover_tours.specs.States.{numbers}
 use Rattle.cover_tours.proofs.Halves.{near-string, near_hub}
 use Rattle.cover.specs.Covering.{counted, placed_by, place_all}
@@ -232,28 +235,35 @@ module _ (m : ℕ) (verts : List ℕ) (low : (c : ℕ) → c < 2 * m → get_or 
 
 -- ─── a loop that gives the places ────────────────────────────────────────────
 
--- the halves up to entry p have given n places: the rest of them gives all
-pub record Giving (m start : ℕ) (stack : List ℕ) (ps₀ ps : List ℤ) (n p : ℕ) : Type 0 where
-  pub inside : p ≤ 3 * m
-  pub few : n ≤ p
+-- the first i halves have given n places: the rest of them gives all
+pub record Giving (m : ℕ) (halves : List ℕ) (ps₀ ps : List ℤ) (n i : ℕ) : Type 0 where
+  pub few : n ≤ i
   pub size : length ps ≡ m
-  pub rest : place_all m n (drop p stack) ps ≡ place_all m 0 (drop start stack) ps₀
+  pub rest : place_all m n (drop i halves) ps ≡ place_all m 0 halves ps₀
 
-module _ {m start : ℕ} {stack : List ℕ} {ps₀ ps : List ℤ} {n p : ℕ} (g : Giving m start stack ps₀ ps n p) (k : length stack ≡ 3 * m) where
+module _ {m : ℕ} {halves : List ℕ} {ps₀ ps : List ℤ} {n i : ℕ} (g : Giving m halves ps₀ ps n i) where
   -- the next half gives its place
-  pub giving_on : p < 3 * m → (c : ℕ) → c ≡ get_or stack p 0 → {qs : List ℤ} {i : ℕ} → qs ≡ placed_by m n c ps → i ≡ counted m n c
-      → Giving m start stack ps₀ qs i (p + 1)
+  pub giving_on : i < length halves → {qs : List ℤ} {j : ℕ} → qs ≡ placed_by m n (get_or halves i 0) ps → j ≡ counted m n (get_or halves i 0)
+      → Giving m halves ps₀ qs j (i + 1)
   unfolding place_all
-  giving_on l c is {qs} {i} a b = record {
-    inside = omega arith;
-    few = rw b (omega (arith, counted_le m n c, g.few));
-    size = ap length a ∙ (length_placed m n c ps ∙ g.size);
-    rest =
-        ap₂ (λ (x : ℕ) (y : List ℤ). place_all m x (drop (p + 1) stack) y) b a
-        ∙ (sym (ap (λ (cs : List ℕ). place_all m n cs ps) (drop_next stack p 0 (omega arith) ∙ ap (λ (x : ℕ). x ∷ drop (p + 1) stack) (sym is))) ∙ g.rest);
-  }
+  giving_on l {qs} {j} a b =
+      let c : ℕ = get_or halves i 0 in
+      record {
+        few = rw b (omega (arith, counted_le m n c, g.few));
+        size = ap length a ∙ (length_placed m n c ps ∙ g.size);
+        rest =
+            ap₂ (λ (x : ℕ) (y : List ℤ). place_all m x (drop (i + 1) halves) y) b a
+            ∙ (sym (ap (λ (cs : List ℕ). place_all m n cs ps) (drop_next halves i 0 l)) ∙ g.rest);
+      }
 
   -- all halves have given theirs
-  pub giving_end : 3 * m ≤ p → ps ≡ place_all m 0 (drop start stack) ps₀
+  pub giving_end : length halves ≤ i → ps ≡ place_all m 0 halves ps₀
   unfolding place_all
-  giving_end h = let l : length stack ≤ p = omega arith in sym (ap (λ (cs : List ℕ). place_all m n cs ps) (drop_of_length-le stack l)) ∙ g.rest
+  giving_end h = sym (ap (λ (cs : List ℕ). place_all m n cs ps) (drop_of_length-le halves h)) ∙ g.rest
+
+-- the halves from entry `start` of the stack on, as they stand in the table
+pub halves_from : (m start : ℕ) (w : List ℕ) → take (15 * m - (12 * m + start)) (drop (12 * m + start) w) ≡ drop start (tables m w).stack
+unfolding part
+halves_from m start w =
+    let e : 15 * m - (12 * m + start) ≡ 3 * m - start = omega arith in
+    ap₂ take e (sym (drop-drop start (12 * m) w)) ∙ between_is (drop (12 * m) w) start (3 * m)

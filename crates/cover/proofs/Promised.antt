@@ -6,13 +6,13 @@ use native.Mathlib.Omega.{arith}
 use lib.IntN.{ℤ}
 use lib.ListN.{length, take, drop, replicate, length-replicate}
 use lib.Seq.{length-take-le}
+use Rattle.std.specs.Prelude.{Err}
+use Rattle.collection.specs.declared.refusal.Refusal.{Refusal}
 use Rattle.lists.specs.Fill.{fill}
 use Rattle.collection.specs.Collection.{Collection, collection, spelling_of}
-use Rattle.collection.specs.declared.Verdict.{Verdict}
-use Rattle.collection.specs.declared.Verdict.TheVariants.{Good, Bad}
 use Rattle.collection.specs.Judge.{collection_verdict}
 use Rattle.collection.specs.Strings.{strings_from}
-use Rattle.collection.specs.Verdict.{room_verdict}
+use Rattle.collection.specs.Verdict.{room_verdict, Verdict, good}
 use Rattle.collection.specs.EndWeights.{end_weights}
 use Rattle.collection.proofs.Judged.{Judged, collection_good}
 use Rattle.collection.proofs.Verdicts.{both_good, room_good, refused, settled}
@@ -24,8 +24,7 @@ use Rattle.cover_trails.proofs.Paths.{paths-none}
 use Rattle.cover_tours.specs.Layout.{Fits}
 use Rattle.cover_vertices.specs.Promises.{ends_from}
 use Rattle.cover_vertices.proofs.EndWeights.{end_weights_lem}
-use Rattle.cover.specs.declared.CoverAnswer.TheVariants.{Covered, Refused}
-use Rattle.cover.specs.Cover.{cover_verdict, Fewest, PlacesAfter, CoverOf, Promise}
+use Rattle.cover.specs.Cover.{cover_verdict, Fewest, PlacesAfter, CoverOf, Promise, covered}
 use Rattle.cover.specs.Covering.{Covering}
 
 -- ─── what a good verdict tells ───────────────────────────────────────────────
@@ -37,7 +36,7 @@ pub record Roomy (c : Collection) (places : List ℤ) (work : List ℕ) : Type 0
   pub work_room : 16 * length c.ends ≤ length work
 
 -- which a good verdict tells
-pub cover_good : (c : Collection) (places : List ℤ) (work : List ℕ) → cover_verdict c places work ≡ Good → Roomy c places work
+pub cover_good : (c : Collection) (places : List ℤ) (work : List ℕ) → cover_verdict c places work ≡ good → Roomy c places work
 unfolding cover_verdict
 cover_good c places work h =
     let a = both_good (collection_verdict c) _ h in
@@ -65,20 +64,20 @@ module _ {c : Collection} {places : List ℤ} {work : List ℕ} (r : Roomy c pla
 
 module _ {verdict : Verdict} {strings : List Ends} {m : ℕ} {places : List ℤ} {work : List ℕ} where
   -- where it is refused
-  pub cover_refused : {number place : ℕ} → verdict ≡ Bad number place → CoverOf verdict strings m places work (Refused number place) places work
+  pub cover_refused : {r : Refusal} → verdict ≡ Err r → CoverOf verdict strings m places work (Err r) places work
   cover_refused e = record {
-    answered = refused Refused _ e;
-    cleared = refused (λ number place. work) _ e;
+    answered = refused Err _ e;
+    cleared = refused (λ r. work) _ e;
     placed = subst (λ (v : Verdict). PlacesAfter v strings places places) (sym e) refl;
   }
 
   -- where all strings are covered
-  pub cover_done : verdict ≡ Good → {qs places' : List ℤ} {v work' : List ℕ} {n : ℕ} → Covering strings m qs v n → places' ≡ qs ++ drop m places
+  pub cover_done : verdict ≡ good → {qs places' : List ℤ} {v work' : List ℕ} {n : ℕ} → Covering strings m qs v n → places' ≡ qs ++ drop m places
       → work' ≡ v ++ drop (16 * m) work
-      → CoverOf verdict strings m places work (Covered m n) places' work'
+      → CoverOf verdict strings m places work (covered m n) places' work'
   cover_done e {qs} {places'} {v} {work'} {n} c p w = record {
-    answered = settled Refused (ap (Covered m) c.paths) e;
-    cleared = settled (λ number place. work) (w ∙ zeros) e;
+    answered = settled Err (ap (covered m) c.paths) e;
+    cleared = settled (λ r. work) (w ∙ zeros) e;
     placed = subst (λ (x : Verdict). PlacesAfter x strings places places') (sym e)
         (qs, p ∙ ap (λ (i : ℕ). qs ++ drop i places) (sym c.places_size), c.places_fewest);
   }
@@ -102,16 +101,16 @@ no_ends k letters [] weights e = refl
 no_ends k letters (x ∷ ends) weights e = absurd (omega arith)
 
 -- so the promise is kept with no strings
-pub cover_none : {verdict : Verdict} (k : ℕ) (letters ends weights : List ℕ) {places : List ℤ} {work : List ℕ} → verdict ≡ Good → length ends ≡ 0
-    → CoverOf verdict (end_weights (collection k letters ends weights)) (length ends) places work (Covered 0 0) places work
+pub cover_none : {verdict : Verdict} (k : ℕ) (letters ends weights : List ℕ) {places : List ℤ} {work : List ℕ} → verdict ≡ good → length ends ≡ 0
+    → CoverOf verdict (end_weights (collection k letters ends weights)) (length ends) places work (covered 0 0) places work
 cover_none {verdict} k letters ends weights {places} {work} e z =
-    subst (λ (m : ℕ). CoverOf verdict (end_weights (collection k letters ends weights)) m places work (Covered 0 0) places work) (sym z)
-    (subst (λ (L : List Ends). CoverOf verdict L 0 places work (Covered 0 0) places work) (sym (no_ends k letters ends weights z))
+    subst (λ (m : ℕ). CoverOf verdict (end_weights (collection k letters ends weights)) m places work (covered 0 0) places work) (sym z)
+    (subst (λ (L : List Ends). CoverOf verdict L 0 places work (covered 0 0) places work) (sym (no_ends k letters ends weights z))
     (cover_done e (record { paths = sym no_strings.2; places_fewest = fewest_none; places_size = refl; work_zero = refl }) refl refl))
 
 -- all strings covered, in parts of the lent tables
-pub cover_all : (c : Collection) (places : List ℤ) (work : List ℕ) → cover_verdict c places work ≡ Good
+pub cover_all : (c : Collection) (places : List ℤ) (work : List ℕ) → cover_verdict c places work ≡ good
     → {qs : List ℤ} {v : List ℕ} {n : ℕ} → Covering (ends_from c.k 0 c.ends c.weights) (length c.ends) qs v n
-    → Promise c places work (Covered (length c.ends) n) (qs ++ drop (length c.ends) places) (v ++ drop (16 * length c.ends) work)
+    → Promise c places work (covered (length c.ends) n) (qs ++ drop (length c.ends) places) (v ++ drop (16 * length c.ends) work)
 cover_all c places work e {qs} {v} {n} covering =
     cover_done e (subst (λ (L : List Ends). Covering L (length c.ends) qs v n) (same_ends (cover_good c places work e)) covering) refl refl

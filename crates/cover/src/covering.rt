@@ -6,13 +6,6 @@ ghost use Rattle.cover_tours.specs.Layout.{Fits, tables};
 ghost use Rattle.cover_vertices.specs.Promises.{ends_from};
 ghost use Rattle.cover.specs.Covering.{counted, placed_by, place_all, Covering};
 
-// A number as an index.
-fn wide(x: u32) -> usize
-    ensures { result ≡ x }
-{
-    x as usize
-}
-
 // The signed place of a number.
 fn place_for(n: usize, turned: bool) -> i32
     requires { n ≤ 1048576 }
@@ -43,11 +36,8 @@ fn write_places(work: &[u32], m: usize, start: usize, places: &mut [i32])
     ensures { places.new ≡ place_all m 0 (drop start (tables m work.now).stack) places.old }
 {
     let mut n = 0;
-    let mut p = start;
-    while p < 3 * m {
-        let c = wide(work[12 * m + p]);
-        n = place_one(places, m, n, c);
-        p += 1;
+    for c in &work[12 * m + start..15 * m] {
+        n = place_one(places, m, n, *c as usize);
     }
 }
 

@@ -7,16 +7,17 @@ ghost use Rattle.std.specs.Prelude.{◌≡◌};
 ghost use Rattle.cover.specs.Cover.{cover_verdict, Promise};
 ghost use Rattle.collection.specs.Collection.{collection};
 
-use collection::Verdict;
+use collection::Refusal;
 
-// What COVER answers.
-#[derive(Clone, Copy)]
-pub enum CoverAnswer {
-    Covered { places: usize, paths: usize },
-    Refused { number: u32, place: usize },
+// What COVER answers: how many places it filled, and how many paths they make.
+#[derive(Clone, Copy, Debug, PartialEq, Eq)]
+pub struct Covered {
+    pub places: usize,
+    pub paths: usize,
 }
 
 // Judges the collection (2 to 6), then the room for the places and the work (1).
+#[tactic(auto, unfolding(crate::specs::Cover::cover_verdict, collection::specs::Verdict::and_then))]
 fn judge_cover(
     k: usize,
     letters: &[u8],
@@ -24,18 +25,12 @@ fn judge_cover(
     weights: &[u32],
     places: &[i32],
     work: &[u32],
-) -> Verdict
+) -> Result<(), Refusal>
     ensures { result ≡ cover_verdict (collection k letters.now ends.now weights.now) places.now work.now }
 {
-    let a = collection::judge_collection(k, letters, ends, weights);
-    let Verdict::Good = a else {
-        return a;
-    };
+    collection::judge_collection(k, letters, ends, weights)?;
     let m = ends.len();
-    let b = collection::judge_room(places.len(), m);
-    let Verdict::Good = b else {
-        return b;
-    };
+    collection::judge_room(places.len(), m)?;
     collection::judge_room(work.len(), 16 * m)
 }
 
@@ -47,22 +42,19 @@ pub fn cover(
     weights: &[u32],
     places: &mut [i32],
     work: &mut [u32],
-) -> CoverAnswer
+) -> Result<Covered, Refusal>
     ensures { Promise (collection k letters.now ends.now weights.now) places.old work.old result
         places.new work.new }
 {
-    let v = judge_cover(k, letters, ends, weights, places, work);
-    if let Verdict::Bad { number, place } = v {
-        return CoverAnswer::Refused { number, place };
-    }
+    judge_cover(k, letters, ends, weights, places, work)?;
     let m = ends.len();
     if m == 0 {
-        return CoverAnswer::Covered {
+        return Ok(Covered {
             places: 0,
             paths: 0,
-        };
+        });
     }
     let need = 16 * m;
     let paths = covering::cover_strings(k, ends, weights, &mut places[..m], &mut work[..need]);
-    CoverAnswer::Covered { places: m, paths }
+    Ok(Covered { places: m, paths })
 }

@@ -6,17 +6,10 @@ ghost use Rattle.cover_tours.specs.Rows.{Graph, Cursor, Cursors, Sought, Answer}
 ghost use Rattle.cover_tours.specs.States.{taken, returned, Found, Ready, Walked, Begun, Touring, Visited, Done};
 
 // Where the halves of all walks start, and how many walks there were after the first.
-#[derive(Clone, Copy)]
+#[derive(Clone, Copy, Debug, PartialEq, Eq)]
 pub struct Tour {
     pub start: usize,
     pub walks: usize,
-}
-
-// A number as an index.
-fn wide(x: u32) -> usize
-    ensures { result ≡ x }
-{
-    x as usize
 }
 
 // The other half of the same string or spoke.
@@ -33,7 +26,7 @@ fn near(work: &[u32], m: usize, c: usize) -> usize
     ensures { result ≡ near' m (tables m work.now).verts c }
 {
     if c < 2 * m {
-        return wide(work[c]);
+        return work[c] as usize;
     }
     if c % 2 == 0 {
         return 2 * m;
@@ -47,9 +40,8 @@ fn seek(work: &[u32], m: usize, v: usize, start: usize) -> usize
     requires graph { Graph m (tables m work.now).verts (tables m work.now).rows }
     ensures { Sought m (tables m work.now) v start result }
 {
-    let mut e = start;
-    while e < 4 * m {
-        let c = wide(work[5 * m + e]);
+    for e in start..4 * m {
+        let c = work[5 * m + e] as usize;
         let x = near(work, m, c);
         if x != v {
             return e;
@@ -57,9 +49,8 @@ fn seek(work: &[u32], m: usize, v: usize, start: usize) -> usize
         if work[2 * m + c / 2] == 0 {
             return e;
         }
-        e += 1;
     }
-    e
+    4 * m
 }
 
 // The unused half at v where a search stopped at entry e, or v's own spoke, or 6m where there is none.
@@ -71,7 +62,7 @@ fn found_at(work: &[u32], m: usize, v: usize, e: usize) -> usize
     ensures { Answer m (tables m work.now) v result }
 {
     if e < 4 * m {
-        let c = wide(work[5 * m + e]);
+        let c = work[5 * m + e] as usize;
         let x = near(work, m, c);
         if x == v {
             return c;
@@ -93,7 +84,7 @@ fn find(work: &mut [u32], m: usize, v: usize) -> usize
     ensures { Found m (tables m work.old) (tables m work.new) v result }
 {
     let at = 9 * m + v;
-    let start = wide(work[at]);
+    let start = work[at] as usize;
     let e = seek(work, m, v, start);
     let r = found_at(work, m, v, e);
     work[at] = e as u32;
@@ -119,7 +110,7 @@ fn give_back(work: &mut [u32], m: usize, n: usize, z: usize) -> usize
     ensures come_to { result ≡ near' m (tables m work.old).verts (get_or (tables m work.old).stack n 0) }
 {
     let g = work[12 * m + n];
-    let x = near(work, m, wide(g));
+    let x = near(work, m, g as usize);
     work[12 * m + z] = g;
     x
 }
@@ -139,7 +130,8 @@ fn walk(work: &mut [u32], m: usize, s: usize, z: usize) -> usize
             here = take(work, m, n, c);
             n += 1;
         } else {
-            if n == 0 {
+            let closed = n == 0;
+            if closed {
                 return top;
             }
             n -= 1;
@@ -174,10 +166,8 @@ pub fn walk_all(work: &mut [u32], m: usize) -> Tour
 {
     let start = walk(work, m, 2 * m, 3 * m);
     let mut tour = Tour { start, walks: 0 };
-    let mut i = 0;
-    while i < m {
+    for i in 0..m {
         tour = visit(work, m, i, tour);
-        i += 1;
     }
     tour
 }

@@ -1,4 +1,4 @@
--- What the four ladders of `blank` make of the table: each in its own region, the vertices and the order as they were.
+-- What the two ladders of `blank`, and the two parts that it fills, make of the table: each in its own region, the vertices and the order as they were.
 use mathlib.Core.Path.{◌≡◌, ◌∙◌}
 use mathlib.Core.Logic.{inl, inr}
 use mathlib.Core.List.{List}
@@ -12,7 +12,7 @@ use Rattle.cover_vertices.specs.Ladder.{ladder}
 use Rattle.cover_vertices.specs.Promises.{Blank}
 use Rattle.cover_vertices.proofs.Ladder.{ladder-part, ladder-other}
 
--- The ladders are written one after the other: a has the hub's row, b the cursors as well, c the flags of the strings, d those of the spokes.
+-- These are written one after the other: a has the hub's row, b the cursors as well, c the flags of the strings, d those of the spokes.
 module _ {m : ℕ} {w a b c d : List ℕ} (f : Fits m w)
     (ea : a ≡ put (7 * m) (ladder (2 * m) 2 (2 * m)) w) (eb : b ≡ put (9 * m) (ladder 0 1 (3 * m)) a) (ec : c ≡ put (2 * m) (ladder 0 0 m) b)
     (ed : d ≡ put (3 * m) (ladder 1 0 (2 * m)) c)

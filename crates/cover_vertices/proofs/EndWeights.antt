@@ -3,12 +3,12 @@ use mathlib.Core.Path.{◌≡◌, refl, ap, ap₂, ◌∙◌}
 use mathlib.Core.List.{List, [], ◌∷◌, map}
 use Prim.Native.Nat.{ℕ, suc, ◌+◌, ◌-◌, ◌*◌, ◌<◌, ◌≤◌}
 use native.Mathlib.Omega.{arith}
-use lib.ListN.{length, get_or, set, take, drop, length-append, length-drop, length-set, drop_of_length-le}
+use lib.ListN.{length, get_or, set, take, drop, length-append, length-drop, drop_of_length-le}
 use lib.Seq.{length-take-le, get_or-take, get_or-drop, drop-drop}
 use Rattle.lists.specs.Count.{count_from}
 use Rattle.lists.proofs.Count.{length_count}
 use Rattle.lists.specs.Fill.{put}
-use Rattle.lists.proofs.Storing.{drop_next, Storing, begin_at, inside, store, restated, stored}
+use Rattle.lists.proofs.Storing.{drop_next, Storing, begin_at, store, restated, stored}
 use Rattle.collection_faults.specs.Faults.{first_short}
 use Rattle.collection.specs.Collection.{Spelling, collection}
 use Rattle.collection.specs.Kmers.{within, kmers_from, kmers}
@@ -109,13 +109,6 @@ module _ {k at : ℕ} {ends ws w₀ w : List ℕ} {before passed i : ℕ} (g : W
     next_two =
         let q : passed + within k before e - 1 ≡ passed + (within k before e - 1) = omega (arith, (string_here g.walk l is).long) in
         rw (q, is) (restated (ends_next k before ends ws i passed l) g.storing)
-
-    -- both entries are in the table
-    pub first_inside : at + 2 * i < length w
-    first_inside = inside next_two
-
-    pub second_inside : at + 2 * i + 1 < length w
-    second_inside = simp length-set at (inside (store next_two))
 
     -- its end weights are stored
     pub writing_on : 1 ≤ k

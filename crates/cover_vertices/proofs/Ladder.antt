@@ -1,14 +1,15 @@
 -- Laws of numbers at equal steps.
-use mathlib.Core.Path.{◌≡◌, refl, ap, sym, subst}
-use mathlib.Core.List.{List, [], ◌∷◌}
+use mathlib.Core.Path.{◌≡◌, refl, ap, sym, subst, ◌∙◌}
+use mathlib.Core.List.{List, [], ◌∷◌, ◌++◌, append-nil}
 use Prim.Native.Nat.{ℕ, zero, suc, ◌+◌, ◌-◌, ◌*◌, ◌^◌, ◌<◌, ◌≤◌}
 use native.Mathlib.Nat.{suc-mul, zero-mul}
 use native.Mathlib.Omega.{arith}
-use lib.ListN.{length, get_or, set}
-use Rattle.lists.specs.Fill.{put}
+use lib.ListN.{length, get_or, set, take, drop, replicate, drop_of_length-le, length-take, length-drop}
+use lib.Seq.{drop-drop}
+use Rattle.lists.specs.Fill.{put, fill}
 use Rattle.lists.specs.Regions.{part, Apart}
 use Rattle.lists.proofs.Puts.{put_part, put_other}
-use Rattle.lists.proofs.Storing.{Storing, begin_at, inside, store, restated, stored}
+use Rattle.lists.proofs.Storing.{Storing, begin, store, restated, stored}
 use Rattle.cover_vertices.specs.Ladder.{ladder}
 
 -- there are n of them
@@ -40,45 +41,67 @@ ladder_end x step n i h = let e : n - i ≡ 0 = omega arith in ap (ladder x step
 
 -- ─── a loop that stores them ─────────────────────────────────────────────────
 
--- i of n numbers are stored from entry `at` on, the next is x
-pub record Climbing (at n first step : ℕ) (w₀ w : List ℕ) (x i : ℕ) : Type 0 where
+-- in a part of n entries i of n numbers are stored, the next is x
+pub record Climbing (n first step : ℕ) (p₀ p : List ℕ) (x i : ℕ) : Type 0 where
+  pub whole : length p₀ ≡ n
   pub inside : i ≤ n
   pub bound : x + (n - i) * step < 2 ^ 32
-  pub storing : Storing (length w₀) w (put at (ladder first step n) w₀) (ladder x step (n - i)) (at + i)
+  pub storing : Storing n p (ladder first step n) (ladder x step (n - i)) i
 
 -- nothing is stored yet
-pub climb_start : (at n first step : ℕ) (w : List ℕ) → at + n ≤ length w → first + n * step < 2 ^ 32 → Climbing at n first step w w first 0
-climb_start at n first step w h b =
+pub climb_start : (n first step : ℕ) (p : List ℕ) → length p ≡ n → first + n * step < 2 ^ 32 → Climbing n first step p p first 0
+climb_start n first step p w b =
     let e : n - 0 ≡ n = omega arith in
-    let f : at + 0 ≡ at = omega arith in
-    record {
-      inside = omega arith;
-      bound = rw e b;
-      storing = rw (e, f) (begin_at at w (ladder first step n) (omega (arith, length-ladder first step n)));
-    }
+    let xs : List ℕ = ladder first step n in
+    let l : length xs ≡ n = length-ladder first step n in
+    let s = begin p xs (omega arith) in
+    let full : fill xs p ≡ xs = ap (λ (t : List ℕ). xs ++ t) (drop_of_length-le p (omega arith)) ∙ append-nil xs in
+    record { whole = w; inside = omega arith; bound = rw e b; storing = rw e (record { size_kept = w; room = s.room; ends = s.ends ∙ full }) }
 
-module _ {at n first step : ℕ} {w₀ w : List ℕ} {x i : ℕ} (c : Climbing at n first step w₀ w x i) where
-  module _ (h : i < n) where
-    next_stored : Storing (length w₀) w (put at (ladder first step n) w₀) (x ∷ ladder (x + step) step (n - (i + 1))) (at + i)
-    next_stored = restated (ladder_next x step n i h) c.storing
+module _ {n first step : ℕ} {p₀ p : List ℕ} {x i : ℕ} (c : Climbing n first step p₀ p x i) where
+  module _ (h : i < length p₀) where
+    low : i < n
+    low = omega (arith, c.whole)
 
-    -- the next entry is in the table
-    pub climb_inside : at + i < length w
-    climb_inside = inside next_stored
-
-    -- and the number after it fits
+    -- the number after the next fits
     pub climb_fits : x + step < 2 ^ 32
-    climb_fits = omega (arith, c.bound, step_next x step n i h)
+    climb_fits = omega (arith, c.bound, step_next x step n i low)
 
     -- the next is stored
-    pub climb_on : Climbing at n first step w₀ (set w (at + i) x) (x + step) (i + 1)
+    pub climb_on : Climbing n first step p₀ (set p i x) (x + step) (i + 1)
     climb_on =
-        let e : at + (i + 1) ≡ at + i + 1 = omega arith in
-        record { inside = omega arith; bound = omega (arith, c.bound, step_next x step n i h); storing = rw e (store next_stored) }
+        record {
+          whole = c.whole;
+          inside = omega (arith, low);
+          bound = omega (arith, c.bound, step_next x step n i low);
+          storing = store (restated (ladder_next x step n i low) c.storing);
+        }
 
   -- all numbers are stored
-  pub climb_end : n ≤ i → w ≡ put at (ladder first step n) w₀
-  climb_end h = stored (restated (ladder_end x step n i h) c.storing)
+  pub climb_end : length p₀ ≤ i → p ≡ ladder first step n
+  climb_end h = stored (restated (ladder_end x step n i (omega (arith, c.whole))) c.storing)
+
+-- ─── a part that holds a ladder ──────────────────────────────────────────────
+
+-- the part of the table from entry `at` on holds the ladder: what that makes of the table
+pub ladder_put : (at k n x step : ℕ) (w : List ℕ) {p : List ℕ} → p ≡ ladder x step n → k ≡ n
+    → take at w ++ (p ++ drop k (drop at w)) ≡ put at (ladder x step n) w
+ladder_put at k n x step w e q =
+    let l : at + k ≡ at + length (ladder x step n) = omega (arith, length-ladder x step n) in
+    rw e (ap (λ (t : List ℕ). take at w ++ (ladder x step n ++ t)) (drop-drop k at w ∙ ap (λ (j : ℕ). drop j w) l))
+
+-- steps of 0
+ladder_same : (x n : ℕ) → ladder x 0 n ≡ replicate n x
+unfolding ladder
+ladder_same x zero = refl
+ladder_same x (suc n) = let e : x + 0 ≡ x = omega arith in rw e (ap (λ (t : List ℕ). x ∷ t) (ladder_same x n))
+
+-- a part that was filled
+pub filled_put : (at k n x : ℕ) (w : List ℕ) {p : List ℕ} → p ≡ replicate (length (take k (drop at w))) x → k ≡ n → at + n ≤ length w
+    → take at w ++ (p ++ drop k (drop at w)) ≡ put at (ladder x 0 n) w
+filled_put at k n x w e q h =
+    let l : length (take k (drop at w)) ≡ n = omega (arith, length-take k (drop at w), length-drop at w) in
+    ladder_put at k n x 0 w (e ∙ (ap (λ (j : ℕ). replicate j x) l ∙ sym (ladder_same x n))) q
 
 -- ─── the table with a ladder in it ───────────────────────────────────────────
 

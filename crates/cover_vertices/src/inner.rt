@@ -9,23 +9,14 @@ ghost use Rattle.cover_tours.specs.Layout.{Fits};
 ghost use Rattle.cover_vertices.specs.Ladder.{ladder};
 ghost use Rattle.cover_vertices.specs.Promises.{ends_from, keys_in, order_in, verts_in, flags_in, Ordered, Rising, Named, Blank, Marked, LaidOut};
 
-// A number as an index.
-fn wide(x: u32) -> usize
-    ensures { result ≡ x }
-{
-    x as usize
-}
-
 // Writes n numbers at equal steps, from entry `at` on.
 fn write_ladder(work: &mut [u32], at: usize, n: usize, first: u32, step: u32)
     requires { (at + n ≤ length work.old) × (first + n * step < 2 ^ 32) }
     ensures { work.new ≡ put at (ladder first step n) work.old }
 {
     let mut x = first;
-    let mut i = 0;
-    while i < n {
-        work[at + i] = x;
-        i += 1;
+    for entry in work[at..at + n].iter_mut() {
+        *entry = x;
         x += step;
     }
 }
@@ -37,15 +28,13 @@ fn write_weights(k: usize, ends: &[u32], weights: &[u32], work: &mut [u32], at: 
 {
     let mut before: usize = 0;
     let mut passed: usize = 0;
-    let mut i = 0;
-    while i < ends.len() {
-        let e = wide(ends[i]);
+    for (i, end) in ends.iter().enumerate() {
+        let e = *end as usize;
         let n = e + 1 - (before + k);
         work[at + 2 * i] = weights[passed];
         passed += n;
         work[at + 2 * i + 1] = weights[passed - 1];
         before = e;
-        i += 1;
     }
 }
 
@@ -78,14 +67,12 @@ fn name_vertices(work: &mut [u32], m: usize)
 {
     let mut v: usize = 0;
     let mut before: u32 = 0;
-    let mut q: usize = 0;
-    while q < 2 * m {
-        let c = wide(work[5 * m + q]);
+    for q in 0..2 * m {
+        let c = work[5 * m + q] as usize;
         let x = work[12 * m + c];
         v = vertex_of(x, before, v, q);
         before = x;
         work[c] = v as u32;
-        q += 1;
     }
 }
 
@@ -96,8 +83,8 @@ fn blank(work: &mut [u32], m: usize)
 {
     write_ladder(work, 7 * m, 2 * m, (2 * m) as u32, 2);
     write_ladder(work, 9 * m, 3 * m, 0, 1);
-    write_ladder(work, 2 * m, m, 0, 0);
-    write_ladder(work, 3 * m, 2 * m, 1, 0);
+    work[2 * m..3 * m].fill(0);
+    work[3 * m..5 * m].fill(1);
 }
 
 // Turns the flag of a vertex's spoke for each end at it, so that the spokes to odd vertices are unused.
@@ -107,11 +94,9 @@ fn mark_odd(work: &mut [u32], m: usize)
     requires work_value { flags_in m work.old ≡ ladder 1 0 (2 * m) }
     ensures { Marked m work.old work.new }
 {
-    let mut c = 0;
-    while c < 2 * m {
-        let at = 3 * m + wide(work[c]);
+    for c in 0..2 * m {
+        let at = 3 * m + work[c] as usize;
         work[at] = 1 - work[at];
-        c += 1;
     }
 }
 

@@ -4,6 +4,9 @@ use mathlib.Core.List.{List}
 use Prim.Native.Nat.{ℕ, ◌+◌, ◌-◌, ◌/◌}
 use lib.IntN.{ℤ, pos, nat_abs}
 use lib.ListN.{length, get_or, take}
+use Rattle.cover.specs.declared.Covered.{Covered}
+use Rattle.std.specs.Prelude.{Err, Result, Ok}
+use Rattle.collection.specs.declared.refusal.Refusal.{Refusal}
 use Rattle.lists.proofs.Storing.{take_fill}
 use Rattle.lists.proofs.Refuted.{refuted}
 use Rattle.collection.specs.Collection.{Collection}
@@ -14,8 +17,6 @@ use Rattle.collection.proofs.Verdicts.{both_good, done_by}
 use Rattle.sheet.proofs.Calls.{write_of_read}
 use Rattle.cover_trails.specs.Groups.{least, even_groups, odd_weights}
 use Rattle.cover_trails.specs.Places.{SignedPermutation}
-use Rattle.cover.specs.declared.CoverAnswer.{CoverAnswer}
-use Rattle.cover.specs.declared.CoverAnswer.TheVariants as cover
 use Rattle.cover.specs.Cover.{Promise, cover_verdict}
 use Rattle.cover.proofs.Laws.{cover_fills}
 use Rattle.apply_strings.specs.Weighs.{none}
@@ -28,6 +29,7 @@ use Rattle.dictionary.specs.Demands.{DemandOne, Reordered, DemandTwo, DemandThre
 use Rattle.dictionary.proofs.Determined.{one_outcome, kept}
 use Rattle.dictionary.proofs.Dictionary.{answers}
 use Rattle.dictionary.proofs.OnceEach.{reordered-distinct}
+use Rattle.cover.specs.Cover as covering
 
 pub demand_one : DemandOne
 demand_one = record { one_outcome = one_outcome; refusals_keep = kept }
@@ -52,20 +54,24 @@ reordered c places passes perm =
 pub demand_two : DemandTwo
 demand_two = record { found = answers; reordering = reordered; same_bytes = write_of_read }
 
+-- what an answer of COVER says; nothing where it refuses
+abbrev told : Result Covered Refusal → Covered
+told (Ok m) = m
+told (Err r) = record { places = 0; paths = 0 }
+
 covered : (c : Collection) (places : List ℤ) (work : List ℕ) (m paths : ℕ) (places' : List ℤ) (work' : List ℕ)
-    → Promise c places work (cover.Covered m paths) places' work'
+    → Promise c places work (covering.covered m paths) places' work'
     → SignedPermutation (length c.ends) (take m places') × (runs_at c (take m places') ≡ least_runs c)
     × (paths ≡ even_groups (end_weights c) + odd_weights (end_weights c) / 2)
 unfolding cover_verdict least
 covered c places work m paths places' work' p =
-    let good = done_by (λ (x : CoverAnswer). x) (cover_verdict c places work) cover.Refused (cover.Covered (length c.ends) (least (end_weights c)))
-    (cover.Covered m paths)
-    (λ number place q. refuted (cc)) (sym p.answered) in
+    let good = done_by (λ (x : Result Covered Refusal). x) (cover_verdict c places work) Err (covering.covered (length c.ends) (least (end_weights c)))
+    (covering.covered m paths)
+    (λ r q. refuted (cc)) (sym p.answered) in
     let passes : Passes c = (both_good (collection_verdict c) _ good.0).0 in
     let filled = cover_fills c places work p good.0 in
-    let q : cover.Covered (length c.ends) (least (end_weights c)) ≡ cover.Covered m paths = good.2 in
-    let a : length c.ends ≡ m = cc in
-    let b : least (end_weights c) ≡ paths = cc in
+    let a : length c.ends ≡ m = ap (λ (r : Result Covered Refusal). (told r).places) good.2 in
+    let b : least (end_weights c) ≡ paths = ap (λ (r : Result Covered Refusal). (told r).paths) good.2 in
     let e : filled.0 ≡ take m places' = sym (ap (take m) filled.1 ∙ take_fill filled.0 places m (filled.2.number ∙ a)) in (
       subst (SignedPermutation (length c.ends)) e filled.2,
       ap (runs_at c) (sym e) ∙ cover_fewest c passes filled.0 filled.3,

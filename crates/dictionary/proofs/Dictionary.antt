@@ -8,6 +8,11 @@ use Prim.Native.Nat.{ℕ, ◌+◌, ◌-◌, ◌≤◌}
 use native.Mathlib.Omega.{arith}
 use borrow.Author.Tests.{le-leb}
 use lib.ListN.{length}
+use Rattle.plain.specs.Plain.{found_at}
+use Rattle.collection.specs.declared.refusal.Refusal.{Refusal}
+use Rattle.std.specs.Prelude.{Err, Ok, Result, Some}
+use Rattle.collection.specs.Verdict.{good}
+use Rattle.collection.specs.declared.refusal.Refusal.TheVariants.{Question}
 use Rattle.lists.specs.Choose.{choose}
 use Rattle.lists.proofs.Every.{and_both, every-all}
 use Rattle.lists.proofs.Refuted.{refuted}
@@ -18,13 +23,11 @@ use Rattle.words.proofs.Turning.{turn-turn}
 use Rattle.collection.specs.Collection.{Collection, spelling_of}
 use Rattle.collection.specs.declared.Side.{Side}
 use Rattle.collection.specs.declared.Side.TheVariants.{Asked, Turned}
-use Rattle.collection.specs.declared.Verdict.TheVariants.{Good, Bad}
 use Rattle.collection.specs.Judge.{Passes, word_verdict, shape_verdict, handle_verdict, collection_verdict}
 use Rattle.collection.specs.Kmers.{kmers, word_of, weight_of, Distinct}
 use Rattle.collection.proofs.Judged.{Judged, collection_good, word_good}
 use Rattle.collection.proofs.Verdicts.{both_good, then_good}
 use Rattle.collection.proofs.Strung.{each_weighed}
-use Rattle.plain.specs.declared.PlainAnswer.TheVariants as plain
 use Rattle.access.specs.Access.{access_verdict}
 use Rattle.access.proofs.Accessed.{access_word}
 use Rattle.plain.specs.Says.{Stands}
@@ -32,27 +35,27 @@ use Rattle.runs.specs.Runs.{weights_of_runs, firsts_of_runs}
 use Rattle.weight.proofs.GivenBack.{runs_then_weight}
 use Rattle.index_minimizers.specs.Minimizer.{sizes_verdict}
 use Rattle.quick.specs.declared.QuickAnswer.{QuickAnswer}
-use Rattle.quick.specs.declared.QuickAnswer.TheVariants.{Found, Absent, Refused}
-use Rattle.quick.specs.declared.WordAnswer.TheVariants.{Weighs}
+use Rattle.quick.specs.declared.QuickAnswer.TheVariants.{Found, Absent}
 use Rattle.quick.specs.Weighed.{weighs, weighed_of}
-use Rattle.dictionary.specs.Agreement.{unnumbered, sided}
-use Rattle.dictionary.proofs.Agreed.{found_stands, absent_nowhere, never_refused, stands_found, quick_own}
+use Rattle.dictionary.specs.Agreement.{unnumbered, as_plain, sided}
+use Rattle.dictionary.proofs.Agreed.{standing_same, plain_same, found_stands, absent_nowhere, never_refused, stands_found, quick_own}
 use Rattle.dictionary.specs.Dictionary.{Sound, Answers}
 
 -- a judged word has letters only
-pub word_spelt : (k : ℕ) (word : List ℕ) → word_verdict k word ≡ Good → Letters (spell word)
-word_spelt k word good = spell-letters word (every-all is_letter word (word_good k word good).1)
+pub word_spelt : (k : ℕ) (word : List ℕ) → word_verdict k word ≡ good → Letters (spell word)
+word_spelt k word fits = spell-letters word (every-all is_letter word (word_good k word fits).1)
 
 -- a word found weighs what its handle weighs
-pub found_weighs : (c : Collection) → Passes c → (answer : QuickAnswer) (handle : ℕ) (side : Side) (compared : ℕ) → 1 ≤ handle → handle ≤ length c.weights
-    → answer ≡ Found handle side compared
-    → weighed_of answer (weights_of_runs c.weights) (firsts_of_runs c.weights) (length c.weights) ≡ Weighs (weight_of c.weights handle)
+pub found_weighs : (c : Collection) → Passes c → (answer : Result QuickAnswer Refusal) (handle : ℕ) (side : Side) (compared : ℕ)
+    → 1 ≤ handle → handle ≤ length c.weights
+    → answer ≡ Ok (Found handle side compared)
+    → weighed_of answer (weights_of_runs c.weights) (firsts_of_runs c.weights) (length c.weights) ≡ Ok (Some (weight_of c.weights handle))
 unfolding weighed_of weighs
 found_weighs c passes answer handle side compared l m e =
-    ap (λ (a : QuickAnswer). weighed_of a (weights_of_runs c.weights) (firsts_of_runs c.weights) (length c.weights)) e
+    ap (λ (a : Result QuickAnswer Refusal). weighed_of a (weights_of_runs c.weights) (firsts_of_runs c.weights) (length c.weights)) e
     ∙ ap weighs (runs_then_weight c passes handle l m)
 
-module _ (c : Collection) (p : ℕ) (passes : Passes c) (sizes : sizes_verdict c.k p ≡ Good) where
+module _ (c : Collection) (p : ℕ) (passes : Passes c) (sizes : sizes_verdict c.k p ≡ good) where
   judged : Judged c
   judged = collection_good c passes
 
@@ -60,7 +63,7 @@ module _ (c : Collection) (p : ℕ) (passes : Passes c) (sizes : sizes_verdict c
   pub many : length c.weights ≡ length (kmers c.k c.ends)
   many = each_weighed judged
 
-  module _ (word : List ℕ) (good : word_verdict c.k word ≡ Good) where
+  module _ (word : List ℕ) (good : word_verdict c.k word ≡ good) where
     -- two handles at which the word stands, on either side, are one
     one_handle : Distinct (spelling_of c) → (s t : Side) (h j : ℕ) → Stands (spelling_of c) (sided s (spell word)) h
         → Stands (spelling_of c) (sided t (spell word)) j → h ≡ j
@@ -83,20 +86,22 @@ module _ (c : Collection) (p : ℕ) (passes : Passes c) (sizes : sizes_verdict c
         alike Asked Turned x y =
             inr (back h a.low ∙ (x ∙ (sym (turn-turn (spell word) (word_spelt c.k word good)) ∙ ap turn (sym y ∙ sym (back j b.low)))))
 
-  handle_good : (handle : ℕ) → 1 ≤ handle → handle ≤ length c.weights → access_verdict (spelling_of c) handle ≡ Good
+  handle_good : (handle : ℕ) → 1 ≤ handle → handle ≤ length c.weights → access_verdict (spelling_of c) handle ≡ good
   unfolding access_verdict handle_verdict collection_verdict
   handle_good handle l m =
       then_good _ (both_good (shape_verdict (spelling_of c)) _ passes).0
-      (ap (λ (t : Bool). choose t Good (Bad 9 0)) (and_both (le-leb 1 handle l) (le-leb handle _ (omega (arith, judged.counted)))))
+      (ap (λ (t : Bool). choose t good (Err Question)) (and_both (le-leb 1 handle l) (le-leb handle _ (omega (arith, judged.counted)))))
 
 -- a QUICK that agrees with PLAIN's find found it
-found_as : (a : QuickAnswer) (handle : ℕ) (side : Side) → unnumbered a ≡ plain.Found handle side → (compared : ℕ) × (a ≡ Found handle side compared)
-unfolding unnumbered
-found_as (Found h s c) handle side e = (c, let n : h ≡ handle = cc in let m : s ≡ side = cc in ap₂ (λ (x : ℕ) (y : Side). Found x y c) n m)
-found_as (Absent c) handle side e = refuted (cc)
-found_as (Refused n q) handle side e = refuted (cc)
+found_as : (a : Result QuickAnswer Refusal) (handle : ℕ) (side : Side) → as_plain a ≡ Ok (found_at handle side)
+    → (compared : ℕ) × (a ≡ Ok (Found handle side compared))
+unfolding unnumbered as_plain
+found_as (Ok (Found h s c)) handle side e =
+    let q = standing_same (plain_same e) in (c, ap₂ (λ (x : ℕ) (y : Side). Ok (Found x y c)) q.0 q.1)
+found_as (Ok (Absent c)) handle side e = refuted (cc)
+found_as (Err r) handle side e = refuted (cc)
 
-pub answers : (c : Collection) (p : ℕ) → Sound c → sizes_verdict c.k p ≡ Good → Answers c p
+pub answers : (c : Collection) (p : ℕ) → Sound c → sizes_verdict c.k p ≡ good → Answers c p
 answers c p sound sizes =
     record {
       stands = λ word good side handle s.
@@ -105,7 +110,7 @@ answers c p sound sizes =
           let f = stands_found c p passes sizes word good handle (either side s) in
           let t = found_stands c p passes sizes word good f.0 f.1 f.2 f.3 in
           let h = one_handle c p passes sizes word good sound.distinct f.1 side f.0 handle t s in
-          let e = f.3 ∙ ap (λ (i : ℕ). Found i f.1 f.2) h in
+          let e = f.3 ∙ ap (λ (i : ℕ). Ok (Found i f.1 f.2)) h in
           (f.1, f.2, e, found_weighs c passes _ handle f.1 f.2 s.low (omega (arith, s.high, many c p passes sizes)) e);
       found = found_stands c p passes sizes;
       absent = λ word good compared e. absent_nowhere c p passes sizes word good compared e;

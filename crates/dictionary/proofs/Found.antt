@@ -6,6 +6,10 @@ use mathlib.Core.List.{List, [], ◌∷◌}
 use Prim.Native.Nat.{ℕ, suc, ◌<◌}
 use native.Mathlib.Decide.{ℕ_discrete}
 use lib.ListN.{length}
+use Rattle.plain.specs.declared.Standing.{Standing}
+use Rattle.std.specs.Prelude.{Err, Option, None}
+use Rattle.collection.specs.Verdict.{good}
+use Rattle.collection.specs.declared.refusal.Refusal.TheVariants as refusal
 use Rattle.lists.specs.Choose.{choose}
 use Rattle.lists.specs.First.{first_from}
 use Rattle.lists.specs.Pick.{pick}
@@ -15,11 +19,8 @@ use Rattle.words.specs.Word.{word_at, turn}
 use Rattle.collection.specs.Collection.{spelling}
 use Rattle.collection.specs.declared.Side.{Side}
 use Rattle.collection.specs.declared.Side.TheVariants.{Asked, Turned}
-use Rattle.collection.specs.declared.Verdict.TheVariants.{Good, Bad}
 use Rattle.collection.specs.Kmers.{kmers}
 use Rattle.collection.proofs.Judged.{Shape}
-use Rattle.plain.specs.declared.PlainAnswer.{PlainAnswer}
-use Rattle.plain.specs.declared.PlainAnswer.TheVariants as plain
 use Rattle.plain.specs.Plain.{lowest, found_or, plain_found}
 use Rattle.plain.specs.Says.{Says}
 use Rattle.plain.proofs.Found.{plain_says}
@@ -37,7 +38,7 @@ use Rattle.dictionary.specs.Agreement.{unnumbered}
 
 -- a walk over the k-mers of the minimizer v meets what is first of all, where all that is sought has the minimizer v
 module _ (q : ℕ → ℕ) (v : ℕ) (test : ℕ → Bool) (only : (a : ℕ) → test a ≡ true → q a ≡ v) where
-  seek_first : (side : Side) (next : ℕ → QuickAnswer) (other : PlainAnswer) → ((c : ℕ) → unnumbered (next c) ≡ other)
+  seek_first : (side : Side) (next : ℕ → QuickAnswer) (other : Option Standing) → ((c : ℕ) → unnumbered (next c) ≡ other)
       → (c h : ℕ) (xs : List ℕ)
       → unnumbered (met_or side (seek test c (pick (λ x. q x.at) v (numbered (suc h) xs))) next) ≡ found_or side (first_from test h xs) other
   unfolding numbered seek met_or found_or first_from unnumbered
@@ -70,7 +71,7 @@ module _ (z : List ℕ → ℕ) (d k : ℕ) (letters ends : List ℕ) where
   abbrev index : Index
   index = indexed minimizer_of d k ends
 
-  row_first : (side : Side) (next : ℕ → QuickAnswer) (other : PlainAnswer) → ((c : ℕ) → unnumbered (next c) ≡ other)
+  row_first : (side : Side) (next : ℕ → QuickAnswer) (other : Option Standing) → ((c : ℕ) → unnumbered (next c) ≡ other)
       → (c : ℕ) (w : List ℕ) → z w < d
       → unnumbered (met_or side (seek (is_word k letters w) c (walk (row_of index (z w)))) next) ≡ found_or side (lowest (spelling k letters ends) w) other
   unfolding lowest is_word
@@ -84,7 +85,7 @@ module _ (z : List ℕ → ℕ) (d k : ℕ) (letters ends : List ℕ) where
   unfolding quick_found plain_found unnumbered
   quick_plain w l m =
       row_first Asked (λ c. met_or Turned (seek (is_word k letters (turn w)) c (walk (row_of index (z (turn w))))) Absent)
-      (found_or Turned (lowest (spelling k letters ends) (turn w)) plain.Absent) (λ c. row_first Turned Absent plain.Absent (λ n. refl) c (turn w) m) 0 w l
+      (found_or Turned (lowest (spelling k letters ends) (turn w)) None) (λ c. row_first Turned Absent None (λ n. refl) c (turn w) m) 0 w l
 
   -- it finds exactly the words that stand in the collection, as asked or turned, with their lowest handles
   pub quick_says : (w : List ℕ) → z w < d → z (turn w) < d
@@ -93,8 +94,8 @@ module _ (z : List ℕ → ℕ) (d k : ℕ) (letters ends : List ℕ) where
 
   -- 10 is never given for the index of a collection whose shape passes
   pub never_ten : Shape (spelling k letters ends) → (w : List ℕ) → z w < d → z (turn w) < d
-      → index_verdict z d k (length letters) (indexed (λ a. z (word_at k letters a)) d k ends) w ≡ Good
+      → index_verdict z d k (length letters) (indexed (λ a. z (word_at k letters a)) d k ends) w ≡ good
   unfolding rows_verdict
   never_ten s w l m =
-      ap (λ (t : Bool). choose t Good (Bad 10 0))
+      ap (λ (t : Bool). choose t good (Err refusal.Index))
       (and_both (tables_fit_lem minimizer_of d s) (and_both (row_fits_lem minimizer_of d s (z w) l) (row_fits_lem minimizer_of d s (z (turn w)) m)))

@@ -5,12 +5,16 @@ use mathlib.Core.List.{List}
 use Prim.Native.Nat.{ℕ, ◌+◌, ◌^◌}
 use lib.IntN.{ℤ}
 use lib.ListN.{length, take, length-map}
+use Rattle.index.specs.declared.Indexed.{Indexed}
+use Rattle.cover.specs.declared.Covered.{Covered}
+use Rattle.std.specs.Prelude.{Ok, Err, Result}
+use Rattle.collection.specs.Verdict.{good}
+use Rattle.collection.specs.declared.refusal.Refusal.{Refusal}
 use Rattle.lists.proofs.Every.{all_map}
 use Rattle.lists.proofs.Storing.{take_fill}
 use Rattle.lists.proofs.Refuted.{refuted}
 use Rattle.words.specs.Word.{spell}
 use Rattle.collection.specs.Collection.{Collection, collection, spelling_of}
-use Rattle.collection.specs.declared.Verdict.TheVariants.{Good}
 use Rattle.collection.specs.Judge.{Passes}
 use Rattle.collection.specs.Kmers.{Distinct}
 use Rattle.collection.specs.Strings.{Str, strings, weights_in, joined}
@@ -23,11 +27,8 @@ use Rattle.sheet.proofs.Calls.{ReadDone, read_done_lem, read_passes}
 use Rattle.repeats.proofs.Checked.{check_distinct}
 use Rattle.cover_trails.specs.Groups.{least}
 use Rattle.cover_trails.specs.Places.{SignedPermutation}
-use Rattle.cover.specs.declared.CoverAnswer.{CoverAnswer}
-use Rattle.cover.specs.declared.CoverAnswer.TheVariants as cover
 use Rattle.cover.specs.Cover.{Fewest, cover_verdict}
 use Rattle.cover.proofs.Laws.{cover_fills}
-use Rattle.apply.specs.declared.ApplyAnswer.TheVariants as apply
 use Rattle.apply.specs.Apply as applying
 use Rattle.apply_strings.specs.Reordered.{reordered}
 use Rattle.collection.specs.Tables.{collection_in, rooms_of}
@@ -40,11 +41,9 @@ use Rattle.apply_strings.proofs.Handles.{weighs_handle, handle_weighs}
 use Rattle.apply_strings.proofs.Reordered.{reordered_sizes}
 use Rattle.cover_fewest.specs.Fewest.{FewestRuns}
 use Rattle.cover_fewest.proofs.Fewest.{fewest_runs, cover_fewest}
-use Rattle.runs.specs.declared.RunsAnswer.TheVariants as listing
 use Rattle.runs.specs.Calls as runs_calls
 use Rattle.runs.specs.Calls.{runs_of}
 use Rattle.runs.specs.Runs.{runs, weights_of_runs, firsts_of_runs, run_count}
-use Rattle.index.specs.declared.IndexAnswer.TheVariants as index
 use Rattle.index.specs.Indexing.{stretch_count, first_entries, index_with, index_verdict, index_of}
 use Rattle.index.proofs.Success.{index_told, index_success}
 use Rattle.index_minimizers.specs.Minimizer.{sizes_verdict}
@@ -67,6 +66,17 @@ use Rattle.dictionary.specs.Journey.{
   EndToEnd,
 }
 use Rattle.dictionary.proofs.Said.{Said, reordered_says}
+use Rattle.cover.specs.Cover as covering
+use Rattle.apply.specs.declared.Filled as apply
+
+-- what an answer of APPLY or of INDEX says is filled; nothing where it refuses
+abbrev applied_in : Result apply.Filled Refusal → apply.Filled
+applied_in (Ok f) = f
+applied_in (Err r) = record { letters = 0; ends = 0; weights = 0 }
+
+abbrev indexed_in : Result Indexed Refusal → Indexed
+indexed_in (Ok i) = i
+indexed_in (Err r) = record { stretches = 0; starts = 0 }
 
 -- ─── the calls in a row ──────────────────────────────────────────────────────
 
@@ -102,12 +112,12 @@ module _ {sheet : List ℕ} {r : Reading sheet} (o : Reordering r) where
   distinct_read = (check_distinct (collection_read r) o.work₁ r.n o.checked).0.distinct
 
   -- APPLY's two verdicts are good
-  apply_good : (tables_verdict (collection_read r) (rooms_of o.tables₁.new) (length o.tables₁.work) ≡ Good)
-      × (places_verdict (length (collection_read r).ends) (take r.m o.places) ≡ Good)
+  apply_good : (tables_verdict (collection_read r) (rooms_of o.tables₁.new) (length o.tables₁.work) ≡ good)
+      × (places_verdict (length (collection_read r).ends) (take r.m o.places) ≡ good)
   unfolding apply_of placed_of
   apply_good =
-      let t = done_by (λ (x : applying.Outcome). x.answer) _ _ _ (apply.Filled r.N r.m r.n) (λ number place q. refuted (cc)) o.applied in
-      let u = done_by (λ (x : applying.Outcome). x.answer) _ _ _ (apply.Filled r.N r.m r.n) (λ number place q. refuted (cc)) t.2 in
+      let t = done_by (λ (x : applying.Outcome). x.answer) _ _ _ (applying.filled r.N r.m r.n) (λ r q. refuted (cc)) o.applied in
+      let u = done_by (λ (x : applying.Outcome). x.answer) _ _ _ (applying.filled r.N r.m r.n) (λ r q. refuted (cc)) t.2 in
       (t.0, u.0)
 
   abbrev placed : List ℤ
@@ -128,11 +138,9 @@ module _ {sheet : List ℕ} {r : Reading sheet} (o : Reordering r) where
   filled : Applied
   filled =
       let t = applied (collection_read r) placed o.tables₁ apply_good.0 apply_good.1 in
-      let q : apply.Filled (length (collection_read r).letters) (length (collection_read r).ends) (length (collection_read r).weights)
-      ≡ apply.Filled r.N r.m r.n = sym t.0 ∙ o.applied in
-      let a : length (collection_read r).letters ≡ r.N = cc in
-      let b : length (collection_read r).ends ≡ r.m = cc in
-      let c : length (collection_read r).weights ≡ r.n = cc in
+      let a : length (collection_read r).letters ≡ r.N = ap (λ (f : Result apply.Filled Refusal). (applied_in f).letters) (sym t.0 ∙ o.applied) in
+      let b : length (collection_read r).ends ≡ r.m = ap (λ (f : Result apply.Filled Refusal). (applied_in f).ends) (sym t.0 ∙ o.applied) in
+      let c : length (collection_read r).weights ≡ r.n = ap (λ (f : Result apply.Filled Refusal). (applied_in f).weights) (sym t.0 ∙ o.applied) in
       record {
         strings_many = sym b;
         collection_is = sym (λ i. collection_in r.k (a i) (b i) (c i) (apply_of (collection_read r) placed o.tables₁).after.new) ∙ t.1;
@@ -140,11 +148,11 @@ module _ {sheet : List ℕ} {r : Reading sheet} (o : Reordering r) where
       }
 
   -- the places are those that COVER found
-  covered_good : cover_verdict (collection_read r) o.places₀ o.work₂ ≡ Good
+  covered_good : cover_verdict (collection_read r) o.places₀ o.work₂ ≡ good
   covered_good =
-      (done_by (λ (x : CoverAnswer). x) _ cover.Refused (cover.Covered (length (collection_read r).ends) (least (end_weights (collection_read r))))
-      (cover.Covered r.m o.paths)
-      (λ number place q. refuted (cc)) (sym o.covered.answered)).0
+      (done_by (λ (x : Result Covered Refusal). x) _ Err (covering.covered (length (collection_read r).ends) (least (end_weights (collection_read r))))
+      (covering.covered r.m o.paths)
+      (λ r q. refuted (cc)) (sym o.covered.answered)).0
 
   fewest_placed : Fewest (end_weights (collection_read r)) placed
   fewest_placed =
@@ -165,8 +173,8 @@ module _ {sheet : List ℕ} {r : Reading sheet} {o : Reordering r} {p : ℕ} (x 
   listed : Listed
   unfolding runs_of
   listed =
-      let t = done_by (λ (y : runs_calls.Outcome). y.answer) _ _ _ (listing.Filled x.runs) (λ number place q. refuted (cc)) x.listed in
-      let q : listing.Filled (run_count new.weights) ≡ listing.Filled x.runs = t.2 in
+      let t = done_by (λ (y : runs_calls.Outcome). y.answer) _ _ _ (Ok x.runs) (λ r q. refuted (cc)) x.listed in
+      let q : ◌≡◌ {A = Result ℕ Refusal} (Ok (run_count new.weights)) (Ok x.runs) = t.2 in
       let n : run_count new.weights ≡ x.runs = cc in
       record {
         runs_many = sym n;
@@ -178,7 +186,7 @@ module _ {sheet : List ℕ} {r : Reading sheet} {o : Reordering r} {p : ℕ} (x 
       }
 
   -- INDEX made the index of the new collection
-  sizes_good : sizes_verdict r.k p ≡ Good
+  sizes_good : sizes_verdict r.k p ≡ good
   unfolding index_verdict
   sizes_good = (both_good (sizes_verdict r.k p) _ (index_told new p x.tables₀ x.indexed).0).0
 
@@ -186,9 +194,8 @@ module _ {sheet : List ℕ} {r : Reading sheet} {o : Reordering r} {p : ℕ} (x 
   made =
       let t = index_told new p x.tables₀ x.indexed in
       let s = index_success new p x.tables₀ t.0 t.1 in
-      let q : index.Indexed (stretch_count (spelling_of new) p) (4 ^ p + 1) ≡ index.Indexed x.stretches x.starts = sym s.0 ∙ x.indexed in
-      let a : stretch_count (spelling_of new) p ≡ x.stretches = cc in
-      let b : 4 ^ p + 1 ≡ x.starts = cc in
+      let a : stretch_count (spelling_of new) p ≡ x.stretches = ap (λ (f : Result Indexed Refusal). (indexed_in f).stretches) (sym s.0 ∙ x.indexed) in
+      let b : 4 ^ p + 1 ≡ x.starts = ap (λ (f : Result Indexed Refusal). (indexed_in f).starts) (sym s.0 ∙ x.indexed) in
       ap₂ (λ (m n : ℕ). first_entries m n (index_of new p x.tables₀).after) (sym a) (sym b) ∙ s.1
 
   -- the answer over the tables that were filled is the answer over the reordered collection

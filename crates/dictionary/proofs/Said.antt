@@ -7,12 +7,14 @@ use Prim.Native.Nat.{ℕ}
 use native.Mathlib.Omega.{arith}
 use lib.IntN.{ℤ}
 use lib.ListN.{length}
+use Rattle.std.specs.Prelude.{Ok, Err, Result, Option, Some, None}
+use Rattle.collection.specs.Verdict.{good}
+use Rattle.collection.specs.declared.refusal.Refusal.{Refusal}
 use Rattle.words.specs.Word.{Letters, spell, turn}
 use Rattle.words.proofs.Turning.{turn-turn}
 use Rattle.collection.specs.Collection.{Collection, spelling_of}
 use Rattle.collection.specs.declared.Side.{Side}
 use Rattle.collection.specs.declared.Side.TheVariants.{Asked, Turned}
-use Rattle.collection.specs.declared.Verdict.TheVariants.{Good}
 use Rattle.collection.specs.Judge.{Passes, word_verdict}
 use Rattle.collection.specs.Kmers.{position_of, word_of, weight_of, Distinct}
 use Rattle.collection.specs.Strings.{joined}
@@ -28,9 +30,7 @@ use Rattle.runs.specs.Runs.{weights_of_runs, firsts_of_runs}
 use Rattle.index.specs.Indexing.{index_with}
 use Rattle.index_minimizers.specs.Minimizer.{sizes_verdict}
 use Rattle.quick.specs.declared.QuickAnswer.{QuickAnswer}
-use Rattle.quick.specs.declared.QuickAnswer.TheVariants.{Found, Absent, Refused}
-use Rattle.quick.specs.declared.WordAnswer.{WordAnswer}
-use Rattle.quick.specs.declared.WordAnswer.TheVariants as word
+use Rattle.quick.specs.declared.QuickAnswer.TheVariants.{Found, Absent}
 use Rattle.quick.specs.Quick.{quick_of}
 use Rattle.quick.specs.Weighed.{weighed_of}
 use Rattle.dictionary.specs.Agreement.{sided}
@@ -39,10 +39,10 @@ use Rattle.dictionary.proofs.Dictionary.{word_spelt, found_weighs, many, answers
 use Rattle.dictionary.proofs.OnceEach.{reordered-distinct}
 
 -- an answer says what the collection says of the word w: its weight, where it stands there as asked or turned; absent, where it does not
-abbrev pub Said : Collection → List ℕ → WordAnswer → Type 0
+abbrev pub Said : Collection → List ℕ → Result (Option ℕ) Refusal → Type 0
 Said c w answer =
-    ((weight : ℕ) × (answer ≡ word.Weighs weight) × WeighsAt c w weight)
-    ⊎ ((answer ≡ word.Absent) × ((weight : ℕ) → WeighsAt c w weight → ⊥))
+    ((weight : ℕ) × (answer ≡ Ok (Some weight)) × WeighsAt c w weight)
+    ⊎ ((answer ≡ Ok None) × ((weight : ℕ) → WeighsAt c w weight → ⊥))
 
 -- a word that stands at a handle on either side has the handle's weight
 stands_weighs : (c : Collection) (w : List ℕ) → Letters w → (side : Side) (handle : ℕ) → Stands (spelling_of c) (sided side w) handle
@@ -51,7 +51,7 @@ stands_weighs c w g Asked handle s = (handle, s.low, s.high, inl s.word, refl)
 stands_weighs c w g Turned handle s = (handle, s.low, s.high, inr (ap turn s.word ∙ turn-turn w g), refl)
 
 module _ (c : Collection) (p : ℕ) (places : List ℤ) (passes : Passes c) (perm : SignedPermutation (length c.ends) places) (distinct : Distinct (spelling_of c))
-    (sizes : sizes_verdict c.k p ≡ Good) (asked : List ℕ) (good : word_verdict c.k asked ≡ Good) where
+    (sizes : sizes_verdict c.k p ≡ good) (asked : List ℕ) (good : word_verdict c.k asked ≡ good) where
   -- the reordered collection
   abbrev new : Collection
   new = joined c.k (reordered c places)
@@ -70,7 +70,7 @@ module _ (c : Collection) (p : ℕ) (places : List ℤ) (passes : Passes c) (per
       back : (weight : ℕ) → WeighsAt new (spell asked) weight → WeighsAt c (spell asked) weight
       back weight = weight_from c places passes perm (spell asked) weight
 
-      none : (compared : ℕ) → quick_of c.k p asked new.letters (index_with (spelling_of new) p) ≡ Absent compared → (weight : ℕ)
+      none : (compared : ℕ) → quick_of c.k p asked new.letters (index_with (spelling_of new) p) ≡ Ok (Absent compared) → (weight : ℕ)
           → WeighsAt c (spell asked) weight
           → ⊥
       none compared e weight u =
@@ -90,14 +90,17 @@ module _ (c : Collection) (p : ℕ) (places : List ℤ) (passes : Passes c) (per
                     ∙ ap turn q;
               })
 
-      go : (x : QuickAnswer) → quick_of c.k p asked new.letters (index_with (spelling_of new) p) ≡ x → Said c (spell asked) (weighed new p asked)
-      go (Found handle side compared) e =
+      go : (x : Result QuickAnswer Refusal) → quick_of c.k p asked new.letters (index_with (spelling_of new) p) ≡ x → Said c (spell asked) (weighed new p asked)
+      go (Ok (Found handle side compared)) e =
           let s = a.found asked good handle side compared e in
           inl (
             weight_of new.weights handle,
             found_weighs new passes' _ handle side compared s.low (omega (arith, s.high, many new p passes' sizes)) e,
             back (weight_of new.weights handle) (stands_weighs new (spell asked) (word_spelt c.k asked good) side handle s),
           )
-      go (Absent compared) e =
-          inr (ap (λ (x : QuickAnswer). weighed_of x (weights_of_runs new.weights) (firsts_of_runs new.weights) (length new.weights)) e, none compared e)
-      go (Refused number place) e = absurd (a.taken asked good number place e)
+      go (Ok (Absent compared)) e =
+          inr (
+            ap (λ (x : Result QuickAnswer Refusal). weighed_of x (weights_of_runs new.weights) (firsts_of_runs new.weights) (length new.weights)) e,
+            none compared e,
+          )
+      go (Err r) e = absurd (a.taken asked good r e)

@@ -1,6 +1,9 @@
 -- The starred examples hold, by computing. Assumes nothing.
 use mathlib.Core.Path.{◌≡◌, refl, ap}
 use mathlib.Core.List.{[], ◌∷◌}
+use Rattle.collection.specs.declared.refusal.Refusal.TheVariants.{Weights}
+use Rattle.collection.specs.declared.refusal.Refusal.{Refusal}
+use Rattle.std.specs.Prelude.{Ok, Err, Result, Some}
 use Rattle.lists.specs.Count.{count_from, sum, agree}
 use Rattle.lists.specs.Every.{every, same}
 use Rattle.lists.specs.First.{first_from}
@@ -21,7 +24,7 @@ use Rattle.collection.specs.Judge.{
 }
 use Rattle.collection_faults.specs.Faults.{first_short, last_end}
 use Rattle.collection.specs.Strings.{strings_from, letters_in, ends_in, weights_in}
-use Rattle.collection.specs.Verdict.{and_then, at_place, settle}
+use Rattle.collection.specs.Verdict.{and_then, at_place, settle, good}
 use Rattle.text.specs.Numbers.{value_from}
 use Rattle.text.specs.Parts.{up_to as part_up_to, later}
 use Rattle.sheet.specs.Sheet.{sheet_k, sheet_strings, strings_of}
@@ -36,11 +39,9 @@ use Rattle.index_minimizers.specs.Minimizer.{sizes_verdict, smallest, minimizer}
 use Rattle.index_stretches.specs.Stretches.{numbered, walk, open_from, of_string, stretches_from}
 use Rattle.apply_strings.specs.Reordered.{reordered}
 use Rattle.collection.specs.declared.Side.TheVariants.{Turned}
-use Rattle.collection.specs.declared.Verdict.TheVariants.{Good, Bad}
 use Rattle.collection.specs.EndWeights.{end_weights}
 use Rattle.quick.specs.declared.QuickAnswer.{QuickAnswer}
 use Rattle.quick.specs.declared.QuickAnswer.TheVariants.{Found, Absent}
-use Rattle.quick.specs.declared.WordAnswer.TheVariants.{Weighs}
 use Rattle.index_stretches.specs.Index.{built, entries, row_of, stretch_fits, row_fits, tables_fit}
 use Rattle.quick_walks.specs.Walk.{is_word, seek}
 use Rattle.quick.specs.Quick.{met_or, quick_found, rows_verdict, ask_verdict, quick_verdict, quick_of}
@@ -63,7 +64,7 @@ turned = (refl, refl, refl)
 -- ─── questions ───────────────────────────────────────────────────────────────
 
 -- CAG, TTT and CCC
-answered : (asked (bytes "CAG") ≡ Found 8 Turned 3) × (asked (bytes "TTT") ≡ Found 1 Turned 1) × (asked (bytes "CCC") ≡ Absent 0)
+answered : (asked (bytes "CAG") ≡ Ok (Found 8 Turned 3)) × (asked (bytes "TTT") ≡ Ok (Found 1 Turned 1)) × (asked (bytes "CCC") ≡ Ok (Absent 0))
 unfolding quick_of quick_verdict ask_verdict sizes_verdict k_verdict size_verdict word_verdict rows_verdict tables_fit row_fits stretch_fits row_of entries
     built up_to pick
     count_from stretches_from of_string open_from minimizer smallest code_from letter is_letter every same turn quick_found met_or seek is_word walk numbered
@@ -71,15 +72,15 @@ unfolding quick_of quick_verdict ask_verdict sizes_verdict k_verdict size_verdic
     settle
 answered = (refl, refl, refl)
 
-cag_weighs : weighed (bytes "CAG") ≡ Weighs 7
+cag_weighs : weighed (bytes "CAG") ≡ Ok (Some 7)
 unfolding weighed_of weighs weight_answer run_list_verdict is_run_list all_follow last_at runs later_runs and_then settle handle_verdict
-cag_weighs = ap (λ (a : QuickAnswer). weighed_of a (weights_of_runs weights') (firsts_of_runs weights') 10) answered.0
+cag_weighs = ap (λ (a : Result QuickAnswer Refusal). weighed_of a (weights_of_runs weights') (firsts_of_runs weights') 10) answered.0
 
 -- ─── verdicts ────────────────────────────────────────────────────────────────
 
 -- a weight of 16,777,215, and one more
-heaviest : (collection_verdict (collection 3 (bytes "ACG") (3 ∷ []) (16777215 ∷ [])) ≡ Good)
-    × (collection_verdict (collection 3 (bytes "ACG") (3 ∷ []) (16777216 ∷ [])) ≡ Bad 6 1)
+heaviest : (collection_verdict (collection 3 (bytes "ACG") (3 ∷ []) (16777215 ∷ [])) ≡ good)
+    × (collection_verdict (collection 3 (bytes "ACG") (3 ∷ []) (16777216 ∷ [])) ≡ Err (Weights 1))
 unfolding collection_verdict shape_verdict k_verdict size_verdict ends_verdict first_short last_end letters_verdict weights_verdict first_from is_letter
     letter and_then
     at_place

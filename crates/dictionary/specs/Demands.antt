@@ -1,20 +1,17 @@
 -- The three demands, each as a type; proofs/Demands inhabits them.
 -- Specification: 9.2, 12.1, 12.2, 12.3.
-use Rattle.std.specs.Prelude.{◌≡◌, List, [], ℕ, suc, ◌+◌, ◌-◌, ◌/◌, ◌<◌, ◌≤◌, ℤ, pos, nat_abs, length, get_or, take}
+use Rattle.collection.specs.Verdict.{good}
+use Rattle.std.specs.Prelude.{◌≡◌, List, [], ℕ, suc, ◌+◌, ◌-◌, ◌/◌, ◌<◌, ◌≤◌, ℤ, pos, nat_abs, length, get_or, take, Ok}
 use Rattle.lists.specs.Fill.{fill}
 use Rattle.collection.specs.Collection.{Collection, collection}
-use Rattle.collection.specs.declared.Verdict.TheVariants.{Good}
 use Rattle.collection.specs.Judge.{Passes}
 use Rattle.collection.specs.Strings.{strings, joined}
 use Rattle.collection.specs.Tables.{Tables, collection_in}
 use Rattle.collection.specs.EndWeights.{end_weights}
-use Rattle.sheet.specs.declared.ReadAnswer.TheVariants as read
-use Rattle.sheet.specs.declared.WriteAnswer.TheVariants as write
 use Rattle.sheet.specs.Read.{read_of}
 use Rattle.sheet.specs.Write.{write_outcome, write_of}
 use Rattle.cover_trails.specs.Groups.{even_groups, odd_weights}
 use Rattle.cover_trails.specs.Places.{SignedPermutation, turned_by}
-use Rattle.cover.specs.declared.CoverAnswer.TheVariants as cover
 use Rattle.cover.specs.Cover.{Promise}
 use Rattle.apply_strings.specs.Reordered.{reordered}
 use Rattle.apply_strings.specs.Turned.{turn_str}
@@ -23,6 +20,8 @@ use Rattle.cover_fewest.specs.Fewest.{runs_at, least_runs, FewestRuns}
 use Rattle.index_minimizers.specs.Minimizer.{sizes_verdict}
 use Rattle.dictionary.specs.Determined.{OneOutcome, Kept}
 use Rattle.dictionary.specs.Dictionary.{Sound, Answers}
+use Rattle.sheet.specs.Read as reading
+use Rattle.cover.specs.Cover as covering
 
 -- 1: whatever comes in, a call has one outcome, and a refusal leaves its outputs.
 pub record DemandOne : Type 0 where
@@ -48,17 +47,17 @@ module _ (c : Collection) (places : List ℤ) where
 -- 2: a word is found exactly if it or its reverse complement stands there, with its own handle and weight; each handle gives back its word. Reordering keeps
 -- each string once. An accepted sheet, read and written, is the same bytes.
 pub record DemandTwo : Type 0 where
-  pub found : (c : Collection) (p : ℕ) → Sound c → sizes_verdict c.k p ≡ Good → Answers c p
+  pub found : (c : Collection) (p : ℕ) → Sound c → sizes_verdict c.k p ≡ good → Answers c p
   pub reordering : (c : Collection) (places : List ℤ) → Passes c → SignedPermutation (length c.ends) places → Reordered c places
-  pub same_bytes : (sheet : List ℕ) (t : Tables) (k N m n : ℕ) → (read_of sheet t).answer ≡ read.Filled k N m n → (out : List ℕ) → length sheet ≤ length out
-      → write_of (collection_in k N m n (read_of sheet t).after) out ≡ write_outcome (write.Written (length sheet)) (fill sheet out)
+  pub same_bytes : (sheet : List ℕ) (t : Tables) (k N m n : ℕ) → (read_of sheet t).answer ≡ reading.filled k N m n → (out : List ℕ) → length sheet ≤ length out
+      → write_of (collection_in k N m n (read_of sheet t).after) out ≡ write_outcome (Ok (length sheet)) (fill sheet out)
 
 -- 3: for each collection that passes 2 to 6, the runs in the weights reordered by COVER's places are the fewest of any order and turning, R - m + E + O/2, and
 -- the number of paths that COVER answers is E + O/2; with no strings all are 0.
 pub record DemandThree : Type 0 where
   pub fewest : (c : Collection) → Passes c → FewestRuns c (least_runs c)
   pub covered : (c : Collection) (places : List ℤ) (work : List ℕ) (m paths : ℕ) (places' : List ℤ) (work' : List ℕ)
-      → Promise c places work (cover.Covered m paths) places' work'
+      → Promise c places work (covering.covered m paths) places' work'
       → SignedPermutation (length c.ends) (take m places') × (runs_at c (take m places') ≡ least_runs c)
       × (paths ≡ even_groups (end_weights c) + odd_weights (end_weights c) / 2)
   pub empty : (k : ℕ) → (least_runs (collection k [] [] []) ≡ 0) × (runs_at (collection k [] [] []) [] ≡ 0)

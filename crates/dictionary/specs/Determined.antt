@@ -1,43 +1,34 @@
 -- Demand 1: whatever comes in, a public call has one outcome: its answer, and the content of every lent table afterwards. That each call ends, and that it has
 -- an outcome at all, is what the check of its function says: none of them asks anything of its caller.
 -- Specification: 8.5, 12.1.
-use Rattle.std.specs.Prelude.{◌≡◌, ◌⊎◌, List, map, ℕ, ◌*◌, ℤ, length, replicate}
+use Rattle.cover.specs.declared.Covered.{Covered}
+use Rattle.plain.specs.declared.Standing.{Standing}
+use Rattle.collection.specs.declared.refusal.Refusal.{Refusal}
+use Rattle.std.specs.Prelude.{◌≡◌, ◌⊎◌, List, map, ℕ, ◌*◌, ℤ, length, replicate, Err, Result, Option}
 use Rattle.lists.specs.Fill.{fill}
 use Rattle.collection.specs.Collection.{Spelling, Collection, spelling_of}
 use Rattle.collection.specs.declared.Told.{Told}
 use Rattle.collection.specs.Judge.{kmers_in}
 use Rattle.collection.specs.Tables.{Tables}
-use Rattle.collection.specs.Verdict.{told}
-use Rattle.sheet.specs.declared.ReadAnswer.TheVariants as read
-use Rattle.sheet.specs.declared.WriteAnswer.TheVariants as write
+use Rattle.collection.specs.Verdict.{told, number_of}
 use Rattle.sheet.specs.Read.{ReadOutcome, read_outcome, read_of}
 use Rattle.sheet.specs.Write.{WriteOutcome, write_outcome, write_of}
-use Rattle.repeats.specs.declared.CheckAnswer.TheVariants as check
 use Rattle.repeats.specs.Check as checking
 use Rattle.repeats.specs.Check.{check_of}
-use Rattle.cover.specs.declared.CoverAnswer.{CoverAnswer}
-use Rattle.cover.specs.declared.CoverAnswer.TheVariants as cover
 use Rattle.cover.specs.Cover.{Promise}
-use Rattle.apply.specs.declared.ApplyAnswer.TheVariants as apply
 use Rattle.apply.specs.Apply as applying
 use Rattle.apply.specs.Apply.{apply_of}
-use Rattle.runs.specs.declared.RunsAnswer.TheVariants as runs
-use Rattle.weight.specs.declared.WeightAnswer.{WeightAnswer}
 use Rattle.runs.specs.Calls as listing
 use Rattle.runs.specs.Calls.{runs_of}
 use Rattle.weight.specs.Weight.{weight_answer}
 use Rattle.weight_records.specs.declared.Run.{Run}
 use Rattle.weight_records.specs.Records.{weight_in, first_in}
-use Rattle.access.specs.declared.AccessAnswer.{AccessAnswer}
-use Rattle.plain.specs.declared.PlainAnswer.{PlainAnswer}
 use Rattle.access.specs.Access.{access_verdict, access_part, access_start, access_at}
 use Rattle.plain.specs.Plain.{plain_of}
-use Rattle.index.specs.declared.IndexAnswer.TheVariants as index
 use Rattle.index.specs.Indexing as indexing
 use Rattle.index.specs.Indexing.{Lent, index_of}
 use Rattle.index_stretches.specs.Index.{Index}
 use Rattle.quick.specs.declared.QuickAnswer.{QuickAnswer}
-use Rattle.quick.specs.declared.WordAnswer.{WordAnswer}
 use Rattle.quick.specs.Quick.{quick_of}
 use Rattle.quick.specs.Weighed.{weighed_of}
 use Rattle.summary_text.specs.Written as reporting
@@ -60,39 +51,41 @@ pub record OneOutcome : Type 0 where
   pub index : (c : Collection) (p : ℕ) (t : Lent) → One indexing.Outcome (λ o. o ≡ index_of c p t)
   pub access : (t : Spelling) (handle : ℕ) → One (List ℕ) (λ part. part ≡ access_part t handle)
   pub access_start_is : (t : Spelling) (handle : ℕ) → One ℕ (λ at. at ≡ access_start t handle)
-  pub access_at_once : (t : Spelling) (handle : ℕ) → One AccessAnswer (λ r. r ≡ access_at t handle)
+  pub access_at_once : (t : Spelling) (handle : ℕ) → One (Result ℕ Refusal) (λ r. r ≡ access_at t handle)
   pub access_told : (t : Spelling) (handle : ℕ) → One Told (λ r. r ≡ told (access_verdict t handle))
-  pub plain : (c : Collection) (word : List ℕ) → One PlainAnswer (λ r. r ≡ plain_of c word)
-  pub quick : (k p : ℕ) (word letters : List ℕ) (t : Index) → One QuickAnswer (λ r. r ≡ quick_of k p word letters t)
-  pub weigh : (answer : QuickAnswer) (weights_of_runs firsts_of_runs : List ℕ) (n : ℕ)
-      → One WordAnswer (λ r. r ≡ weighed_of answer weights_of_runs firsts_of_runs n)
-  pub weight : (weights_of_runs firsts_of_runs : List ℕ) (n handle : ℕ) → One WeightAnswer (λ r. r ≡ weight_answer weights_of_runs firsts_of_runs n handle)
-  pub weight_records : (records : List Run) (n handle : ℕ) → One WeightAnswer (λ r. r ≡ weight_answer (map weight_in records) (map first_in records) n handle)
+  pub plain : (c : Collection) (word : List ℕ) → One (Result (Option Standing) Refusal) (λ r. r ≡ plain_of c word)
+  pub quick : (k p : ℕ) (word letters : List ℕ) (t : Index) → One (Result QuickAnswer Refusal) (λ r. r ≡ quick_of k p word letters t)
+  pub weigh : (answer : Result QuickAnswer Refusal) (weights_of_runs firsts_of_runs : List ℕ) (n : ℕ)
+      → One (Result (Option ℕ) Refusal) (λ r. r ≡ weighed_of answer weights_of_runs firsts_of_runs n)
+  pub weight : (weights_of_runs firsts_of_runs : List ℕ) (n handle : ℕ)
+      → One (Result ℕ Refusal) (λ r. r ≡ weight_answer weights_of_runs firsts_of_runs n handle)
+  pub weight_records : (records : List Run) (n handle : ℕ)
+      → One (Result ℕ Refusal) (λ r. r ≡ weight_answer (map weight_in records) (map first_in records) n handle)
   pub report : (sheet text : List ℕ) → One reporting.Outcome (λ o. o ≡ report_of sheet text)
-  pub cover : (c : Collection) (places : List ℤ) (work : List ℕ) (a b : CoverAnswer) (places₁ places₂ : List ℤ) (work₁ work₂ : List ℕ)
+  pub cover : (c : Collection) (places : List ℤ) (work : List ℕ) (a b : Result Covered Refusal) (places₁ places₂ : List ℤ) (work₁ work₂ : List ℕ)
       → Promise c places work a places₁ work₁ → Promise c places work b places₂ work₂ → (a ≡ b) × (work₁ ≡ work₂)
 
 -- ─── a refusal leaves the outputs ────────────────────────────────────────────
 
 pub record Kept : Type 0 where
-  pub read : (sheet : List ℕ) (t : Tables) (number place : ℕ) → (read_of sheet t).answer ≡ read.Refused number place
-      → read_of sheet t ≡ read_outcome (read.Refused number place) t
-  pub write : (c : Collection) (sheet : List ℕ) (number place : ℕ) → (write_of c sheet).answer ≡ write.Refused number place
-      → write_of c sheet ≡ write_outcome (write.Refused number place) sheet
-  pub runs : (c : Collection) (weights_of_runs firsts_of_runs : List ℕ) (number place : ℕ)
-      → (runs_of c weights_of_runs firsts_of_runs).answer ≡ runs.Refused number place
-      → runs_of c weights_of_runs firsts_of_runs ≡ listing.outcome (runs.Refused number place) weights_of_runs firsts_of_runs
+  pub read : (sheet : List ℕ) (t : Tables) (r : Refusal) → (read_of sheet t).answer ≡ Err r
+      → read_of sheet t ≡ read_outcome (Err r) t
+  pub write : (c : Collection) (sheet : List ℕ) (r : Refusal) → (write_of c sheet).answer ≡ Err r
+      → write_of c sheet ≡ write_outcome (Err r) sheet
+  pub runs : (c : Collection) (weights_of_runs firsts_of_runs : List ℕ) (r : Refusal)
+      → (runs_of c weights_of_runs firsts_of_runs).answer ≡ Err r
+      → runs_of c weights_of_runs firsts_of_runs ≡ listing.outcome (Err r) weights_of_runs firsts_of_runs
   -- COVER's places; its work is as it was too
-  pub cover : (c : Collection) (places : List ℤ) (work : List ℕ) (number place : ℕ) (places' : List ℤ) (work' : List ℕ)
-      → Promise c places work (cover.Refused number place) places' work' → (places' ≡ places) × (work' ≡ work)
+  pub cover : (c : Collection) (places : List ℤ) (work : List ℕ) (r : Refusal) (places' : List ℤ) (work' : List ℕ)
+      → Promise c places work (Err r) places' work' → (places' ≡ places) × (work' ≡ work)
   -- after 7 work is zeroed, after all else it is as it was
-  pub check : (c : Collection) (work : List ℕ) (number place : ℕ) → (check_of c work).answer ≡ check.Refused number place
+  pub check : (c : Collection) (work : List ℕ) (r : Refusal) → (check_of c work).answer ≡ Err r
       → ((check_of c work).work ≡ work)
-      ⊎ ((number ≡ 7) × ((check_of c work).work ≡ fill (replicate (4 * kmers_in (spelling_of c)) 0) work))
-  pub apply : (c : Collection) (places : List ℤ) (t : applying.Lent) (number place : ℕ)
-      → (apply_of c places t).answer ≡ apply.Refused number place
-      → (apply_of c places t ≡ applying.outcome (apply.Refused number place) t)
-      ⊎ (apply_of c places t ≡ applying.outcome (apply.Refused number place) (applying.lent t.new (applying.zeroed (length c.ends) t.work)))
-  pub index : (c : Collection) (p : ℕ) (t : Lent) (number place : ℕ) → (index_of c p t).answer ≡ index.Refused number place
+      ⊎ ((number_of r ≡ 7) × ((check_of c work).work ≡ fill (replicate (4 * kmers_in (spelling_of c)) 0) work))
+  pub apply : (c : Collection) (places : List ℤ) (t : applying.Lent) (r : Refusal)
+      → (apply_of c places t).answer ≡ Err r
+      → (apply_of c places t ≡ applying.outcome (Err r) t)
+      ⊎ (apply_of c places t ≡ applying.outcome (Err r) (applying.lent t.new (applying.zeroed (length c.ends) t.work)))
+  pub index : (c : Collection) (p : ℕ) (t : Lent) (r : Refusal) → (index_of c p t).answer ≡ Err r
       → ((index_of c p t).after ≡ t)
-      ⊎ ((number ≡ 7) × ((index_of c p t).after ≡ indexing.untouched (kmers_in (spelling_of c)) t))
+      ⊎ ((number_of r ≡ 7) × ((index_of c p t).after ≡ indexing.untouched (kmers_in (spelling_of c)) t))

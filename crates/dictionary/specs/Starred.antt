@@ -1,13 +1,15 @@
 -- The worked examples that are proved, as one list.
 -- Specification: 13.1.
-use Rattle.std.specs.Prelude.{◌≡◌, List, [], ◌∷◌, ℕ, ℤ, pos, negsuc}
+use Rattle.collection.specs.declared.refusal.Refusal.TheVariants.{Weights, Places}
+use Rattle.collection.specs.Verdict.{good}
+use Rattle.collection.specs.declared.refusal.Refusal.{Refusal}
+use Rattle.std.specs.Prelude.{◌≡◌, List, [], ◌∷◌, ℕ, ℤ, pos, negsuc, Result, Option, Ok, Err, Some}
 use Prim.Native.Char.{code as char_code}
 use Prim.Native.String.{String}
 use Prim.Native.String as text
 use Rattle.words.specs.Word.{code, word_at}
 use Rattle.collection.specs.Collection.{spelling, collection}
 use Rattle.collection.specs.declared.Side.TheVariants.{Turned}
-use Rattle.collection.specs.declared.Verdict.TheVariants.{Good, Bad}
 use Rattle.collection.specs.Judge.{k_verdict, collection_verdict}
 use Rattle.collection.specs.Strings.{letters_in, ends_in, weights_in}
 use Rattle.collection.specs.EndWeights.{end_weights}
@@ -22,8 +24,6 @@ use Rattle.index_stretches.specs.Stretches.{stretch, of_string}
 use Rattle.index.specs.Indexing.{index_with}
 use Rattle.quick.specs.declared.QuickAnswer.{QuickAnswer}
 use Rattle.quick.specs.declared.QuickAnswer.TheVariants.{Found, Absent}
-use Rattle.quick.specs.declared.WordAnswer.{WordAnswer}
-use Rattle.quick.specs.declared.WordAnswer.TheVariants.{Weighs}
 use Rattle.quick.specs.Quick.{quick_of}
 use Rattle.quick.specs.Weighed.{weighed_of}
 
@@ -62,10 +62,10 @@ abbrev pub weights' : List ℕ
 weights' = 2 ∷ (2 ∷ (5 ∷ (5 ∷ (3 ∷ (3 ∷ (7 ∷ (7 ∷ (7 ∷ (2 ∷ [])))))))))
 
 -- a question, with p = 2, over the reordered collection
-abbrev pub asked : List ℕ → QuickAnswer
+abbrev pub asked : List ℕ → Result QuickAnswer Refusal
 asked word = quick_of 3 2 word letters' (index_with (spelling 3 letters' ends') 2)
 
-abbrev pub weighed : List ℕ → WordAnswer
+abbrev pub weighed : List ℕ → Result (Option ℕ) Refusal
 weighed word = weighed_of (asked word) (weights_of_runs weights') (firsts_of_runs weights') 10
 
 -- ─── the list ────────────────────────────────────────────────────────────────
@@ -83,11 +83,11 @@ pub record Starred : Type 0 where
   -- runs (2,1) (5,3) (3,5) (7,7) (2,10)
   pub runs_listed : runs weights' ≡ (2, 1) ∷ ((5, 3) ∷ ((3, 5) ∷ ((7, 7) ∷ ((2, 10) ∷ []))))
   -- CAG is handle 8, side -, weight 7, 3 compared
-  pub cag : (asked (bytes "CAG") ≡ Found 8 Turned 3) × (weighed (bytes "CAG") ≡ Weighs 7)
+  pub cag : (asked (bytes "CAG") ≡ Ok (Found 8 Turned 3)) × (weighed (bytes "CAG") ≡ Ok (Some 7))
   -- TTT is handle 1, side -
-  pub ttt : (compared : ℕ) × (asked (bytes "TTT") ≡ Found 1 Turned compared)
+  pub ttt : (compared : ℕ) × (asked (bytes "TTT") ≡ Ok (Found 1 Turned compared))
   -- CCC is absent
-  pub ccc : (compared : ℕ) × (asked (bytes "CCC") ≡ Absent compared)
+  pub ccc : (compared : ℕ) × (asked (bytes "CCC") ≡ Ok (Absent compared))
   -- GGCTG, three k-mers from handle 6 and position 9 on, has stretches GC with handle 6 and CT with 7, 8
   pub ggctg : (of_string (minimizer_at 3 2 letters') 6 9 3 ≡ stretch 6 9 1 ∷ (stretch 7 10 2 ∷ []))
       × (minimizer_at 3 2 letters' 9 ≡ code (word_at 2 letters' 10))
@@ -101,9 +101,9 @@ pub record Starred : Type 0 where
   -- no strings: 0 and 0
   pub no_strings : (least_runs (collection 3 [] [] []) ≡ 0) × (least (end_weights (collection 3 [] [] [])) ≡ 0)
   -- weight 16,777,215 passes, 16,777,216 is 6
-  pub heavy : collection_verdict (collection 3 (bytes "ACG") (3 ∷ []) (16777215 ∷ [])) ≡ Good
-  pub too_heavy : collection_verdict (collection 3 (bytes "ACG") (3 ∷ []) (16777216 ∷ [])) ≡ Bad 6 1
+  pub heavy : collection_verdict (collection 3 (bytes "ACG") (3 ∷ []) (16777215 ∷ [])) ≡ good
+  pub too_heavy : collection_verdict (collection 3 (bytes "ACG") (3 ∷ []) (16777216 ∷ [])) ≡ Err (Weights 1)
   -- k = 31 passes
-  pub longest : k_verdict 31 ≡ Good
+  pub longest : k_verdict 31 ≡ good
   -- places +1 -1 for two strings: 8 at string 2
-  pub place_used : places_verdict 2 (pos 1 ∷ (negsuc 0 ∷ [])) ≡ Bad 8 2
+  pub place_used : places_verdict 2 (pos 1 ∷ (negsuc 0 ∷ [])) ≡ Err (Places 2)

@@ -5,8 +5,10 @@ use mathlib.Core.Path.{◌≡◌, refl, sym, ap, ◌∙◌}
 use Prim.Native.Nat.{ℕ, ◌<◌, ◌≤◌}
 use lib.IntN.{ℤ}
 use lib.ListN.{length}
+use Rattle.std.specs.Prelude.{Result}
+use Rattle.collection.specs.declared.refusal.Refusal.{Refusal}
+use Rattle.cover.specs.declared.Covered.{Covered}
 use Rattle.lists.proofs.Compare.{lt_or_le}
-use Rattle.cover.specs.declared.CoverAnswer.{CoverAnswer}
 use Rattle.cover.proofs.Laws.{cover_only}
 use Rattle.exports_replies.specs.Told.{told, told_of}
 use Rattle.exports_replies.specs.Exported.{Exported}
@@ -39,4 +41,4 @@ module _ (c : Collection) (places : List ℤ) (work answer : List ℕ) where
       long : 4 ≤ length answer → (told n a ≡ told n₂ a₂) × (w ≡ w₂)
       long h =
           let o = cover_only c places work (x.promised h) (y.promised h) in
-          (told_long x h ∙ (ap (λ (r : CoverAnswer). told_of (cover_reply r) answer) o.0 ∙ sym (told_long y h)), o.1)
+          (told_long x h ∙ (ap (λ (r : Result Covered Refusal). told_of (cover_reply r) answer) o.0 ∙ sym (told_long y h)), o.1)

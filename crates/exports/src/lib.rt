@@ -61,7 +61,7 @@ pub fn corrivume_write(
         return 1;
     }
     let a = sheet_write::write(k, letters, ends, weights, sheet);
-    let reply = exports_replies::inner::write_reply(a);
+    let reply = exports_replies::inner::count_reply(a);
     exports_replies::inner::tell(answer, reply)
 }
 
@@ -82,7 +82,7 @@ pub fn corrivume_check(
         return 1;
     }
     let a = repeats::check(k, letters, ends, weights, work);
-    let reply = exports_replies::inner::check_reply(a);
+    let reply = exports_replies::inner::count_reply(a);
     exports_replies::inner::tell(answer, reply)
 }
 
@@ -163,7 +163,7 @@ pub fn corrivume_runs(
         return 1;
     }
     let a = runs::runs(k, letters, ends, weights, run_weights, run_firsts);
-    let reply = exports_replies::inner::runs_reply(a);
+    let reply = exports_replies::inner::count_reply(a);
     exports_replies::inner::tell(answer, reply)
 }
 

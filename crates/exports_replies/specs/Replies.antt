@@ -1,99 +1,73 @@
--- The number and the values for each case of a call's answer.
+-- The values for each case of a call's answer; a refusal is handed on.
 -- Specification: 11.
-use Rattle.std.specs.Prelude.{ℕ}
+use Rattle.std.specs.Prelude.{ℕ, Result, Ok, Err, Option, Some, None}
+use Rattle.collection.specs.declared.refusal.Refusal.{Refusal}
 use Rattle.collection.specs.declared.Side.{Side}
 use Rattle.collection.specs.declared.Side.TheVariants.{Asked, Turned}
-use Rattle.sheet.specs.declared.ReadAnswer.{ReadAnswer}
-use Rattle.sheet.specs.declared.ReadAnswer.TheVariants as read
-use Rattle.sheet.specs.declared.WriteAnswer.{WriteAnswer}
-use Rattle.sheet.specs.declared.WriteAnswer.TheVariants as write
-use Rattle.repeats.specs.declared.CheckAnswer.{CheckAnswer}
-use Rattle.repeats.specs.declared.CheckAnswer.TheVariants as check
-use Rattle.cover.specs.declared.CoverAnswer.{CoverAnswer}
-use Rattle.cover.specs.declared.CoverAnswer.TheVariants as cover
-use Rattle.apply.specs.declared.ApplyAnswer.{ApplyAnswer}
-use Rattle.apply.specs.declared.ApplyAnswer.TheVariants as apply
-use Rattle.runs.specs.declared.RunsAnswer.{RunsAnswer}
-use Rattle.runs.specs.declared.RunsAnswer.TheVariants as runs
-use Rattle.weight.specs.declared.WeightAnswer.{WeightAnswer}
-use Rattle.weight.specs.declared.WeightAnswer.TheVariants as weight
-use Rattle.access.specs.declared.AccessAnswer.{AccessAnswer}
-use Rattle.access.specs.declared.AccessAnswer.TheVariants as access
-use Rattle.plain.specs.declared.PlainAnswer.{PlainAnswer}
-use Rattle.plain.specs.declared.PlainAnswer.TheVariants as plain
-use Rattle.index.specs.declared.IndexAnswer.{IndexAnswer}
-use Rattle.index.specs.declared.IndexAnswer.TheVariants as index
+use Rattle.sheet.specs.declared.Filled as sheet
+use Rattle.cover.specs.declared.Covered.{Covered}
+use Rattle.apply.specs.declared.Filled as apply
+use Rattle.plain.specs.declared.Standing.{Standing}
+use Rattle.index.specs.declared.Indexed.{Indexed}
 use Rattle.quick.specs.declared.QuickAnswer.{QuickAnswer}
-use Rattle.quick.specs.declared.QuickAnswer.TheVariants as quick
-use Rattle.quick.specs.declared.WordAnswer.{WordAnswer}
-use Rattle.quick.specs.declared.WordAnswer.TheVariants as word
+use Rattle.quick.specs.declared.QuickAnswer.TheVariants.{Found, Absent}
 use Rattle.exports_replies.specs.declared.Reply.{Reply}
-use Rattle.exports_replies.specs.declared.Reply.TheVariants.{Refused, One, Two, Three, Four}
+use Rattle.exports_replies.specs.declared.Reply.TheVariants.{One, Two, Three, Four}
 
 -- + is 0, - is 1
 abbrev pub side_of : Side → ℕ
 side_of Asked = 0
 side_of Turned = 1
 
--- k, and how many letters, ends and weights were filled
-abbrev pub read_reply : ReadAnswer → Reply
-read_reply (read.Filled k letters ends weights) = Four k letters ends weights
-read_reply (read.Refused number place) = Refused number place
+-- READ: k, and how many letters, ends and weights were filled
+abbrev pub read_reply : Result sheet.Filled Refusal → Result Reply Refusal
+read_reply (Ok f) = Ok (Four f.k f.letters f.ends f.weights)
+read_reply (Err r) = Err r
 
--- how many bytes were written
-abbrev pub write_reply : WriteAnswer → Reply
-write_reply (write.Written bytes) = One bytes
-write_reply (write.Refused number place) = Refused number place
+-- WRITE: how many bytes were written; CHECK: how many k-mers were looked at; RUNS: how many runs were filled in each table
+abbrev pub count_reply : Result ℕ Refusal → Result Reply Refusal
+count_reply (Ok n) = Ok (One n)
+count_reply (Err r) = Err r
 
--- how many k-mers were looked at
-abbrev pub check_reply : CheckAnswer → Reply
-check_reply (check.Checked kmers) = One kmers
-check_reply (check.Refused number place) = Refused number place
+-- COVER: the paths, and how many places were filled
+abbrev pub cover_reply : Result Covered Refusal → Result Reply Refusal
+cover_reply (Ok c) = Ok (Two c.paths c.places)
+cover_reply (Err r) = Err r
 
--- the paths, and how many places were filled
-abbrev pub cover_reply : CoverAnswer → Reply
-cover_reply (cover.Covered places paths) = Two paths places
-cover_reply (cover.Refused number place) = Refused number place
+-- APPLY: how many letters, ends and weights were filled
+abbrev pub apply_reply : Result apply.Filled Refusal → Result Reply Refusal
+apply_reply (Ok f) = Ok (Three f.letters f.ends f.weights)
+apply_reply (Err r) = Err r
 
--- how many letters, ends and weights were filled
-abbrev pub apply_reply : ApplyAnswer → Reply
-apply_reply (apply.Filled letters ends weights) = Three letters ends weights
-apply_reply (apply.Refused number place) = Refused number place
+-- WEIGHT: the weight
+abbrev pub weight_reply : Result ℕ Refusal → Result Reply Refusal
+weight_reply (Ok w) = Ok (One w)
+weight_reply (Err r) = Err r
 
--- how many runs were filled in each table
-abbrev pub runs_reply : RunsAnswer → Reply
-runs_reply (runs.Filled count) = One count
-runs_reply (runs.Refused number place) = Refused number place
+-- ACCESS: the position of the first of the k letters, and k
+abbrev pub access_reply : ℕ → Result ℕ Refusal → Result Reply Refusal
+access_reply k (Ok position) = Ok (Two position k)
+access_reply k (Err r) = Err r
 
--- the weight
-abbrev pub weight_reply : WeightAnswer → Reply
-weight_reply (weight.Found w) = One w
-weight_reply (weight.Refused number place) = Refused number place
+-- PLAIN: the handle and the side; absent, handle 0
+abbrev pub plain_reply : Result (Option Standing) Refusal → Result Reply Refusal
+plain_reply (Ok (Some s)) = Ok (Two s.handle (side_of s.side))
+plain_reply (Ok None) = Ok (Two 0 0)
+plain_reply (Err r) = Err r
 
--- the position of the first of the k letters, and k
-abbrev pub access_reply : ℕ → AccessAnswer → Reply
-access_reply k (access.At position) = Two position k
-access_reply k (access.Refused number place) = Refused number place
+-- INDEX: how many stretches were filled in each of three tables, and how many entries in the fourth
+abbrev pub index_reply : Result Indexed Refusal → Result Reply Refusal
+index_reply (Ok i) = Ok (Two i.stretches i.starts)
+index_reply (Err r) = Err r
 
--- the handle and the side; absent, handle 0
-abbrev pub plain_reply : PlainAnswer → Reply
-plain_reply (plain.Found handle side) = Two handle (side_of side)
-plain_reply plain.Absent = Two 0 0
-plain_reply (plain.Refused number place) = Refused number place
+-- QUICK: the handle, the side and the number compared; absent, handle 0
+abbrev pub quick_reply : Result QuickAnswer Refusal → Result Reply Refusal
+quick_reply (Ok (Found handle side compared)) = Ok (Three handle (side_of side) compared)
+quick_reply (Ok (Absent compared)) = Ok (Three 0 0 compared)
+quick_reply (Err r) = Err r
 
--- how many stretches were filled in each of three tables, and how many entries in the fourth
-abbrev pub index_reply : IndexAnswer → Reply
-index_reply (index.Indexed stretches starts) = Two stretches starts
-index_reply (index.Refused number place) = Refused number place
-
--- the handle, the side and the number compared; absent, handle 0
-abbrev pub quick_reply : QuickAnswer → Reply
-quick_reply (quick.Found handle side compared) = Three handle (side_of side) compared
-quick_reply (quick.Absent compared) = Three 0 0 compared
-quick_reply (quick.Refused number place) = Refused number place
-
--- 1 and the weight; absent, 0 and 0
-abbrev pub weigh_reply : WordAnswer → Reply
-weigh_reply (word.Weighs w) = Two 1 w
-weigh_reply word.Absent = Two 0 0
-weigh_reply (word.Refused number place) = Refused number place
+-- the weight of a word: 1 and the weight; absent, 0 and 0
+abbrev pub weigh_reply : Result (Option ℕ) Refusal → Result Reply Refusal
+weigh_reply (Ok (Some w)) = Ok (Two 1 w)
+weigh_reply (Ok None) = Ok (Two 0 0)
+weigh_reply (Err r) = Err r

@@ -3,10 +3,9 @@
 
 pub mod inner;
 
-// A refusal, or as many values as the call answers.
-#[derive(Clone, Copy)]
+// As many values as the call answers: the C functions write them into a table, and hosts read them there by their number.
+#[derive(Clone, Copy, Debug, PartialEq, Eq)]
 pub enum Reply {
-    Refused { number: u32, place: u64 },
     One(u64),
     Two(u64, u64),
     Three(u64, u64, u64),

@@ -1,4 +1,4 @@
 -- Laws of INDEX: its steps, what it comes to, and what success says.
 pub mod Built
-pub mod Indexed
+pub mod Ways
 pub mod Success

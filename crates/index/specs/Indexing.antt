@@ -1,19 +1,18 @@
 -- INDEX: the collection is judged and looked through for repeated words, and its index is made.
 -- Specification: 9.7.
-use Rattle.std.specs.Prelude.{◌&&◌, List, ℕ, ◌+◌, ◌*◌, ◌^◌, leb, length, take, replicate}
+use Rattle.index.specs.declared.Indexed.{Indexed}
+use Rattle.collection.specs.declared.refusal.Refusal.TheVariants.{Room, Repeated}
+use Rattle.collection.specs.declared.refusal.Refusal.{Refusal}
+use Rattle.std.specs.Prelude.{◌&&◌, List, ℕ, ◌+◌, ◌*◌, ◌^◌, leb, length, take, replicate, Err, Result, Ok}
 use Rattle.lists.specs.Choose.{choose}
 use Rattle.lists.specs.Fill.{fill}
 use Rattle.collection.specs.Collection.{Spelling, Collection, spelling_of}
-use Rattle.collection.specs.declared.Verdict.{Verdict}
-use Rattle.collection.specs.declared.Verdict.TheVariants.{Good, Bad}
 use Rattle.collection.specs.Judge.{collection_verdict, kmers_in}
-use Rattle.collection.specs.Verdict.{and_then, at_place, settle}
+use Rattle.collection.specs.Verdict.{and_then, at_place, settle, Verdict, good}
 use Rattle.repeats.specs.Check.{first_repeat}
 use Rattle.index_minimizers.specs.Minimizer.{sizes_verdict, minimizer_at}
 use Rattle.index_stretches.specs.Stretches.{stretches}
 use Rattle.index_stretches.specs.Index.{Index, tables, indexed}
-use Rattle.index.specs.declared.IndexAnswer.{IndexAnswer}
-use Rattle.index.specs.declared.IndexAnswer.TheVariants.{Indexed, Refused}
 
 -- the five lent tables
 pub record Lent : Type 0 where
@@ -38,7 +37,7 @@ rooms_verdict count d n t =
     choose
     (leb count (length t.firsts)
     && (leb count (length t.positions) && (leb count (length t.numbers) && (leb (d + 1) (length t.before) && leb (4 * n) (length t.work)))))
-    Good (Bad 1 0)
+    good (Err Room)
 
 -- 2, of k and p, then 3 to 6, then 1
 unfoldable pub index_verdict : Collection → ℕ → Lent → Verdict
@@ -49,12 +48,16 @@ index_verdict c p t =
 
 -- ─── the call ────────────────────────────────────────────────────────────────
 
+-- so many stretches are filled into each of three tables, and so many entries into the fourth
+abbrev pub filled : ℕ → ℕ → Result Indexed Refusal
+filled count starts = Ok (record { stretches = count; starts = starts })
+
 -- what the call answers, and what the lent tables hold afterwards
 pub record Outcome : Type 0 where
-  pub answer : IndexAnswer
+  pub answer : Result Indexed Refusal
   pub after : Lent
 
-abbrev pub outcome : IndexAnswer → Lent → Outcome
+abbrev pub outcome : Result Indexed Refusal → Lent → Outcome
 outcome r t = record { answer = r; after = t }
 
 -- work with its first 4n entries 0
@@ -83,6 +86,6 @@ first_entries count starts t = tables (take count t.firsts) (take count t.positi
 -- entries of its tables and work is zeroed; the answer says how many entries were filled in each of the three tables, and in the fourth.
 unfoldable pub index_of : Collection → ℕ → Lent → Outcome
 index_of c p t =
-    settle (index_verdict c p t) (λ number place. outcome (Refused number place) t)
-    (settle (at_place 7 (first_repeat (spelling_of c))) (λ number place. outcome (Refused number place) (untouched (kmers_in (spelling_of c)) t))
-    (outcome (Indexed (stretch_count (spelling_of c) p) (4 ^ p + 1)) (holding (index_with (spelling_of c) p) (kmers_in (spelling_of c)) t)))
+    settle (index_verdict c p t) (λ r. outcome (Err r) t)
+    (settle (at_place Repeated (first_repeat (spelling_of c))) (λ r. outcome (Err r) (untouched (kmers_in (spelling_of c)) t))
+    (outcome (filled (stretch_count (spelling_of c) p) (4 ^ p + 1)) (holding (index_with (spelling_of c) p) (kmers_in (spelling_of c)) t)))

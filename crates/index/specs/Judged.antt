@@ -1,5 +1,8 @@
 -- Inner: the answer where no word repeats, what 2 to 6 and 1 leave to do, and what that comes to.
-use Rattle.std.specs.Prelude.{◌≡◌, ℕ, ◌+◌, ◌*◌, ◌^◌, ◌≤◌, length}
+use Rattle.index.specs.declared.Indexed.{Indexed}
+use Rattle.collection.specs.declared.refusal.Refusal.TheVariants.{Repeated}
+use Rattle.collection.specs.declared.refusal.Refusal.{Refusal}
+use Rattle.std.specs.Prelude.{◌≡◌, ℕ, ◌+◌, ◌*◌, ◌^◌, ◌≤◌, length, Err, Result}
 use Rattle.lists.specs.Fill.{fill}
 use Rattle.lists.specs.Regions.{Only}
 use Rattle.collection.specs.Collection.{Spelling, Collection, spelling_of}
@@ -8,9 +11,7 @@ use Rattle.collection.specs.Verdict.{at_place, settle}
 use Rattle.collection.specs.Ready.{Ready}
 use Rattle.repeats.specs.Check.{first_repeat}
 use Rattle.index_stretches.specs.Index.{Index}
-use Rattle.index.specs.declared.IndexAnswer.{IndexAnswer}
-use Rattle.index.specs.declared.IndexAnswer.TheVariants.{Indexed, Refused}
-use Rattle.index.specs.Indexing.{Lent, stretch_count, index_verdict, Outcome, outcome, untouched, holding, index_with}
+use Rattle.index.specs.Indexing.{Lent, stretch_count, index_verdict, Outcome, outcome, untouched, holding, index_with, filled}
 
 -- five tables of these sizes
 pub record Sized (t : Lent) (firsts positions numbers before work : ℕ) : Type 0 where
@@ -21,8 +22,8 @@ pub record Sized (t : Lent) (firsts positions numbers before work : ℕ) : Type 
   pub work_size : length t.work ≡ work
 
 -- the answer where no word repeats
-unfoldable pub foreseen : Collection → ℕ → Lent → IndexAnswer
-foreseen c p t = settle (index_verdict c p t) Refused (Indexed (stretch_count (spelling_of c) p) (4 ^ p + 1))
+unfoldable pub foreseen : Collection → ℕ → Lent → Result Indexed Refusal
+foreseen c p t = settle (index_verdict c p t) Err (filled (stretch_count (spelling_of c) p) (4 ^ p + 1))
 
 -- what 2 to 6 and 1 leave: n k-mers in m stretches, and room for them
 pub record Judged (spelt : Spelling) (p : ℕ) (n m : ℕ) (t : Lent) : Type 0 where
@@ -49,5 +50,5 @@ pub record Held (index : Index) (n : ℕ) (t t' : Lent) : Type 0 where
 -- 7, or the index of n k-mers
 unfoldable pub judged_of : Spelling → ℕ → ℕ → Lent → Outcome
 judged_of spelt p n t =
-    settle (at_place 7 (first_repeat spelt)) (λ number place. outcome (Refused number place) (untouched n t))
-    (outcome (Indexed (stretch_count spelt p) (4 ^ p + 1)) (holding (index_with spelt p) n t))
+    settle (at_place Repeated (first_repeat spelt)) (λ r. outcome (Err r) (untouched n t))
+    (outcome (filled (stretch_count spelt p) (4 ^ p + 1)) (holding (index_with spelt p) n t))

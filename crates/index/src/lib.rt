@@ -6,13 +6,13 @@ ghost use Rattle.index.specs.Indexing.{Lent, lent, outcome, index_with, index_of
 ghost use Rattle.index.specs.Judged.{Sized, foreseen, Judged, Held, judged_of};
 ghost use Rattle.collection.specs.Collection.{spelling, collection};
 
-use collection::Verdict;
+use collection::Refusal;
 
-// What INDEX answers: how many stretches it filled into each of three tables and how many entries into the fourth; or the number and place of a refusal.
-#[derive(Clone, Copy)]
-pub enum IndexAnswer {
-    Indexed { stretches: usize, starts: usize },
-    Refused { number: u32, place: usize },
+// What INDEX answers: how many stretches it filled into each of three tables, and how many entries into the fourth.
+#[derive(Clone, Copy, Debug, PartialEq, Eq)]
+pub struct Indexed {
+    pub stretches: usize,
+    pub starts: usize,
 }
 
 // 2 to 6, then 1; five tables of these sizes are lent. The answer is that of a collection in which no word repeats.
@@ -27,30 +27,21 @@ fn foresee(
     numbers: usize,
     before: usize,
     work: usize,
-) -> IndexAnswer
+) -> Result<Indexed, Refusal>
     ensures { (t : Lent) → Sized t firsts positions numbers before work
         → result ≡ foreseen (collection k letters.now ends.now weights.now) p t }
 {
-    let a = index_minimizers::judge_sizes(k, p);
-    if let Verdict::Bad { number, place } = a {
-        return IndexAnswer::Refused { number, place };
-    }
-    let b = collection::judge_collection(k, letters, ends, weights);
-    if let Verdict::Bad { number, place } = b {
-        return IndexAnswer::Refused { number, place };
-    }
+    index_minimizers::judge_sizes(k, p)?;
+    collection::judge_collection(k, letters, ends, weights)?;
     let stretches = index_cutting::inner::count_all(k, p, letters, ends);
     let starts = words::inner::word_count(p) + 1;
     if (stretches <= firsts)
         & ((stretches <= positions)
             & ((stretches <= numbers) & ((starts <= before) & (4 * weights.len() <= work))))
     {
-        return IndexAnswer::Indexed { stretches, starts };
+        return Ok(Indexed { stretches, starts });
     }
-    IndexAnswer::Refused {
-        number: 1,
-        place: 0,
-    }
+    Err(Refusal::Room)
 }
 
 // The index of n k-mers in m stretches. The stretches are stored in the order of their handles first, and their minimizers in work.
@@ -98,7 +89,7 @@ fn index_judged(
     numbers: &mut [u32],
     before: &mut [u32],
     work: &mut [u32],
-) -> IndexAnswer
+) -> Result<Indexed, Refusal>
     requires { Judged (spelling k letters.now ends.now) p n m (lent firsts.old positions.old numbers.old before.old work.old) }
     ensures { outcome result (lent firsts.new positions.new numbers.new before.new work.new)
         ≡ judged_of (spelling k letters.now ends.now) p n
@@ -108,20 +99,17 @@ fn index_judged(
     let repeated = repeat != 0;
     if repeated {
         collection::inner::zero_first(work, 4 * n);
-        return IndexAnswer::Refused {
-            number: 7,
-            place: repeat,
-        };
+        return Err(Refusal::Repeated { place: repeat });
     }
     build(
         k, p, letters, ends, n, m, firsts, positions, numbers, before, work,
     );
     collection::inner::zero_first(work, 4 * n);
     let starts = words::inner::word_count(p) + 1;
-    IndexAnswer::Indexed {
+    Ok(Indexed {
         stretches: m,
         starts,
-    }
+    })
 }
 
 // INDEX: 2 to 6, 1, then 7, at the lowest handle whose word or its reverse complement stands earlier. Else the stretches by their minimizers, and where each
@@ -137,12 +125,12 @@ pub fn index(
     numbers: &mut [u32],
     before: &mut [u32],
     work: &mut [u32],
-) -> IndexAnswer
+) -> Result<Indexed, Refusal>
     ensures { outcome result (lent firsts.new positions.new numbers.new before.new work.new)
         ≡ index_of (collection k letters.now ends.now weights.now) p
         (lent firsts.old positions.old numbers.old before.old work.old) }
 {
-    let v = foresee(
+    let counts = foresee(
         k,
         p,
         letters,
@@ -153,17 +141,14 @@ pub fn index(
         numbers.len(),
         before.len(),
         work.len(),
-    );
-    let IndexAnswer::Indexed { stretches, .. } = v else {
-        return v;
-    };
+    )?;
     index_judged(
         k,
         p,
         letters,
         ends,
         weights.len(),
-        stretches,
+        counts.stretches,
         firsts,
         positions,
         numbers,

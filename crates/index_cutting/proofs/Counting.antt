@@ -5,9 +5,7 @@ use Prim.Native.Nat.{ℕ, ◌+◌, ◌-◌, ◌≤◌, ◌<◌}
 use native.Mathlib.Omega.{arith}
 use lib.ListN.{length, get_or, drop, length-append}
 use Rattle.collection.specs.Kmers.{within}
-use Rattle.collection.specs.Ready.{Long}
-use Rattle.collection_faults.specs.Faults.{last_end}
-use Rattle.collection.proofs.Kmers.{StringsLeft, strings_begin, strings_on}
+use Rattle.collection.proofs.Kmers.{StringsLeft, strings_on}
 use Rattle.index_stretches.specs.Stretches.{Stretch, of_string, stretches_from, stretches}
 use Rattle.index_stretches.proofs.Even.{string_few}
 use Rattle.index_cutting.proofs.Opened.{Open, open_start, open_on, open_cut, open_last, stretches_next, stretches_end}
@@ -70,31 +68,27 @@ pub record Tallied (q : ℕ → ℕ) (k N : ℕ) (ends : List ℕ) (i before cou
   pub small : count < next
   pub whole : length (stretches q k ends) ≡ count + length (stretches_from q k next before (drop i ends))
 
-module _ (q : ℕ → ℕ) (k N : ℕ) (ends : List ℕ) where
-  pub tallied_begin : Long k ends → last_end 0 ends ≡ N → Tallied q k N ends 0 0 0
-  tallied_begin g e = record { next = 1; strings = strings_begin g e; small = omega arith; whole = omega arith }
+module _ (q : ℕ → ℕ) (k N : ℕ) (ends : List ℕ) (i before count : ℕ) (r : Tallied q k N ends i before count) where
+  -- the next string, which has m stretches
+  pub tallied_on : i < length ends → 1 ≤ k → (m : ℕ) → ((h : ℕ) → m ≡ length (of_string q h before (within k before (get_or ends i 0))))
+      → Tallied q k N ends (i + 1) (get_or ends i 0) (count + m)
+  tallied_on l k1 m e =
+      let n = within k before (get_or ends i 0) in
+      let h = r.next in
+      record {
+        next = h + n;
+        strings = strings_on r.strings l k1 (h + n - 1) (omega (arith, r.small));
+        small = omega (arith, r.small, e h, string_few q h before n);
+        whole =
+            omega (
+              arith,
+              r.whole,
+              e h,
+              ap length (stretches_next q k h before ends i l),
+              length-append (of_string q h before n) (stretches_from q k (h + n) (get_or ends i 0) (drop (i + 1) ends)),
+            );
+      }
 
-  module _ (i before count : ℕ) (r : Tallied q k N ends i before count) where
-    -- the next string, which has m stretches
-    pub tallied_on : i < length ends → 1 ≤ k → (m : ℕ) → ((h : ℕ) → m ≡ length (of_string q h before (within k before (get_or ends i 0))))
-        → Tallied q k N ends (i + 1) (get_or ends i 0) (count + m)
-    tallied_on l k1 m e =
-        let n = within k before (get_or ends i 0) in
-        let h = r.next in
-        record {
-          next = h + n;
-          strings = strings_on r.strings l k1 (h + n - 1) (omega (arith, r.small));
-          small = omega (arith, r.small, e h, string_few q h before n);
-          whole =
-              omega (
-                arith,
-                r.whole,
-                e h,
-                ap length (stretches_next q k h before ends i l),
-                length-append (of_string q h before n) (stretches_from q k (h + n) (get_or ends i 0) (drop (i + 1) ends)),
-              );
-        }
-
-    -- no string is left
-    pub tallied_end : length ends ≤ i → count ≡ length (stretches q k ends)
-    tallied_end l = omega (arith, r.whole, ap length (stretches_end q k r.next before ends i l))
+  -- no string is left
+  pub tallied_end : length ends ≤ i → count ≡ length (stretches q k ends)
+  tallied_end l = omega (arith, r.whole, ap length (stretches_end q k r.next before ends i l))

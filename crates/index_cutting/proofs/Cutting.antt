@@ -4,10 +4,8 @@ use mathlib.Core.List.{List, [], ◌∷◌, ◌++◌}
 use Prim.Native.Nat.{ℕ, ◌+◌, ◌-◌, ◌≤◌, ◌<◌}
 use native.Mathlib.Omega.{arith}
 use lib.ListN.{length, set, get_or, drop}
-use Rattle.collection_faults.specs.Faults.{last_end}
 use Rattle.collection.specs.Kmers.{within}
-use Rattle.collection.specs.Ready.{Long}
-use Rattle.collection.proofs.Kmers.{StringsLeft, strings_begin, strings_on}
+use Rattle.collection.proofs.Kmers.{StringsLeft, strings_on}
 use Rattle.index_stretches.specs.Stretches.{Stretch, stretch, of_string, stretches_from, stretches}
 use Rattle.index_stretches.proofs.Even.{string_few}
 use Rattle.index_cutting.specs.Cut.{Room4, Cut}
@@ -68,12 +66,9 @@ pub record Passed (q : ℕ → ℕ) (k N : ℕ) (ends fs₀ fs ps₀ ps ns₀ ns
   pub few : o < h
   pub filling : Filling q 0 (stretches q k ends) fs₀ fs ps₀ ps ns₀ ns ks₀ ks (stretches_from q k h before (drop i ends)) o
 
-module _ {q : ℕ → ℕ} {k N : ℕ} {ends : List ℕ} where
-  pub passed_begin : {fs ps ns ks : List ℕ} → Long k ends → last_end 0 ends ≡ N → Room4 0 (length (stretches q k ends)) fs ps ns ks
-      → Passed q k N ends fs fs ps ps ns ns ks ks 0 1 0 0
-  passed_begin g e r = record { strings = strings_begin g e; few = omega arith; filling = filling_begin q (stretches q k ends) r }
-
-  module _ {fs₀ fs ps₀ ps ns₀ ns ks₀ ks : List ℕ} {before h o i : ℕ} (r : Passed q k N ends fs₀ fs ps₀ ps ns₀ ns ks₀ ks before h o i) where
+module _ {q : ℕ → ℕ} {k N : ℕ} {ends fs₀ fs ps₀ ps ns₀ ns ks₀ ks : List ℕ} {before h o i : ℕ}
+    (r : Passed q k N ends fs₀ fs ps₀ ps ns₀ ns ks₀ ks before h o i)
+  where
     -- no string is left
     pub passed_end : length ends ≤ i → Cut q 0 (stretches q k ends) fs₀ fs ps₀ ps ns₀ ns ks₀ ks
     passed_end l = filling_end (filling_restated (stretches_end q k h before ends i l) r.filling)

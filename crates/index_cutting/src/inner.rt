@@ -18,13 +18,11 @@ fn count_string(k: usize, p: usize, letters: &[u8], a: usize, n: usize) -> usize
     let mut c = words::inner::word_code(&letters[a..a + k]);
     let mut v = index_minimizers::inner::find(p, k - p, c);
     let mut count = 1;
-    let mut i = 1;
-    while i < n {
+    for i in 1..n {
         let x = alphabet::letter_code(letters[a + i + (k - 1)]);
         let d = words::inner::roll(k, c, x);
         let q = index_minimizers::inner::slide(p, k - p, v, c, d, x);
         c = d;
-        i += 1;
         if q != v {
             count += 1;
             v = q;
@@ -41,12 +39,10 @@ pub fn count_all(k: usize, p: usize, letters: &[u8], ends: &[u32]) -> usize
 {
     let mut at: usize = 0;
     let mut count: usize = 0;
-    let mut i = 0;
-    while i < ends.len() {
-        let e = ends[i] as usize;
+    for end in ends {
+        let e = *end as usize;
         count += count_string(k, p, letters, at, e + 1 - (at + k));
         at = e;
-        i += 1;
     }
     count
 }
@@ -101,18 +97,15 @@ fn cut_string(
     let mut v = index_minimizers::inner::find(p, k - p, c);
     let mut s: usize = 0;
     let mut to = o;
-    let mut i: usize = 1;
-    while i < n {
+    for i in 1..n {
         let x = alphabet::letter_code(letters[a + i + (k - 1)]);
         let d = words::inner::roll(k, c, x);
         let q = index_minimizers::inner::slide(p, k - p, v, c, d, x);
-        let j = i;
         c = d;
-        i += 1;
         if q != v {
-            store(firsts, positions, numbers, keys, to, h + s, a + s, j - s, v);
+            store(firsts, positions, numbers, keys, to, h + s, a + s, i - s, v);
             to += 1;
-            s = j;
+            s = i;
             v = q;
         }
     }
@@ -141,13 +134,11 @@ pub fn cut_all(
     let mut at: usize = 0;
     let mut h: usize = 1;
     let mut o: usize = 0;
-    let mut i = 0;
-    while i < ends.len() {
-        let e = ends[i] as usize;
+    for end in ends {
+        let e = *end as usize;
         let n = e + 1 - (at + k);
         o = cut_string(k, p, letters, h, at, n, o, firsts, positions, numbers, keys);
         h += n;
         at = e;
-        i += 1;
     }
 }

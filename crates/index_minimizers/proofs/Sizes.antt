@@ -5,9 +5,10 @@ use Prim.Native.Nat.{ℕ, ◌^◌, ◌≤◌}
 use native.Mathlib.Nat.{pow-le-pow_right}
 use borrow.Author.Tests.{leb-true}
 use lib.Dec.{leb, lit<}
+use Rattle.collection.specs.Verdict.{good}
+use Rattle.collection.specs.declared.refusal.Refusal.TheVariants as refusal
 use Rattle.lists.specs.Limits.{least_k, most_k}
 use Rattle.lists.proofs.Every.{and_left, and_right}
-use Rattle.collection.specs.declared.Verdict.TheVariants.{Good}
 use Rattle.collection.specs.Judge.{k_verdict}
 use Rattle.collection.proofs.Judged.{k_good}
 use Rattle.collection.proofs.Verdicts.{both_good, test_good}
@@ -22,11 +23,11 @@ pub record Sizes (k p : ℕ) : Type 0 where
   pub p_fits : p ≤ k
 
 -- 2 is not given: they are
-pub sizes_good : (k p : ℕ) → sizes_verdict k p ≡ Good → Sizes k p
+pub sizes_good : (k p : ℕ) → sizes_verdict k p ≡ good → Sizes k p
 unfolding sizes_verdict
 sizes_good k p h =
     let a = both_good (k_verdict k) _ h in
-    let t = (test_good (leb 1 p && (leb p 8 && leb p k)) 2 0 Good a.1).0 in
+    let t = (test_good (leb 1 p && (leb p 8 && leb p k)) refusal.Sizes good a.1).0 in
     let r = and_right (leb 1 p) (leb p 8 && leb p k) t in
     record {
       k_low = (k_good k a.0).0;

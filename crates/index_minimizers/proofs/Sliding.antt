@@ -46,11 +46,11 @@ unfolding least
 least_end p c = refl
 
 -- one piece more in front: it, or the least of those behind it
-pub least_step : (p j c : ℕ) → 0 < j → least p j c ≡ min (c / 4 ^ j % 4 ^ p) (least p (j - 1) c)
+pub least_step : (p j n c : ℕ) → n ≡ j + 1 → least p n c ≡ min (c / 4 ^ n % 4 ^ p) (least p j c)
 unfolding least
-least_step p j c h =
-    let q : j ≡ suc (j - 1) = omega arith in
-    subst (λ (n : ℕ). least p n c ≡ min (c / 4 ^ n % 4 ^ p) (least p (j - 1) c)) (sym q) refl
+least_step p j n c h =
+    let q : suc j ≡ n = omega arith in
+    subst (λ (i : ℕ). least p i c ≡ min (c / 4 ^ i % 4 ^ p) (least p j c)) q refl
 
 -- it is no larger than the last piece
 pub least_low : (p n c : ℕ) → least p n c ≤ c % 4 ^ p
@@ -97,7 +97,7 @@ module _ (p n v c d x : ℕ) (is : v ≡ least p n c) (h : x < 4) (next : d ≡ 
   new_least l = go (dec_lt 0 n)
     where
       go : Dec (0 < n) → d % 4 ^ p ≡ least p n d
-      go (yes g) = omega (arith, least-rolled g, is, least_step p n c g)
+      go (yes g) = omega (arith, least-rolled g, is, least_step p (n - 1) n c (omega arith))
       go (no g) = let q : n ≡ 0 = omega arith in sym (least_end p d) ∙ ap (λ (k : ℕ). least p k d) (sym q)
 
   -- where the new piece is larger and the first piece of c was not the least, the least stays
@@ -105,7 +105,7 @@ module _ (p n v c d x : ℕ) (is : v ≡ least p n c) (h : x < 4) (next : d ≡ 
   old_least l g = go (dec_lt 0 n)
     where
       go : Dec (0 < n) → v ≡ least p n d
-      go (yes k) = omega (arith, least-rolled k, is, least_step p n c k)
+      go (yes k) = omega (arith, least-rolled k, is, least_step p (n - 1) n c (omega arith))
       go (no k) =
           let q : n ≡ 0 = omega arith in
           absurd (g (ap (λ (i : ℕ). c / 4 ^ i % 4 ^ p) q ∙ (last_piece p c ∙ sym (is ∙ (ap (λ (i : ℕ). least p i c) q ∙ least_end p c)))))

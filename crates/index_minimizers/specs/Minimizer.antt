@@ -1,16 +1,15 @@
 -- Minimizers: the smallest code among the words of p letters of a k-mer.
 -- Specification: 6.1.
-use Rattle.std.specs.Prelude.{◌&&◌, List, ℕ, zero, suc, ◌-◌, min, leb, length, take, drop}
+use Rattle.collection.specs.declared.refusal.Refusal.TheVariants.{Sizes}
+use Rattle.std.specs.Prelude.{◌&&◌, List, ℕ, zero, suc, ◌-◌, min, leb, length, take, drop, Err}
 use Rattle.lists.specs.Choose.{choose}
 use Rattle.words.specs.Word.{code, word_at}
-use Rattle.collection.specs.declared.Verdict.{Verdict}
-use Rattle.collection.specs.declared.Verdict.TheVariants.{Good, Bad}
 use Rattle.collection.specs.Judge.{k_verdict}
-use Rattle.collection.specs.Verdict.{and_then}
+use Rattle.collection.specs.Verdict.{and_then, Verdict, good}
 
 -- 2: k is 3 to 31, p is 1 to 8 and at most k
 unfoldable pub sizes_verdict : ℕ → ℕ → Verdict
-sizes_verdict k p = and_then (k_verdict k) (choose (leb 1 p && (leb p 8 && leb p k)) Good (Bad 2 0))
+sizes_verdict k p = and_then (k_verdict k) (choose (leb 1 p && (leb p 8 && leb p k)) good (Err Sizes))
 
 -- the smallest code among the first n + 1 words of p letters of w
 unfoldable pub smallest : ℕ → ℕ → List ℕ → ℕ

@@ -1,16 +1,9 @@
 // The minimizer of a k-mer from its code: looked for, or carried on from the k-mer before. n + p letters of the code count, so that
 // it has n + 1 pieces of p letters.
-ghost use Rattle.std.specs.Prelude.{◌≡◌, ◌+◌, ◌/◌, ◌%◌, ◌^◌, ◌≤◌, ◌<◌, min};
+ghost use Rattle.std.specs.Prelude.{◌≡◌, ◌+◌, ◌/◌, ◌%◌, ◌^◌, ◌≤◌, ◌<◌};
 ghost use Rattle.lists.specs.Limits.{most_k};
 ghost use Rattle.words.specs.Turned.{rolled};
 ghost use Rattle.index_minimizers.specs.Least.{least};
-
-// The smaller of two codes.
-fn smaller(a: u64, b: u64) -> u64
-    ensures { result ≡ min a b }
-{
-    if b < a { b } else { a }
-}
 
 // The p letters of the code c that stand before its last j.
 fn piece(p: usize, c: u64, j: usize) -> u64
@@ -26,10 +19,8 @@ pub fn find(p: usize, n: usize, c: u64) -> u64
     ensures { result ≡ least p n c }
 {
     let mut best = piece(p, c, 0);
-    let mut j = n;
-    while 0 < j {
-        best = smaller(best, piece(p, c, j));
-        j -= 1;
+    for j in 0..n {
+        best = best.min(piece(p, c, j + 1));
     }
     best
 }

@@ -6,21 +6,16 @@ pub mod inner;
 ghost use Rattle.std.specs.Prelude.{◌≡◌};
 ghost use Rattle.index_minimizers.specs.Minimizer.{sizes_verdict};
 
-use collection::Verdict;
+use collection::Refusal;
 
 // 2: k or p outside its range.
-pub fn judge_sizes(k: usize, p: usize) -> Verdict
+#[tactic(auto, unfolding(crate::specs::Minimizer::sizes_verdict, collection::specs::Verdict::and_then))]
+pub fn judge_sizes(k: usize, p: usize) -> Result<(), Refusal>
     ensures { result ≡ sizes_verdict k p }
 {
-    let a = collection::judge_k(k);
-    let Verdict::Good = a else {
-        return a;
-    };
+    collection::judge_k(k)?;
     if (1 <= p) & ((p <= 8) & (p <= k)) {
-        return Verdict::Good;
+        return Ok(());
     }
-    Verdict::Bad {
-        number: 2,
-        place: 0,
-    }
+    Err(Refusal::Sizes)
 }

@@ -95,11 +95,6 @@ pub record Tested {A : Type 0} (test : A → Bool) (xs : List A) (good : Bool) (
   pub inside : i ≤ length xs
   pub whole : every test xs ≡ (good && every test (drop i xs))
 
-module _ {A : Type 0} (test : A → Bool) (xs : List A) where
-  -- none is tested yet
-  pub tested_none : Tested test xs true 0
-  tested_none = record { inside = omega arith; whole = refl }
-
 module _ {A : Type 0} {test : A → Bool} {xs : List A} {good : Bool} {i : ℕ} (s : Tested test xs good i) where
   -- one more is
   pub tested_next : (d : A) → i < length xs → {t : Bool} → t ≡ test (get_or xs i d) → Tested test xs (good && t) (i + 1)

@@ -1,34 +1,17 @@
--- Laws of `first_that`: how a loop finds it, and what it tells. Assumes nothing.
+-- Laws of `first_that`: one element more, and what it tells. Assumes nothing.
 use mathlib.Core.Path.{◌≡◌, refl, sym, ap, ap₂, ◌∙◌}
 use mathlib.Core.Bool.{Bool, true, false}
 use mathlib.Core.List.{List, [], ◌∷◌, ◌++◌}
 use Prim.Native.Nat.{ℕ, zero, suc, ◌+◌, ◌-◌, ◌<◌, ◌≤◌}
-use native.Mathlib.Numerals.{add-one}
 use native.Mathlib.Omega.{arith}
 use borrow.Author.Tests.{eq-eqb, ne_eqb}
 use lib.Dec.{eqb}
-use lib.ListN.{length, drop, get_or, drop_of_length-le}
-use lib.Seq.{drop-cons}
+use lib.ListN.{length, get_or}
 use Rattle.lists.specs.Choose.{choose}
 use Rattle.lists.specs.First.{first_from, first_that}
 use Rattle.lists.specs.Every.{All}
 
 module _ {A : Type 0} (test : A → Bool) where
-  -- ─── as a loop goes over the list ──────────────────────────────────────────
-
-  module _ (xs : List A) (i : ℕ) (d : A) (h : i < length xs) where
-    pub first_here : test (get_or xs i d) ≡ true → first_from test i (drop i xs) ≡ i + 1
-    unfolding first_from
-    first_here e = rw (drop-cons xs i d, e, add-one)
-
-    pub first_next : test (get_or xs i d) ≡ false → first_from test i (drop i xs) ≡ first_from test (i + 1) (drop (i + 1) xs)
-    unfolding first_from
-    first_next e = rw (drop-cons xs i d, e, add-one)
-
-  pub first_end : (xs : List A) (i : ℕ) → length xs ≤ i → first_from test i (drop i xs) ≡ 0
-  unfolding first_from
-  first_end xs i h = rw (drop_of_length-le xs h)
-
   -- ─── one element more behind ───────────────────────────────────────────────
 
   first_snoc_from : (i : ℕ) (xs : List A) (x : A)

@@ -4,7 +4,6 @@ pub mod First
 pub mod FirstAt
 pub mod Every
 pub mod Storing
-pub mod Copying
 pub mod Count
 pub mod Agree
 pub mod Table

@@ -1,12 +1,12 @@
 -- Laws of `put` and `fill`, and the invariant of every loop that fills a table. Assumes nothing.
 use mathlib.Core.Path.{◌≡◌, refl, sym, ap, ◌∙◌, subst}
-use mathlib.Core.List.{List, [], ◌∷◌, ◌++◌, append_assoc, append-nil}
-use Prim.Native.Nat.{ℕ, suc, ◌+◌, ◌-◌, ◌<◌, ◌≤◌}
+use mathlib.Core.List.{List, [], ◌∷◌, ◌++◌, append_assoc}
+use Prim.Native.Nat.{ℕ, suc, ◌+◌, ◌<◌, ◌≤◌}
 use native.Mathlib.Nat.{add-suc, suc-add, zero-add, add-zero}
 use native.Mathlib.Numerals.{add-one}
 use native.Mathlib.Omega.{arith}
-use lib.ListN.{length, take, drop, set, get_or, take-append-drop, length-set, length-append, length-drop, drop_of_length-le}
-use lib.Seq.{take-suc-set, drop-set-lt, drop-cons, drop-drop, take_all, take_at, drop_at, length-take-le}
+use lib.ListN.{length, take, drop, set, get_or, take-append-drop, length-set, length-append, length-drop}
+use lib.Seq.{take-suc-set, drop-set-lt, drop-cons, drop-drop, take_at, drop_at, length-take-le}
 use Rattle.lists.specs.Fill.{put, fill}
 
 -- one entry more, as a loop's index counts
@@ -38,13 +38,6 @@ module _ {A : Type 0} where
   -- filled, changed in its first entries and filled again is filled once
   pub fill_again : (xs old between : List A) (n : ℕ) → length xs ≡ n → drop n between ≡ drop n old → fill xs between ≡ fill xs old
   fill_again xs old between n e q = ap (λ (l : List A). xs ++ l) (ap (λ (m : ℕ). drop m between) e ∙ (q ∙ ap (λ (m : ℕ). drop m old) (sym e)))
-
-  -- a part from `at` to the end was lent and filled: what that makes of the whole
-  pub put_lent : (at : ℕ) (xs old : List A) {part : List A} → part ≡ fill xs (take (length old - at) (drop at old))
-      → take at old ++ (part ++ drop (length old - at) (drop at old)) ≡ put at xs old
-  put_lent at xs old q =
-      let l : length (drop at old) ≤ length old - at = rw length-drop (omega arith) in
-      rw (q, take_all (length old - at) (drop at old) l, drop_of_length-le (drop at old) l, append-nil, drop-drop)
 
   -- A loop stores entries one after the other. `rest` is what is still to be stored, from entry `at` on; stored, it brings the table to `target`.
   pub record Storing (size : ℕ) (table target rest : List A) (at : ℕ) : Type 0 where

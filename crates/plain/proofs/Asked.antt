@@ -6,6 +6,7 @@ use Prim.Native.Nat.{ℕ}
 use native.Mathlib.Omega.{arith}
 use lib.Dec.{eqb}
 use lib.ListN.{length, length-map}
+use Rattle.std.specs.Prelude.{None}
 use Rattle.lists.specs.Every.{All, every, same}
 use Rattle.lists.specs.First.{first_that}
 use Rattle.lists.proofs.Every.{every-all, all_map}
@@ -14,7 +15,6 @@ use Rattle.words.specs.Turned.{turned_code}
 use Rattle.words.specs.Word.{Letters, code, spell, word_at, turn}
 use Rattle.words.proofs.Spelled.{spell-letters, spell_bits}
 use Rattle.words.proofs.Turning.{length-turn, letters-turn, turned-code}
-use Rattle.plain.specs.declared.PlainAnswer.TheVariants.{Absent}
 use Rattle.collection.specs.Collection.{Spelling}
 use Rattle.collection.specs.declared.Side.TheVariants.{Asked, Turned}
 use Rattle.collection.specs.Kmers.{kmers}
@@ -52,5 +52,5 @@ module _ {t : Spelling} (r : Ready t) where
         let c : asked ≡ code w = Asked-is ∙ ap code (spell_bits word h) in
         let d : turned ≡ code (turn w) = turned_is ∙ (ap₂ turned_code (sym l) c ∙ turned-code w s) in
         scan_lowest (λ a. eqb (code (word_at t.k t.letters a)) asked) (λ a. eqb (code (word_at t.k t.letters a)) turned) (kmers t.k t.ends)
-        ∙ ap₂ (λ (p q : ℕ). found_or Asked p (found_or Turned q Absent)) (lowest-code w asked l s c)
+        ∙ ap₂ (λ (p q : ℕ). found_or Asked p (found_or Turned q None)) (lowest-code w asked l s c)
         (lowest-code (turn w) turned (length-turn w ∙ l) (letters-turn w s) d)

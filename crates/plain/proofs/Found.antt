@@ -6,6 +6,8 @@ use mathlib.Core.Logic.{inl}
 use Prim.Native.Nat.{ℕ, zero, suc, ◌+◌, ◌-◌, ◌≤◌}
 use native.Mathlib.Omega.{arith}
 use lib.ListN.{length}
+use Rattle.plain.specs.declared.Standing.{Standing}
+use Rattle.std.specs.Prelude.{Option, None}
 use Rattle.lists.specs.Every.{same}
 use Rattle.lists.proofs.Every.{same_is, is_same, all_at}
 use Rattle.lists.proofs.First.{first_found_from, first_none}
@@ -13,9 +15,7 @@ use Rattle.words.specs.Word.{word_at, turn}
 use Rattle.collection.specs.Collection.{Spelling}
 use Rattle.collection.specs.declared.Side.TheVariants.{Asked, Turned}
 use Rattle.collection.specs.Kmers.{kmers, word_of, Distinct}
-use Rattle.plain.specs.declared.PlainAnswer.{PlainAnswer}
-use Rattle.plain.specs.declared.PlainAnswer.TheVariants.{Found, Absent}
-use Rattle.plain.specs.Plain.{lowest, found_or, plain_found}
+use Rattle.plain.specs.Plain.{lowest, found_or, plain_found, found_at}
 use Rattle.plain.specs.Says.{Stands, Nowhere, Lowest, Says, as_asked, as_turned, absent}
 
 module _ (t : Spelling) where
@@ -41,19 +41,19 @@ module _ (t : Spelling) where
   unfolding plain_found found_or
   plain_says w = go (lowest t w) refl (lowest t (turn w)) refl
     where
-      go : (a : ℕ) → lowest t w ≡ a → (b : ℕ) → lowest t (turn w) ≡ b → Says t w (found_or Asked a (found_or Turned b Absent))
+      go : (a : ℕ) → lowest t w ≡ a → (b : ℕ) → lowest t (turn w) ≡ b → Says t w (found_or Asked a (found_or Turned b None))
       go zero e zero f = absent (lowest-none w e) (lowest-none (turn w) f)
       go zero e (suc b) f = as_turned (suc b) (lowest-none w e) (lowest_found (turn w) b f)
       go (suc a) e b f = as_asked (suc a) (lowest_found w a e)
 
   -- with no repeated words, asking for the word of a handle gives that handle
-  pub plain_own : Distinct t → (handle : ℕ) → 1 ≤ handle → handle ≤ length (kmers t.k t.ends) → plain_found t (word_of t handle) ≡ Found handle Asked
+  pub plain_own : Distinct t → (handle : ℕ) → 1 ≤ handle → handle ≤ length (kmers t.k t.ends) → plain_found t (word_of t handle) ≡ found_at handle Asked
   plain_own d handle l h = go (plain_says (word_of t handle))
     where
       own : Stands t (word_of t handle) handle
       own = record { low = l; high = h; word = refl }
 
-      go : {answer : PlainAnswer} → Says t (word_of t handle) answer → answer ≡ Found handle Asked
+      go : {answer : Option Standing} → Says t (word_of t handle) answer → answer ≡ found_at handle Asked
       go (as_asked other s) =
           let w = s.here in
           let p : suc (other - 1) ≡ other = omega (arith, w.low) in
@@ -62,6 +62,6 @@ module _ (t : Spelling) where
           let b : handle - 1 + 1 ≡ handle = omega arith in
           let e : other - 1 ≡ handle - 1 =
           d (other - 1) (handle - 1) (omega (arith, w.low, w.high)) (omega arith) (inl (ap (word_of t) a ∙ (w.word ∙ ap (word_of t) (sym b)))) in
-          ap (λ (n : ℕ). Found n Asked) (sym a ∙ (ap (λ (n : ℕ). n + 1) e ∙ b))
+          ap (λ (n : ℕ). found_at n Asked) (sym a ∙ (ap (λ (n : ℕ). n + 1) e ∙ b))
       go (as_turned other none s) = absurd (none handle own)
       go (absent none none') = absurd (none handle own)

@@ -8,18 +8,18 @@ use native.Mathlib.Omega.{arith}
 use borrow.Author.Tests.{ne_eqb}
 use lib.Dec.{eqb}
 use lib.ListN.{length}
+use Rattle.plain.specs.declared.Standing.{Standing}
+use Rattle.std.specs.Prelude.{Option, None}
 use Rattle.lists.specs.Choose.{choose}
 use Rattle.lists.specs.Count.{count_from}
 use Rattle.lists.specs.First.{first_from, first_that}
 use Rattle.lists.proofs.Count.{count_next, count_end, count_start, length_count}
 use Rattle.lists.proofs.Refuted.{refuted}
-use Rattle.plain.specs.declared.PlainAnswer.{PlainAnswer}
-use Rattle.plain.specs.declared.PlainAnswer.TheVariants.{Found, Absent}
 use Rattle.plain.specs.declared.Seen.{Seen}
 use Rattle.plain.specs.declared.Seen.TheVariants.{At, NotAsked}
 use Rattle.collection.specs.declared.Side.TheVariants.{Asked, Turned}
 use Rattle.plain.specs.Scan.{scan_from}
-use Rattle.plain.specs.Plain.{found_or}
+use Rattle.plain.specs.Plain.{found_or, found_at}
 
 module _ (is_asked is_turned : ℕ → Bool) where
   -- ─── one k-mer further ─────────────────────────────────────────────────────
@@ -40,24 +40,25 @@ module _ (is_asked is_turned : ℕ → Bool) where
 
   -- as a loop goes over `number` k-mers from position `at` on, where `passed` have passed before and i of these
   module _ (passed turned at number i : ℕ) (l : i < number) where
-    pub string-asked : is_asked (at + i) ≡ true → scan_from is_asked is_turned (passed + i) turned (count_from (at + i) (number - i)) ≡ At (passed + (i + 1))
+    pub string-asked : is_asked (at + i) ≡ true → scan_from is_asked is_turned (passed + i) turned (count_from (at + i) (number - i)) ≡ At (passed + i + 1)
     string-asked e =
-        let q : suc (passed + i) ≡ passed + (i + 1) = omega arith in
+        let q : suc (passed + i) ≡ passed + i + 1 = omega arith in
         ap (scan_from is_asked is_turned (passed + i) turned) (count_next at number i l) ∙ (scan_asked (passed + i) turned (at + i) _ e ∙ ap At q)
 
     -- another word: the pass goes on, and remembers the first turned one
     pub string-other : is_asked (at + i) ≡ false → (here : Bool) → here ≡ is_turned (at + i) → (turned' : ℕ)
-        → turned' ≡ choose (eqb turned 0 && here) (passed + (i + 1)) turned
+        → turned' ≡ choose (eqb turned 0 && here) (passed + i + 1) turned
         → scan_from is_asked is_turned (passed + i) turned (count_from (at + i) (number - i))
         ≡ scan_from is_asked is_turned (passed + (i + 1)) turned' (count_from (at + (i + 1)) (number - (i + 1)))
     string-other e here b turned' t =
         let q : suc (passed + i) ≡ passed + (i + 1) = omega arith in
+        let r : passed + i + 1 ≡ passed + (i + 1) = omega arith in
         ap (scan_from is_asked is_turned (passed + i) turned) (count_next at number i l)
         ∙ (scan_other (passed + i) turned (at + i) _ e
         ∙ (ap (λ (n : ℕ). scan_from is_asked is_turned n (choose (eqb turned 0 && is_turned (at + i)) n turned)
         (count_from (at + (i + 1)) (number - (i + 1)))) q
         ∙ ap (λ (n : ℕ). scan_from is_asked is_turned (passed + (i + 1)) n (count_from (at + (i + 1)) (number - (i + 1))))
-        (sym (t ∙ ap (λ (s : Bool). choose (eqb turned 0 && s) (passed + (i + 1)) turned) b))))
+        (sym (t ∙ ap₂ (λ (s : Bool) (n : ℕ). choose (eqb turned 0 && s) n turned) b r))))
 
   -- before the first k-mer of the string
   pub string-start : (passed turned at number : ℕ)
@@ -120,17 +121,17 @@ module _ (is_asked is_turned : ℕ → Bool) where
   or_else : ℕ → ℕ → ℕ
   or_else turned next = choose (eqb turned 0) next turned
 
-  pub answered : Seen → PlainAnswer
-  answered (At handle) = Found handle Asked
-  answered (NotAsked turned) = found_or Turned turned Absent
+  pub answered : Seen → Option Standing
+  answered (At handle) = found_at handle Asked
+  answered (NotAsked turned) = found_or Turned turned None
 
   scan_first : (h turned : ℕ) (xs : List ℕ)
       → answered (scan_from is_asked is_turned h turned xs)
-      ≡ found_or Asked (first_from is_asked h xs) (found_or Turned (or_else turned (first_from is_turned h xs)) Absent)
+      ≡ found_or Asked (first_from is_asked h xs) (found_or Turned (or_else turned (first_from is_turned h xs)) None)
   unfolding scan_from first_from found_or answered or_else
   scan_first h turned [] = go turned
     where
-      go : (t : ℕ) → found_or Turned t Absent ≡ found_or Turned (choose (eqb t 0) 0 t) Absent
+      go : (t : ℕ) → found_or Turned t None ≡ found_or Turned (choose (eqb t 0) 0 t) None
       go zero = refl
       go (suc t) = rw (ne_eqb (suc t) 0 (λ q. omega arith))
   scan_first h turned (x ∷ xs) = go (is_asked x) (is_turned x) (λ t. scan_first (suc h) t xs)
@@ -147,31 +148,31 @@ module _ (is_asked is_turned : ℕ → Bool) where
 
       go : (a b : Bool)
           → ((t : ℕ) → answered (scan_from is_asked is_turned (suc h) t xs)
-          ≡ found_or Asked (first_from is_asked (suc h) xs) (found_or Turned (or_else t (first_from is_turned (suc h) xs)) Absent))
+          ≡ found_or Asked (first_from is_asked (suc h) xs) (found_or Turned (or_else t (first_from is_turned (suc h) xs)) None))
           → answered (choose a (At (suc h)) (scan_from is_asked is_turned (suc h) (choose (eqb turned 0 && b) (suc h) turned) xs))
           ≡ found_or Asked (choose a (suc h) (first_from is_asked (suc h) xs))
-          (found_or Turned (or_else turned (choose b (suc h) (first_from is_turned (suc h) xs))) Absent)
+          (found_or Turned (or_else turned (choose b (suc h) (first_from is_turned (suc h) xs))) None)
       go true b ih = refl
       go false b ih =
           ih (choose (eqb turned 0 && b) (suc h) turned)
-          ∙ ap (λ (n : ℕ). found_or Asked (first_from is_asked (suc h) xs) (found_or Turned n Absent)) (settle-turned b turned)
+          ∙ ap (λ (n : ℕ). found_or Asked (first_from is_asked (suc h) xs) (found_or Turned n None)) (settle-turned b turned)
 
   -- the whole pass: the lowest handle as asked, else turned
   pub scan_lowest : (xs : List ℕ)
-      → answered (scan_from is_asked is_turned 0 0 xs) ≡ found_or Asked (first_that is_asked xs) (found_or Turned (first_that is_turned xs) Absent)
+      → answered (scan_from is_asked is_turned 0 0 xs) ≡ found_or Asked (first_that is_asked xs) (found_or Turned (first_that is_turned xs) None)
   unfolding or_else
   scan_lowest xs = scan_first 0 0 xs
 
 -- what the pass tells, as an answer
-pub answered_at : (is_asked is_turned : ℕ → Bool) (handle : ℕ) → answered is_asked is_turned (At handle) ≡ Found handle Asked
+pub answered_at : (is_asked is_turned : ℕ → Bool) (handle : ℕ) → answered is_asked is_turned (At handle) ≡ found_at handle Asked
 unfolding answered
 answered_at is_asked is_turned handle = refl
 
-pub answered_none : (is_asked is_turned : ℕ → Bool) (turned : ℕ) → turned ≡ 0 → answered is_asked is_turned (NotAsked turned) ≡ Absent
+pub answered_none : (is_asked is_turned : ℕ → Bool) (turned : ℕ) → turned ≡ 0 → answered is_asked is_turned (NotAsked turned) ≡ None
 unfolding answered found_or
-answered_none is_asked is_turned turned e = ap (λ (n : ℕ). found_or Turned n Absent) e
+answered_none is_asked is_turned turned e = ap (λ (n : ℕ). found_or Turned n None) e
 
-pub answered_turned : (is_asked is_turned : ℕ → Bool) (turned : ℕ) → (turned ≡ 0 → ⊥) → answered is_asked is_turned (NotAsked turned) ≡ Found turned Turned
+pub answered_turned : (is_asked is_turned : ℕ → Bool) (turned : ℕ) → (turned ≡ 0 → ⊥) → answered is_asked is_turned (NotAsked turned) ≡ found_at turned Turned
 unfolding answered found_or
 answered_turned is_asked is_turned zero h = absurd (h refl)
 answered_turned is_asked is_turned (suc n) h = refl

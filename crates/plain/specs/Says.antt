@@ -1,12 +1,12 @@
 -- What it means that a word stands in a collection, and what each answer of PLAIN says.
 -- Specification: 9.10, 12.2.
-use Rattle.std.specs.Prelude.{◌≡◌, List, ℕ, ◌<◌, ◌≤◌, length}
+use Rattle.plain.specs.Plain.{found_at}
+use Rattle.plain.specs.declared.Standing.{Standing}
+use Rattle.std.specs.Prelude.{◌≡◌, List, ℕ, ◌<◌, ◌≤◌, length, Option, None}
 use Rattle.words.specs.Word.{turn}
 use Rattle.collection.specs.Collection.{Spelling}
 use Rattle.collection.specs.declared.Side.TheVariants.{Asked, Turned}
 use Rattle.collection.specs.Kmers.{kmers, word_of}
-use Rattle.plain.specs.declared.PlainAnswer.{PlainAnswer}
-use Rattle.plain.specs.declared.PlainAnswer.TheVariants.{Found, Absent}
 
 module _ (t : Spelling) where
   -- the word w stands at a handle
@@ -25,7 +25,7 @@ module _ (t : Spelling) where
     pub none_below : (other : ℕ) → other < handle → Stands w other → ⊥
 
   -- what each answer to the word w says
-  pub data Says (w : List ℕ) : PlainAnswer → Type 0 where
-    as_asked : (handle : ℕ) → Lowest w handle → Says w (Found handle Asked)
-    as_turned : (handle : ℕ) → Nowhere w → Lowest (turn w) handle → Says w (Found handle Turned)
-    absent : Nowhere w → Nowhere (turn w) → Says w Absent
+  pub data Says (w : List ℕ) : Option Standing → Type 0 where
+    as_asked : (handle : ℕ) → Lowest w handle → Says w (found_at handle Asked)
+    as_turned : (handle : ℕ) → Nowhere w → Lowest (turn w) handle → Says w (found_at handle Turned)
+    absent : Nowhere w → Nowhere (turn w) → Says w None

@@ -7,34 +7,35 @@ ghost use Rattle.std.specs.Prelude.{◌≡◌};
 ghost use Rattle.plain.specs.Plain.{plain_of};
 ghost use Rattle.collection.specs.Collection.{collection};
 
-use collection::{Side, Verdict};
+use collection::{Refusal, Side};
 
-// What PLAIN answers.
-#[derive(Clone, Copy)]
-pub enum PlainAnswer {
-    Found { handle: usize, side: Side },
-    Absent,
-    Refused { number: u32, place: usize },
+// Where a word stands: the handle, and whether it stands there as asked.
+#[derive(Clone, Copy, Debug, PartialEq, Eq)]
+pub struct Standing {
+    pub handle: usize,
+    pub side: Side,
 }
 
 // What a pass over k-mers has seen: the asked word at a handle; or not that, and the turned word first at a handle (0: not).
-#[derive(Clone, Copy)]
+// No Result: neither case is a failure.
+#[derive(Clone, Copy, Debug, PartialEq, Eq)]
 pub enum Seen {
     At(usize),
     NotAsked(usize),
 }
 
-// PLAIN: the lowest handle of a word as asked, else of its reverse complement, by a scan of the whole collection.
-pub fn plain(k: usize, letters: &[u8], ends: &[u32], weights: &[u32], word: &[u8]) -> PlainAnswer
+// PLAIN: the lowest handle of a word as asked, else of its reverse complement, by a scan of the whole collection; `None` where neither stands there.
+#[tactic(auto, unfolding(crate::specs::Plain::plain_of, collection::specs::Verdict::settle, collection::specs::Verdict::and_then))]
+pub fn plain(
+    k: usize,
+    letters: &[u8],
+    ends: &[u32],
+    weights: &[u32],
+    word: &[u8],
+) -> Result<Option<Standing>, Refusal>
     ensures { result ≡ plain_of (collection k letters.now ends.now weights.now) word.now }
 {
-    let a = collection::judge_collection(k, letters, ends, weights);
-    if let Verdict::Bad { number, place } = a {
-        return PlainAnswer::Refused { number, place };
-    }
-    let b = collection::judge_word(k, word);
-    if let Verdict::Bad { number, place } = b {
-        return PlainAnswer::Refused { number, place };
-    }
-    scanning::found(k, letters, ends, word)
+    collection::judge_collection(k, letters, ends, weights)?;
+    collection::judge_word(k, word)?;
+    Ok(scanning::found(k, letters, ends, word))
 }

@@ -12,7 +12,7 @@ ghost use Rattle.collection.specs.Ready.{Ready};
 ghost use Rattle.plain.specs.Scan.{scan_from};
 ghost use Rattle.plain.specs.Plain.{plain_found};
 
-use crate::{PlainAnswer, Seen};
+use crate::{Seen, Standing};
 use collection::Side;
 
 // The handle at which the turned word was first seen, after one k-mer more.
@@ -41,14 +41,12 @@ fn scan_string(
     let before = at + (k - 1);
     let mut c = words::inner::word_code(&letters[at..before]);
     let mut first = seen;
-    let mut i = 0;
-    while i < number {
-        c = words::inner::roll(k, c, alphabet::letter_code(letters[before + i]));
-        i += 1;
+    for (i, b) in letters[before..before + number].iter().enumerate() {
+        c = words::inner::roll(k, c, alphabet::letter_code(*b));
         if c == asked {
-            return Seen::At(passed + i);
+            return Seen::At(passed + i + 1);
         }
-        first = first_turned(first, c == turned, passed + i);
+        first = first_turned(first, c == turned, passed + i + 1);
     }
     Seen::NotAsked(first)
 }
@@ -62,9 +60,8 @@ fn scan(k: usize, letters: &[u8], ends: &[u32], asked: u64, turned: u64) -> Seen
     let mut at: usize = 0;
     let mut passed: usize = 0;
     let mut first: usize = 0;
-    let mut i = 0;
-    while i < ends.len() {
-        let e = ends[i] as usize;
+    for end in ends {
+        let e = *end as usize;
         let number = e + 1 - (at + k);
         let s = scan_string(k, letters, at, number, asked, turned, passed, first);
         let Seen::NotAsked(seen) = s else {
@@ -73,34 +70,27 @@ fn scan(k: usize, letters: &[u8], ends: &[u32], asked: u64, turned: u64) -> Seen
         first = seen;
         passed += number;
         at = e;
-        i += 1;
     }
     Seen::NotAsked(first)
 }
 
 // What PLAIN answers of judged tables and a judged word.
-pub(crate) fn found(k: usize, letters: &[u8], ends: &[u32], word: &[u8]) -> PlainAnswer
+pub(crate) fn found(k: usize, letters: &[u8], ends: &[u32], word: &[u8]) -> Option<Standing>
     requires ready { Ready (spelling k letters.now ends.now) }
     requires word_len { (length word.now ≡ k) × (every is_letter word.now ≡ true) }
     ensures { result ≡ plain_found (spelling k letters.now ends.now) (spell word.now) }
 {
     let asked = words::inner::word_code(word);
     let turned = words::inner::turned_code(k, asked);
-    let s = scan(k, letters, ends, asked, turned);
-    match s {
-        Seen::At(handle) => PlainAnswer::Found {
+    match scan(k, letters, ends, asked, turned) {
+        Seen::At(handle) => Some(Standing {
             handle,
             side: Side::Asked,
-        },
-        Seen::NotAsked(handle) => {
-            if handle == 0 {
-                PlainAnswer::Absent
-            } else {
-                PlainAnswer::Found {
-                    handle,
-                    side: Side::Turned,
-                }
-            }
-        }
+        }),
+        Seen::NotAsked(0) => None,
+        Seen::NotAsked(handle) => Some(Standing {
+            handle,
+            side: Side::Turned,
+        }),
     }
 }

@@ -7,6 +7,9 @@ use native.Mathlib.Omega.{arith}
 use borrow.Author.Tests.{leb-true, eqb-true}
 use lib.Dec.{eqb}
 use lib.ListN.{length, length-map}
+use Rattle.std.specs.Prelude.{Err}
+use Rattle.collection.specs.Verdict.{good}
+use Rattle.collection.specs.declared.refusal.Refusal.TheVariants as refusal
 use Rattle.lists.specs.Choose.{choose}
 use Rattle.lists.specs.Every.{every}
 use Rattle.lists.specs.Limits.{most_letters}
@@ -17,7 +20,6 @@ use Rattle.words.specs.Turned.{spelled, turned_code}
 use Rattle.words.proofs.Codes.{code_lt, spelled-code}
 use Rattle.words.proofs.Spelled.{spell-letters, spell_bits}
 use Rattle.words.proofs.Turning.{length-turn, letters-turn, turned-code}
-use Rattle.collection.specs.declared.Verdict.TheVariants.{Good, Bad}
 use Rattle.collection.specs.declared.Side.TheVariants.{Asked, Turned}
 use Rattle.collection.specs.Judge.{size_verdict, word_verdict}
 use Rattle.collection.proofs.Judged.{size_good, word_good}
@@ -45,7 +47,7 @@ pub record Asking (k p : ℕ) (word : List ℕ) (N : ℕ) : Type 0 where
   pub letters : every is_letter word ≡ true
 
 -- a question that they do not refuse
-pub ask_good : (k p : ℕ) (word : List ℕ) (N : ℕ) → ask_verdict k p word N ≡ Good → Asking k p word N
+pub ask_good : (k p : ℕ) (word : List ℕ) (N : ℕ) → ask_verdict k p word N ≡ good → Asking k p word N
 unfolding ask_verdict
 ask_good k p word N e =
     let a = both_good (sizes_verdict k p) _ e in
@@ -83,8 +85,8 @@ module _ {k p : ℕ} {word : List ℕ} {N : ℕ} (a : Asking k p word N) where
   abbrev asks : List ℕ
   asks = spell word
 
-  good : Letters asks
-  good = spelt word a.sizes.p_fits a.long a.letters
+  spelt_good : Letters asks
+  spelt_good = spelt word a.sizes.p_fits a.long a.letters
 
   many : length asks ≡ k
   many = size word a.sizes.p_fits a.long a.letters
@@ -94,10 +96,10 @@ module _ {k p : ℕ} {word : List ℕ} {N : ℕ} (a : Asking k p word N) where
 
   -- both rows are among those of the index
   pub row_below : minimizer p asks < 4 ^ p
-  row_below = minimizer_lt p asks good (omega (arith, many, a.sizes.p_fits))
+  row_below = minimizer_lt p asks spelt_good (omega (arith, many, a.sizes.p_fits))
 
   pub other_below : minimizer p (turn asks) < 4 ^ p
-  other_below = minimizer_lt p (turn asks) (letters-turn asks good) (omega (arith, many_turned, a.sizes.p_fits))
+  other_below = minimizer_lt p (turn asks) (letters-turn asks spelt_good) (omega (arith, many_turned, a.sizes.p_fits))
 
   -- the question can be asked
   pub askable : (letters : List ℕ) → length letters ≡ N → Askable k letters (question_of p asks)
@@ -106,17 +108,17 @@ module _ {k p : ℕ} {word : List ℕ} {N : ℕ} (a : Asking k p word N) where
         k_low = omega (arith, a.sizes.k_low);
         k_high = a.sizes.k_high;
         few_letters = omega (arith, n, a.few);
-        asked_small = subst (λ (n : ℕ). code asks < 4 ^ n) many (code_lt asks good);
-        turned_small = subst (λ (n : ℕ). code (turn asks) < 4 ^ n) many_turned (code_lt (turn asks) (letters-turn asks good));
+        asked_small = subst (λ (n : ℕ). code asks < 4 ^ n) many (code_lt asks spelt_good);
+        turned_small = subst (λ (n : ℕ). code (turn asks) < 4 ^ n) many_turned (code_lt (turn asks) (letters-turn asks spelt_good));
       }
 
   -- to ask by codes is to ask by words
   pub asked_quick : (letters : List ℕ) (index : Index) → asked_of k letters index (question_of p asks) ≡ quick_found (minimizer p) k letters index asks
   unfolding asked_of turned_of quick_found
   asked_quick letters index =
-      let s : spelled k (code asks) ≡ asks = ap (λ (n : ℕ). spelled n (code asks)) (sym many) ∙ spelled-code asks good in
+      let s : spelled k (code asks) ≡ asks = ap (λ (n : ℕ). spelled n (code asks)) (sym many) ∙ spelled-code asks spelt_good in
       let t : spelled k (code (turn asks)) ≡ turn asks =
-      ap (λ (n : ℕ). spelled n (code (turn asks))) (sym many_turned) ∙ spelled-code (turn asks) (letters-turn asks good) in
+      ap (λ (n : ℕ). spelled n (code (turn asks))) (sym many_turned) ∙ spelled-code (turn asks) (letters-turn asks spelt_good) in
       ap₂
       (λ (u v : List ℕ).
       met_or Asked (seek (is_word k letters u) 0 (walk (row_of index (minimizer p asks))))
@@ -140,10 +142,10 @@ tables_good d t e =
     )
 
 -- both rows of a judged index can be walked
-pub rows_good : (d k N : ℕ) (t : Index) (row other : ℕ) → row < d → other < d → rows_verdict d k N t row other ≡ Good → Row k N t row × Row k N t other
+pub rows_good : (d k N : ℕ) (t : Index) (row other : ℕ) → row < d → other < d → rows_verdict d k N t row other ≡ good → Row k N t row × Row k N t other
 unfolding rows_verdict
 rows_good d k N t row other l m e =
-    let f = (test_good (tables_fit d t && (row_fits k N t row && row_fits k N t other)) 10 0 Good e).0 in
+    let f = (test_good (tables_fit d t && (row_fits k N t row && row_fits k N t other)) refusal.Index good e).0 in
     let g = tables_good d t (and_left (tables_fit d t) _ f) in
     let r = and_right (tables_fit d t) _ f in (
       record { alike = g.1; inside = omega (arith, g.0); fits = and_left (row_fits k N t row) _ r },
@@ -152,16 +154,17 @@ rows_good d k N t row other l m e =
 
 -- the tests in their order: the tables, the first row, and then the second decides
 module _ (d k N : ℕ) (t : Index) (row other : ℕ) where
-  pub tables_wrong : tables_fit d t ≡ false → Bad 10 0 ≡ rows_verdict d k N t row other
+  pub tables_wrong : tables_fit d t ≡ false → Err refusal.Index ≡ rows_verdict d k N t row other
   unfolding rows_verdict
-  tables_wrong e = sym (ap (λ (b : Bool). choose (b && (row_fits k N t row && row_fits k N t other)) Good (Bad 10 0)) e)
+  tables_wrong e = sym (ap (λ (b : Bool). choose (b && (row_fits k N t row && row_fits k N t other)) good (Err refusal.Index)) e)
 
-  pub row_wrong : tables_fit d t ≡ true → row_fits k N t row ≡ false → Bad 10 0 ≡ rows_verdict d k N t row other
+  pub row_wrong : tables_fit d t ≡ true → row_fits k N t row ≡ false → Err refusal.Index ≡ rows_verdict d k N t row other
   unfolding rows_verdict
-  row_wrong e f = sym (ap₂ (λ (a b : Bool). choose (a && (b && row_fits k N t other)) Good (Bad 10 0)) e f)
+  row_wrong e f = sym (ap₂ (λ (a b : Bool). choose (a && (b && row_fits k N t other)) good (Err refusal.Index)) e f)
 
   pub other_decides : (b : Bool) → tables_fit d t ≡ true → row_fits k N t row ≡ true → row_fits k N t other ≡ b
-      → choose b Good (Bad 10 0) ≡ rows_verdict d k N t row other
+      → choose b good (Err refusal.Index) ≡ rows_verdict d k N t row other
   unfolding rows_verdict
   other_decides b e f g =
-      sym (ap₂ (λ (x y : Bool). choose (x && (y && row_fits k N t other)) Good (Bad 10 0)) e f ∙ ap (λ (x : Bool). choose x Good (Bad 10 0)) g)
+      sym (ap₂ (λ (x y : Bool). choose (x && (y && row_fits k N t other)) good (Err refusal.Index)) e f
+      ∙ ap (λ (x : Bool). choose x good (Err refusal.Index)) g)

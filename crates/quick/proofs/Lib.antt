@@ -1,4 +1,3 @@
--- Laws of QUICK, and of the weight of an asked word.
+-- Laws of QUICK.
 pub mod Asked
 pub mod Answers
-pub mod Weighing

@@ -1,14 +1,14 @@
 -- QUICK: the handle of an asked word, by its row of the index and the row of its reverse complement.
 -- Specification: 9.8.
-use Rattle.std.specs.Prelude.{◌&&◌, List, ℕ, ◌^◌, length}
+use Rattle.collection.specs.declared.refusal.Refusal.{Refusal}
+use Rattle.collection.specs.declared.refusal.Refusal.TheVariants as refusal
+use Rattle.std.specs.Prelude.{◌&&◌, List, ℕ, ◌^◌, length, Err, Ok, Result}
 use Rattle.lists.specs.Choose.{choose}
 use Rattle.words.specs.Word.{spell, turn}
 use Rattle.collection.specs.declared.Side.{Side}
 use Rattle.collection.specs.declared.Side.TheVariants.{Asked, Turned}
-use Rattle.collection.specs.declared.Verdict.{Verdict}
-use Rattle.collection.specs.declared.Verdict.TheVariants.{Good, Bad}
 use Rattle.collection.specs.Judge.{size_verdict, word_verdict}
-use Rattle.collection.specs.Verdict.{and_then, settle}
+use Rattle.collection.specs.Verdict.{and_then, settle, Verdict, good}
 use Rattle.index_minimizers.specs.Minimizer.{sizes_verdict, minimizer}
 use Rattle.index_stretches.specs.Stretches.{walk}
 use Rattle.index_stretches.specs.Index.{Index, row_of, tables_fit, row_fits}
@@ -16,7 +16,7 @@ use Rattle.quick_walks.specs.declared.Met.{Met}
 use Rattle.quick_walks.specs.declared.Met.TheVariants.{Hit, Miss}
 use Rattle.quick_walks.specs.Walk.{is_word, seek}
 use Rattle.quick.specs.declared.QuickAnswer.{QuickAnswer}
-use Rattle.quick.specs.declared.QuickAnswer.TheVariants.{Found, Absent, Refused}
+use Rattle.quick.specs.declared.QuickAnswer.TheVariants.{Found, Absent}
 
 -- ─── the walks ───────────────────────────────────────────────────────────────
 
@@ -36,7 +36,7 @@ quick_found z k letters index w =
 
 -- 10: the tables fit and both rows do, each judged in full; minimizers are below d
 unfoldable pub rows_verdict : ℕ → ℕ → ℕ → Index → ℕ → ℕ → Verdict
-rows_verdict d k N index row other = choose (tables_fit d index && (row_fits k N index row && row_fits k N index other)) Good (Bad 10 0)
+rows_verdict d k N index row other = choose (tables_fit d index && (row_fits k N index row && row_fits k N index other)) good (Err refusal.Index)
 
 -- the rows are those of the word and of its reverse complement
 abbrev pub index_verdict : (List ℕ → ℕ) → ℕ → ℕ → ℕ → Index → List ℕ → Verdict
@@ -52,5 +52,5 @@ quick_verdict k p word letters index = and_then (ask_verdict k p word (length le
     (index_verdict (minimizer p) (4 ^ p) k (length letters) index (spell word))
 
 -- what QUICK answers
-unfoldable pub quick_of : ℕ → ℕ → List ℕ → List ℕ → Index → QuickAnswer
-quick_of k p word letters index = settle (quick_verdict k p word letters index) Refused (quick_found (minimizer p) k letters index (spell word))
+unfoldable pub quick_of : ℕ → ℕ → List ℕ → List ℕ → Index → Result QuickAnswer Refusal
+quick_of k p word letters index = settle (quick_verdict k p word letters index) Err (Ok (quick_found (minimizer p) k letters index (spell word)))

@@ -11,7 +11,7 @@ ghost use Rattle.quick.specs.Quick.{rows_verdict};
 ghost use Rattle.quick.specs.Asking.{question_of, asked_of, turned_of};
 
 use crate::{Question, QuickAnswer};
-use collection::{Side, Verdict};
+use collection::{Refusal, Side};
 use quick_walks::Met;
 
 // The question for a judged word.
@@ -42,26 +42,22 @@ pub fn judge_index(
     positions: &[u32],
     numbers: &[u32],
     before: &[u32],
-) -> Verdict
+) -> Result<(), Refusal>
     requires { (k ≤ most_k) × (p ≤ 8) × (n ≤ most_letters) × (q.row < 4 ^ p) × (q.other < 4 ^ p) }
     ensures { result ≡ rows_verdict (4 ^ p) k n (tables firsts.now positions.now numbers.now before.now)
         q.row q.other }
 {
-    let bad = Verdict::Bad {
-        number: 10,
-        place: 0,
-    };
     let count = words::inner::word_count(p);
     if !quick_walks::inner::tables_fit(count, firsts, positions, numbers, before) {
-        return bad;
+        return Err(Refusal::Index);
     }
     if !quick_walks::inner::row_fits(k, n, firsts, positions, numbers, before, q.row) {
-        return bad;
+        return Err(Refusal::Index);
     }
     if !quick_walks::inner::row_fits(k, n, firsts, positions, numbers, before, q.other) {
-        return bad;
+        return Err(Refusal::Index);
     }
-    Verdict::Good
+    Ok(())
 }
 
 // The second walk: the turned word, in its own row.

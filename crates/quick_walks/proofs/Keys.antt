@@ -9,8 +9,8 @@ use native.Mathlib.Nat.{div-div-eq-div-mul, eq-or-lt_of_le}
 use borrow.Author.Count.{below_more}
 use borrow.Author.Tests.{lt-ltb, ltb-true, ltb-false}
 use lib.Dec.{ltb}
-use lib.ListN.{length, get_or, take, drop, set, length-map, get_or-append}
-use lib.Seq.{get_or-take, get_or-drop, get_or_at, get_or-set_same, get_or-set_other}
+use lib.ListN.{length, get_or, take, drop, length-map, get_or-append}
+use lib.Seq.{get_or-take, get_or-drop, get_or_at}
 use Rattle.lists.proofs.Every.{same_is}
 use Rattle.lists.proofs.Mapped.{map_at_below}
 use Rattle.alphabet.specs.Letter.{letter, is_letter, capital}
@@ -78,13 +78,6 @@ module _ (places key letters : List ℕ) where
           let o : i ≤ j = ltb-false j i q in
           let p : at + j ≡ at + i + (j - i) = omega arith in
           true≢false (sym (finds (j - i) (omega arith) (subst (λ (a : ℕ). Meets places key letters a) p m)) ∙ e)
-
--- a pass that stores what stands at each place
-pub holds_more : (f : ℕ → ℕ) (key : List ℕ) (t x : ℕ) → t < length key → ((u : ℕ) → u < t → f u ≡ get_or key u 0) → x ≡ f t → (u : ℕ) → u < t + 1
-    → f u ≡ get_or (set key t x) u 0
-holds_more f key t x l all e =
-    below_more (λ u. f u ≡ get_or (set key t x) u 0) t (λ u b. all u b ∙ sym (get_or-set_other key t u x 0 (λ q. omega arith)))
-    (sym e ∙ sym (get_or-set_same key t x 0 l))
 
 -- ─── words ───────────────────────────────────────────────────────────────────
 

@@ -63,10 +63,8 @@ pub fn row_fits(
         return false;
     }
     let mut good = true;
-    let mut i = start;
-    while i < end {
+    for i in start..end {
         good = good & stretch_fits(k, n, firsts[i], positions[i], numbers[i]);
-        i += 1;
     }
     good
 }
@@ -118,10 +116,8 @@ pub fn key_of(k: usize, w: u64, places: &[usize; 8]) -> [u8; 8]
     ensures { KeyOf (map capital (spelled k w)) places.now result }
 {
     let mut key: [u8; 8] = [0; 8];
-    let mut t = 0;
-    while t < 8 {
+    for t in 0..8 {
         key[t] = letter_at(k, w, places[t]);
-        t += 1;
     }
     key
 }
@@ -132,10 +128,8 @@ fn meets(letters: &[u8], a: usize, places: &[usize; 8], key: &[u8; 8]) -> bool
     ensures { Meets places.now key.now letters.now a → result ≡ true }
 {
     let mut good = true;
-    let mut t = 0;
-    while t < 8 {
+    for t in 0..8 {
         good = good & (letters[a + places[t]] == key[t]);
-        t += 1;
     }
     good
 }
@@ -146,10 +140,8 @@ fn any_meets(letters: &[u8], a: usize, places: &[usize; 8], key: &[u8; 8]) -> bo
     ensures { Finds places.now key.now letters.now a 16 result }
 {
     let mut any = false;
-    let mut i = 0;
-    while i < 16 {
+    for i in 0..16 {
         any = any | meets(letters, a + i, places, key);
-        i += 1;
     }
     any
 }
@@ -167,15 +159,13 @@ pub fn may_stand(
     requires { (at + count ≤ most_letters + 1) × (n ≤ most_letters) × (length letters.now ≤ most_letters) × Within n places.now }
     ensures { Finds places.now key.now letters.now at count result }
 {
-    let mut i = 0;
-    while i < count {
+    for i in (0..count).step_by(16) {
         if letters.len() < at + i + (15 + n) {
             return true;
         }
         if any_meets(letters, at + i, places, key) {
             return true;
         }
-        i += 16;
     }
     false
 }
@@ -196,8 +186,7 @@ fn walk_stretch(
 {
     let before = at + (k - 1);
     let mut c = words::inner::word_code(&letters[at..before]);
-    let mut i = 0;
-    while i < number {
+    for i in 0..number {
         c = words::inner::roll(k, c, alphabet::letter_code(letters[before + i]));
         if is_word(k, letters, at + i, c, w) {
             return Met::Hit {
@@ -205,7 +194,6 @@ fn walk_stretch(
                 compared: compared + i as u64 + 1,
             };
         }
-        i += 1;
     }
     Met::Miss {
         compared: compared + number as u64,
@@ -257,14 +245,11 @@ fn row_by_key(
     ensures { result ≡ seek (is_word k letters.now (spelled k w)) compared
         (walk (row_of (tables firsts.now positions.now numbers.now before.now) v)) }
 {
-    let end = before[v + 1] as usize;
     let mut count = compared;
-    let mut i = before[v] as usize;
-    while i < end {
+    for i in before[v] as usize..before[v + 1] as usize {
         let first = firsts[i] as usize;
         let at = positions[i] as usize;
         let number = numbers[i] as usize;
-        i += 1;
         let met = stretch_by_key(k, letters, w, places, key, first, at, number, count);
         let Met::Miss { compared } = met else {
             return met;

@@ -3,8 +3,8 @@
 
 pub mod inner;
 
-// Where a walk ends: at a k-mer, or past the last; with the number compared.
-#[derive(Clone, Copy)]
+// Where a walk ends: at a k-mer, or past the last; with the number compared. No Option: a miss has that number too.
+#[derive(Clone, Copy, Debug, PartialEq, Eq)]
 pub enum Met {
     Hit { handle: usize, compared: u64 },
     Miss { compared: u64 },

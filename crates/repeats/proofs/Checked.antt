@@ -4,19 +4,19 @@ use mathlib.Core.Path.{◌≡◌, refl, sym, ap, ◌∙◌}
 use mathlib.Core.List.{List}
 use Prim.Native.Nat.{ℕ, ◌*◌, ◌≤◌}
 use lib.ListN.{length}
+use Rattle.std.specs.Prelude.{Ok, Err, Result}
+use Rattle.collection.specs.declared.refusal.Refusal.TheVariants.{Repeated}
+use Rattle.collection.specs.declared.refusal.Refusal.{Refusal}
 use Rattle.lists.proofs.Refuted.{refuted}
 use Rattle.collection.specs.Collection.{Collection, spelling_of}
-use Rattle.collection.specs.declared.Verdict.TheVariants.{Good}
 use Rattle.collection.specs.Judge.{kmers_in, collection_verdict, Passes}
 use Rattle.collection.specs.Kmers.{kmers}
-use Rattle.collection.specs.Verdict.{at_place}
+use Rattle.collection.specs.Verdict.{at_place, good}
 use Rattle.collection.proofs.Judged.{collection_good}
 use Rattle.collection.proofs.Verdicts.{both_good, room_good, good_room, then_good, settled, place_none, place_good, done_by}
 use Rattle.collection.specs.Ready.{Ready}
 use Rattle.collection.proofs.Ready.{judged_ready}
 use Rattle.collection.proofs.Strung.{each_weighed}
-use Rattle.repeats.specs.declared.CheckAnswer.{CheckAnswer}
-use Rattle.repeats.specs.declared.CheckAnswer.TheVariants.{Checked, Refused}
 use Rattle.repeats.specs.Check.{check_verdict, check_of, outcome, Outcome, first_repeat, Accepted}
 use Rattle.repeats.proofs.Repeats.{none-distinct, distinct_none}
 
@@ -35,7 +35,7 @@ module _ (c : Collection) where
     pub ready : Ready (spelling_of c)
 
   -- a good verdict tells all of this
-  pub check_started : (room : ℕ) → check_verdict c room ≡ Good → Started room
+  pub check_started : (room : ℕ) → check_verdict c room ≡ good → Started room
   unfolding check_verdict
   check_started room e =
       let a = both_good (collection_verdict c) _ e in
@@ -48,30 +48,30 @@ module _ (c : Collection) where
         ready = judged_ready j;
       }
 
-  check_good : (room : ℕ) → Passes c → 4 * n ≤ room → check_verdict c room ≡ Good
+  check_good : (room : ℕ) → Passes c → 4 * n ≤ room → check_verdict c room ≡ good
   unfolding check_verdict
   check_good room p l = then_good _ p (good_room l)
 
   -- ─── success ───────────────────────────────────────────────────────────────
 
-  same_count : {i j : ℕ} → Checked i ≡ Checked j → j ≡ i
+  same_count : {i j : ℕ} → ◌≡◌ {A = Result ℕ Refusal} (Ok i) (Ok j) → j ≡ i
   same_count e = cc
 
   module _ (work : List ℕ) where
     -- an answer of success says that the collection is accepted
-    pub check_distinct : (m : ℕ) → (check_of c work).answer ≡ Checked m → Accepted c (length work) × (m ≡ n)
+    pub check_distinct : (m : ℕ) → (check_of c work).answer ≡ Ok m → Accepted c (length work) × (m ≡ n)
     unfolding check_of
     check_distinct m e =
-        let a = done_by (λ (o : Outcome). o.answer) (check_verdict c (length work)) _ _ (Checked m) (λ number place q. refuted (cc)) e in
-        let b = done_by (λ (r : CheckAnswer). r) (at_place 7 (first_repeat (spelling_of c))) Refused (Checked n) (Checked m) (λ number place q. refuted (cc))
+        let a = done_by (λ (o : Outcome). o.answer) (check_verdict c (length work)) _ _ (Ok m) (λ r q. refuted (cc)) e in
+        let b = done_by (λ (r : (Result ℕ Refusal)). r) (at_place Repeated (first_repeat (spelling_of c))) Err (Ok n) (Ok m) (λ r q. refuted (cc))
         a.2 in
         let s = check_started (length work) a.0 in
-        (record { passes = s.passes; enough = s.enough; distinct = none-distinct (spelling_of c) s.ready (place_good 7 _ b.0) }, same_count b.2)
+        (record { passes = s.passes; enough = s.enough; distinct = none-distinct (spelling_of c) s.ready (place_good Repeated _ b.0) }, same_count b.2)
 
     -- and an accepted collection is answered with success
-    pub distinct_check : Accepted c (length work) → (check_of c work).answer ≡ Checked n
+    pub distinct_check : Accepted c (length work) → (check_of c work).answer ≡ Ok n
     unfolding check_of
     distinct_check s =
         let g = check_good (length work) s.passes s.enough in
-        let p = sym (place_none 7 (distinct_none (spelling_of c) (check_started (length work) g).ready s.distinct)) in
-        ap (λ (o : Outcome). o.answer) (sym (settled (λ number place. outcome (Refused number place) work) refl g)) ∙ sym (settled Refused refl p)
+        let p = sym (place_none Repeated (distinct_none (spelling_of c) (check_started (length work) g).ready s.distinct)) in
+        ap (λ (o : Outcome). o.answer) (sym (settled (λ r. outcome (Err r) work) refl g)) ∙ sym (settled Err refl p)

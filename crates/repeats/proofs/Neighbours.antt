@@ -1,6 +1,6 @@
 -- The least that stands behind a neighbour of its own key: how a loop over the places finds it, and that in an order by keys it is the least that has the key
 -- of a smaller one. Between two of one key all have that key, so the later one has such a neighbour before it. Assumes nothing.
-use mathlib.Core.Path.{◌≡◌, refl, sym, ap, subst, ◌∙◌}
+use mathlib.Core.Path.{◌≡◌, sym, ap, subst, ◌∙◌}
 use mathlib.Core.Bool.{Bool, true, false, ◌&&◌}
 use mathlib.Core.Logic.{◌⊎◌, inl, inr, ⊎_elim}
 use Prim.Native.Nat.{ℕ, ◌+◌, ◌-◌, ◌<◌, ◌≤◌}
@@ -12,52 +12,43 @@ use Rattle.lists.proofs.Every.{and_left, and_right}
 use Rattle.repeats_sieving.specs.Kept.{Twin}
 use Rattle.repeats.specs.Order.{Least}
 
-module _ (key order : ℕ → ℕ) (n m : ℕ) where
-  -- ─── as a loop goes over the places ────────────────────────────────────────
+-- ─── as a loop goes over the places ──────────────────────────────────────────
 
-  -- the first place has no neighbour before it
-  pub least_begin : Least key order n m 1 n
-  least_begin = record { lowest = λ j l. absurd (omega arith); found = inl refl }
+module _ (key order : ℕ → ℕ) (n m i r : ℕ) (l : 1 ≤ i) (g : i < m) (s : Least key order n m i r) where
+  -- the test: the one at place i is smaller, and its neighbour before it has its key
+  abbrev pub better : Bool
+  better = ltb (order i) r && eqb (key (order (i - 1))) (key (order i))
 
-  -- behind the last place it is the least of all
-  pub least_end : (i r : ℕ) → m ≤ i → Least key order n m i r → Least key order n m m r
-  least_end i r l s = record { lowest = λ j h. s.lowest j (omega arith); found = s.found }
+  -- where the test holds, that one is the least so far
+  pub least-take : better ≡ true → Least key order n m (i + 1) (order i)
+  least-take e =
+      let a : order i < r = ltb-true (order i) r (and_left (ltb (order i) r) _ e) in
+      let q : i - 1 + 1 ≡ i = omega arith in
+      record {
+        lowest = λ j h e'. ⊎_elim (λ (x : j + 1 < i). omega (arith, s.lowest j x e'))
+            (λ (x : i ≤ j + 1). let z : j + 1 ≡ i = omega arith in rw z (omega arith)) (lt_or_le (j + 1) i);
+        found = inr (i - 1, omega arith, eqb-true _ _ (and_right (ltb (order i) r) _ e) ∙ ap (λ (t : ℕ). key (order t)) (sym q), ap order q);
+      }
 
-  module _ (i r : ℕ) (l : 1 ≤ i) (g : i < m) (s : Least key order n m i r) where
-    -- the test: the one at place i is smaller, and its neighbour before it has its key
-    abbrev pub better : Bool
-    better = ltb (order i) r && eqb (key (order (i - 1))) (key (order i))
+  -- where it does not, the least stays
+  pub least_keep : better ≡ false → Least key order n m (i + 1) r
+  least_keep e =
+      record {
+        lowest = λ j h e'. ⊎_elim (λ (x : j + 1 < i). s.lowest j x e') (λ (x : i ≤ j + 1). last j (omega arith) e') (lt_or_le (j + 1) i);
+        found = s.found;
+      }
+    where
+      test : (a b : Bool) → (a && b) ≡ false → (a ≡ false) ⊎ (b ≡ false)
+      test true b h = inr h
+      test false b h = inl h
 
-    -- where the test holds, that one is the least so far
-    pub least-take : better ≡ true → Least key order n m (i + 1) (order i)
-    least-take e =
-        let a : order i < r = ltb-true (order i) r (and_left (ltb (order i) r) _ e) in
-        let q : i - 1 + 1 ≡ i = omega arith in
-        record {
-          lowest = λ j h e'. ⊎_elim (λ (x : j + 1 < i). omega (arith, s.lowest j x e'))
-              (λ (x : i ≤ j + 1). let z : j + 1 ≡ i = omega arith in rw z (omega arith)) (lt_or_le (j + 1) i);
-          found = inr (i - 1, omega arith, eqb-true _ _ (and_right (ltb (order i) r) _ e) ∙ ap (λ (t : ℕ). key (order t)) (sym q), ap order q);
-        }
-
-    -- where it does not, the least stays
-    pub least_keep : better ≡ false → Least key order n m (i + 1) r
-    least_keep e =
-        record {
-          lowest = λ j h e'. ⊎_elim (λ (x : j + 1 < i). s.lowest j x e') (λ (x : i ≤ j + 1). last j (omega arith) e') (lt_or_le (j + 1) i);
-          found = s.found;
-        }
-      where
-        test : (a b : Bool) → (a && b) ≡ false → (a ≡ false) ⊎ (b ≡ false)
-        test true b h = inr h
-        test false b h = inl h
-
-        last : (j : ℕ) → j + 1 ≡ i → key (order j) ≡ key (order (j + 1)) → r ≤ order (j + 1)
-        last j z g =
-            let q : i - 1 ≡ j = omega arith in
-            ⊎_elim (λ (x : ltb (order i) r ≡ false). rw z (ltb-false (order i) r x))
-            (λ (x : eqb (key (order (i - 1))) (key (order i)) ≡ false).
-            absurd (eqb-false (key (order (i - 1))) (key (order i)) x (ap (λ (t : ℕ). key (order t)) q ∙ (g ∙ ap (λ (t : ℕ). key (order t)) z))))
-            (test (ltb (order i) r) (eqb (key (order (i - 1))) (key (order i))) e)
+      last : (j : ℕ) → j + 1 ≡ i → key (order j) ≡ key (order (j + 1)) → r ≤ order (j + 1)
+      last j z g =
+          let q : i - 1 ≡ j = omega arith in
+          ⊎_elim (λ (x : ltb (order i) r ≡ false). rw z (ltb-false (order i) r x))
+          (λ (x : eqb (key (order (i - 1))) (key (order i)) ≡ false).
+          absurd (eqb-false (key (order (i - 1))) (key (order i)) x (ap (λ (t : ℕ). key (order t)) q ∙ (g ∙ ap (λ (t : ℕ). key (order t)) z))))
+          (test (ltb (order i) r) (eqb (key (order (i - 1))) (key (order i))) e)
 
 -- ─── in an order by keys, in which those of one key rise ─────────────────────
 

@@ -1,18 +1,17 @@
 -- CHECK: the collection is judged, and no word in it may repeat, turned or not.
 -- Specification: 3.4, 9.3.
-use Rattle.std.specs.Prelude.{Bool, false, ◌||◌, List, [], ◌∷◌, ℕ, ◌-◌, ◌*◌, ◌≤◌, length, replicate}
+use Rattle.collection.specs.declared.refusal.Refusal.TheVariants.{Repeated}
+use Rattle.collection.specs.declared.refusal.Refusal.{Refusal}
+use Rattle.std.specs.Prelude.{Bool, false, ◌||◌, List, [], ◌∷◌, ℕ, ◌-◌, ◌*◌, ◌≤◌, length, replicate, Ok, Err, Result}
 use Rattle.lists.specs.Count.{count_from}
 use Rattle.lists.specs.Every.{same}
 use Rattle.lists.specs.Fill.{fill}
 use Rattle.lists.specs.First.{first_that}
 use Rattle.words.specs.Word.{turn}
 use Rattle.collection.specs.Collection.{Spelling, Collection, spelling_of}
-use Rattle.collection.specs.declared.Verdict.{Verdict}
 use Rattle.collection.specs.Judge.{collection_verdict, kmers_in, Passes}
 use Rattle.collection.specs.Kmers.{kmers, word_of, Distinct}
-use Rattle.collection.specs.Verdict.{and_then, at_place, settle, room_verdict}
-use Rattle.repeats.specs.declared.CheckAnswer.{CheckAnswer}
-use Rattle.repeats.specs.declared.CheckAnswer.TheVariants.{Checked, Refused}
+use Rattle.collection.specs.Verdict.{and_then, at_place, settle, room_verdict, Verdict}
 
 -- ─── 7 ───────────────────────────────────────────────────────────────────────
 
@@ -43,18 +42,18 @@ check_verdict c room =
 
 -- what the call answers, and what the work table holds afterwards; and both put together
 pub record Outcome : Type 0 where
-  pub answer : CheckAnswer
+  pub answer : Result ℕ Refusal
   pub work : List ℕ
 
-abbrev pub outcome : CheckAnswer → List ℕ → Outcome
+abbrev pub outcome : Result ℕ Refusal → List ℕ → Outcome
 outcome r w = record { answer = r; work = w }
 
 -- Refused by 2 to 6 or 1, work is as it was. Else the first 4n entries of work are 0, the rest is as it was, and the answer is 7 at the first repeat, or n
 -- where no word repeats.
 unfoldable pub check_of : Collection → List ℕ → Outcome
 check_of c work =
-    settle (check_verdict c (length work)) (λ number place. outcome (Refused number place) work)
-    (outcome (settle (at_place 7 (first_repeat (spelling_of c))) Refused (Checked (kmers_in (spelling_of c))))
+    settle (check_verdict c (length work)) (λ r. outcome (Err r) work)
+    (outcome (settle (at_place Repeated (first_repeat (spelling_of c))) Err (Ok (kmers_in (spelling_of c))))
     (fill (replicate (4 * kmers_in (spelling_of c)) 0) work))
 
 -- What CHECK accepts: the collection passes 2 to 6, work has 4n entries, and no two handles have equal words, turned or not.

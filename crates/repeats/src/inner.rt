@@ -27,15 +27,13 @@ fn least_second(work: &[u32], n: usize, m: usize) -> usize
 {
     let ids = n + n;
     let mut least = n;
-    let mut i = 1;
-    while i < m {
-        let x = work[ids + (i - 1)] as usize;
-        let y = work[ids + i] as usize;
+    for pair in work[ids..ids + m].windows(2) {
+        let x = pair[0] as usize;
+        let y = pair[1] as usize;
         let better = (y < least) & same_code(work, n, x, y);
         if better {
             least = y;
         }
-        i += 1;
     }
     least
 }

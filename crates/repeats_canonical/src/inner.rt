@@ -1,5 +1,5 @@
 // Canonical codes of all k-mers, by rolling the codes of a word and of its reverse complement along the strings: one step a letter, whatever k is.
-ghost use Rattle.std.specs.Prelude.{true, ◌≡◌, ◌+◌, ◌/◌, ◌%◌, ◌≤◌, min, length};
+ghost use Rattle.std.specs.Prelude.{true, ◌≡◌, ◌+◌, ◌/◌, ◌%◌, ◌≤◌, length};
 ghost use Rattle.lists.specs.Count.{count_from};
 ghost use Rattle.lists.specs.Every.{every};
 ghost use Rattle.lists.specs.Limits.{most_k};
@@ -8,13 +8,6 @@ ghost use Rattle.collection.specs.Collection.{spelling};
 ghost use Rattle.collection.specs.Kmers.{kmers};
 ghost use Rattle.collection.specs.Ready.{Ready};
 ghost use Rattle.repeats_canonical.specs.Codes.{Coded};
-
-// The smaller of two codes.
-fn smaller(c: u64, t: u64) -> u64
-    ensures { result ≡ min c t }
-{
-    if c < t { c } else { t }
-}
 
 // The upper half of a code.
 fn upper(c: u64) -> u32
@@ -49,16 +42,14 @@ fn code_string(
     let before = at + (k - 1);
     let mut c = words::inner::word_code(&letters[at..before]);
     let mut t = words::inner::turned_code(k - 1, c) * 4;
-    let mut i = 0;
-    while i < number {
+    for i in 0..number {
         let x = alphabet::letter_code(letters[before + i]);
         c = words::inner::roll(k, c, x);
         t = words::inner::roll_turned(k, t, x);
-        let least = smaller(c, t);
+        let least = c.min(t);
         let p = passed + i;
         work[p] = upper(least);
         work[n + p] = lower(least);
-        i += 1;
     }
 }
 
@@ -70,13 +61,11 @@ pub fn code_all(k: usize, letters: &[u8], ends: &[u32], n: usize, work: &mut [u3
 {
     let mut at: usize = 0;
     let mut passed: usize = 0;
-    let mut i = 0;
-    while i < ends.len() {
-        let e = ends[i] as usize;
+    for end in ends {
+        let e = *end as usize;
         let number = e + 1 - (at + k);
         code_string(k, letters, at, number, work, n, passed);
         passed += number;
         at = e;
-        i += 1;
     }
 }

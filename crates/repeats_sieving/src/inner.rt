@@ -55,13 +55,11 @@ fn tell(work: &mut [u32], n: usize, m: usize, entries: usize, a: u64, c: u64)
     let ids = n + n;
     let tab = ids + n;
     let slots = 16 * entries;
-    let mut i = 0;
-    while i < m {
+    for i in 0..m {
         let x = work[ids + i] as usize;
         let s = slot_of(work, n, x, slots, a, c);
         let t = tab + s / 16;
         work[t] = count_up(work[t], s);
-        i += 1;
     }
 }
 
@@ -76,14 +74,12 @@ fn keep(work: &mut [u32], n: usize, m: usize, entries: usize, a: u64, c: u64) ->
     let tab = ids + n;
     let slots = 16 * entries;
     let mut o = 0;
-    let mut i = 0;
-    while i < m {
+    for i in 0..m {
         let x = work[ids + i];
         let s = slot_of(work, n, x as usize, slots, a, c);
         let q = full(work[tab + s / 16], s);
         work[ids + o] = x;
         o += q;
-        i += 1;
     }
     o
 }

@@ -8,18 +8,15 @@ ghost use Rattle.runs.specs.Runs.{run_count, weights_of_runs, firsts_of_runs};
 pub fn count_runs(weights: &[u32]) -> usize
     ensures { result ≡ run_count weights.now }
 {
-    if weights.len() == 0 {
+    let Some((first, rest)) = weights.split_first() else {
         return 0;
-    }
-    let mut w = weights[0];
+    };
+    let mut w = *first;
     let mut n = 1;
-    let mut i = 1;
-    while i < weights.len() {
-        let v = weights[i];
-        i += 1;
-        if v != w {
+    for v in rest {
+        if *v != w {
             n += 1;
-            w = v;
+            w = *v;
         }
     }
     n
@@ -32,22 +29,20 @@ pub fn fill_runs(weights: &[u32], run_weights: &mut [u32], run_firsts: &mut [u32
     ensures weights_filled { run_weights.new ≡ fill (weights_of_runs weights.now) run_weights.old }
     ensures firsts_filled { run_firsts.new ≡ fill (firsts_of_runs weights.now) run_firsts.old }
 {
-    if weights.len() == 0 {
+    let Some((first, rest)) = weights.split_first() else {
         return;
-    }
-    let mut w = weights[0];
+    };
+    let mut w = *first;
     run_weights[0] = w;
     run_firsts[0] = 1;
     let mut at = 1;
-    let mut i = 1;
-    while i < weights.len() {
-        let v = weights[i];
-        i += 1;
-        if v != w {
-            run_weights[at] = v;
-            run_firsts[at] = i as u32;
+    // Handles count from 1, so entry i of the rest has handle i + 2.
+    for (i, v) in rest.iter().enumerate() {
+        if *v != w {
+            run_weights[at] = *v;
+            run_firsts[at] = (i + 2) as u32;
             at += 1;
-            w = v;
+            w = *v;
         }
     }
 }

@@ -7,16 +7,10 @@ ghost use Rattle.std.specs.Prelude.{◌≡◌};
 ghost use Rattle.runs.specs.Calls.{outcome, runs_of};
 ghost use Rattle.collection.specs.Collection.{collection};
 
-use collection::Verdict;
+use collection::Refusal;
 
-// What RUNS answers: how many runs it filled in each table.
-#[derive(Clone, Copy)]
-pub enum RunsAnswer {
-    Filled { runs: usize },
-    Refused { number: u32, place: usize },
-}
-
-// RUNS: each run's weight and first handle. A run may cross strings.
+// RUNS: each run's weight and first handle; answers how many runs it filled in each table. A run may cross strings.
+#[tactic(auto, unfolding(crate::specs::Calls::runs_of, crate::specs::Calls::runs_verdict, collection::specs::Verdict::settle, collection::specs::Verdict::and_then))]
 pub fn runs(
     k: usize,
     letters: &[u8],
@@ -24,23 +18,14 @@ pub fn runs(
     weights: &[u32],
     run_weights: &mut [u32],
     run_firsts: &mut [u32],
-) -> RunsAnswer
+) -> Result<usize, Refusal>
     ensures { outcome result run_weights.new run_firsts.new
         ≡ runs_of (collection k letters.now ends.now weights.now) run_weights.old run_firsts.old }
 {
-    let a = collection::judge_collection(k, letters, ends, weights);
-    if let Verdict::Bad { number, place } = a {
-        return RunsAnswer::Refused { number, place };
-    }
+    collection::judge_collection(k, letters, ends, weights)?;
     let n = inner::count_runs(weights);
-    let b = collection::judge_room(run_weights.len(), n);
-    if let Verdict::Bad { number, place } = b {
-        return RunsAnswer::Refused { number, place };
-    }
-    let c = collection::judge_room(run_firsts.len(), n);
-    if let Verdict::Bad { number, place } = c {
-        return RunsAnswer::Refused { number, place };
-    }
+    collection::judge_room(run_weights.len(), n)?;
+    collection::judge_room(run_firsts.len(), n)?;
     inner::fill_runs(weights, run_weights, run_firsts);
-    RunsAnswer::Filled { runs: n }
+    Ok(n)
 }

@@ -7,8 +7,9 @@ use native.Mathlib.Omega.{arith}
 use borrow.Author.Tests.{eqb-true, leb-true}
 use lib.Dec.{leb, eqb}
 use lib.ListN.{length, length-map}
+use Rattle.collection.specs.Verdict.{good}
+use Rattle.collection.specs.declared.refusal.Refusal.TheVariants.{Line}
 use Rattle.lists.specs.Choose.{choose}
-use Rattle.collection.specs.declared.Verdict.TheVariants.{Good}
 use Rattle.alphabet.specs.Letter.{is_letter}
 use Rattle.collection.specs.Judge.{k_verdict}
 use Rattle.collection_faults.specs.Faults.{is_weight}
@@ -117,7 +118,7 @@ head_k l (m ∷ ls) h = h
 -- what an accepted sheet keeps to
 pub record Sheet (bs : List ℕ) : Type 0 where
   pub head : is_k_line (up_to feed bs) ≡ true
-  pub range : k_verdict (sheet_k bs) ≡ Good
+  pub range : k_verdict (sheet_k bs) ≡ good
   pub lines : first_wrong (sheet_k bs) 2 (later feed bs) ≡ 0
 
 -- none of the three refusals is given
@@ -128,9 +129,9 @@ sheet_good bs h =
     let b = both_good _ _ a.1 in
     record {
       head =
-          head_k (up_to feed bs) (later feed bs) (test_good (is_head (up_to feed bs) (later feed bs)) 11 1 Good a.0).0;
+          head_k (up_to feed bs) (later feed bs) (test_good (is_head (up_to feed bs) (later feed bs)) (Line 1) good a.0).0;
       range = b.0;
-      lines = place_good 11 _ b.1;
+      lines = place_good Line _ b.1;
     }
 
 -- an accepted sheet is the text of its k and its strings

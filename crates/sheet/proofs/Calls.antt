@@ -6,13 +6,16 @@ use Prim.Native.Nat.{ℕ, ◌≤◌}
 use native.Mathlib.Omega.{arith}
 use lib.ListN.{length, take}
 use lib.Seq.{take_at}
+use Rattle.sheet.specs.declared.Filled.{Filled}
+use Rattle.collection.specs.declared.refusal.Refusal.{Refusal}
+use Rattle.std.specs.Prelude.{Ok, Err, Result}
+use Rattle.collection.specs.Verdict.{good}
 use Rattle.lists.specs.Every.{All}
 use Rattle.lists.specs.Fill.{fill}
 use Rattle.lists.proofs.Every.{every-all, all-every, all_map}
 use Rattle.lists.proofs.Refuted.{refuted}
 use Rattle.alphabet.specs.Letter.{is_letter}
 use Rattle.collection.specs.Collection.{Collection, collection, spelling_of}
-use Rattle.collection.specs.declared.Verdict.TheVariants.{Good}
 use Rattle.collection.specs.Judge.{k_verdict, shape_verdict, collection_verdict, Passes}
 use Rattle.collection_faults.specs.Faults.{is_weight}
 use Rattle.collection.specs.Strings.{Str, strings, letters_in, weights_in, ends_in, joined}
@@ -20,9 +23,7 @@ use Rattle.collection.specs.Tables.{Tables, tables, filled_by, collection_in, Ro
 use Rattle.collection.proofs.Judged.{collection_good, good_size}
 use Rattle.collection.proofs.Strings.{Whole, strings-back, strings-joined, strings_whole, each_letters, each_weights, ends-length, tables_pass}
 use Rattle.collection.proofs.Verdicts.{both_good, room_good, then_good, settled, good_room, done_by}
-use Rattle.sheet.specs.declared.ReadAnswer.TheVariants as read
-use Rattle.sheet.specs.declared.WriteAnswer.TheVariants as write
-use Rattle.sheet.specs.Read.{sheet_n, sheet_m, sheet_weights, read_verdict, ReadOutcome, read_outcome, read_of}
+use Rattle.sheet.specs.Read.{sheet_n, sheet_m, sheet_weights, read_verdict, ReadOutcome, read_outcome, read_of, filled}
 use Rattle.sheet.specs.Sheet.{sheet_k, sheet_strings, Accepted}
 use Rattle.sheet.specs.Text.{sheet_text, write_text}
 use Rattle.sheet.specs.Write.{write_verdict, WriteOutcome, write_outcome, write_of}
@@ -31,6 +32,27 @@ use Rattle.sheet.proofs.Taken.{Within, read_takes, takes_read}
 use Rattle.sheet.proofs.Written.{text_k, text_strings, text_accepted}
 
 -- ─── what a filled READ leaves ───────────────────────────────────────────────
+
+-- two answers of READ that are the same say the same
+pub record FilledSame (k a b c k' a' b' c' : ℕ) : Type 0 where
+  pub k_same : k ≡ k'
+  pub letters_same : a ≡ a'
+  pub ends_same : b ≡ b'
+  pub weights_same : c ≡ c'
+
+-- what an answer says is filled; nothing where it refuses
+abbrev told : Result Filled Refusal → Filled
+told (Ok f) = f
+told (Err r) = record { k = 0; letters = 0; ends = 0; weights = 0 }
+
+pub filled_same : {k a b c k' a' b' c' : ℕ} → filled k a b c ≡ filled k' a' b' c' → FilledSame k a b c k' a' b' c'
+filled_same {k} {a} {b} {c} e =
+    record {
+      k_same = ap (λ (r : Result Filled Refusal). (told r).k) e;
+      letters_same = ap (λ (r : Result Filled Refusal). (told r).letters) e;
+      ends_same = ap (λ (r : Result Filled Refusal). (told r).ends) e;
+      weights_same = ap (λ (r : Result Filled Refusal). (told r).weights) e;
+    }
 
 -- what READ did where it answered `Filled`
 pub record ReadDone (bs : List ℕ) (t : Tables) (k a b c : ℕ) : Type 0 where
@@ -44,34 +66,32 @@ pub record ReadDone (bs : List ℕ) (t : Tables) (k a b c : ℕ) : Type 0 where
 module _ (bs : List ℕ) (t : Tables) where
   read_done : ReadOutcome
   read_done =
-      read_outcome (read.Filled (sheet_k bs) (sheet_n bs) (sheet_m bs) (sheet_weights bs)) (filled_by (sheet_strings bs) t)
+      read_outcome (filled (sheet_k bs) (sheet_n bs) (sheet_m bs) (sheet_weights bs)) (filled_by (sheet_strings bs) t)
 
-  read_good : read_verdict bs (rooms_of t) ≡ Good → read_of bs t ≡ read_done
+  read_good : read_verdict bs (rooms_of t) ≡ good → read_of bs t ≡ read_done
   unfolding read_of read_done
   read_good h = sym (settled _ refl h)
 
-  filled_good : (k a b c : ℕ) → (read_of bs t).answer ≡ read.Filled k a b c → read_verdict bs (rooms_of t) ≡ Good
+  filled_good : (k a b c : ℕ) → (read_of bs t).answer ≡ filled k a b c → read_verdict bs (rooms_of t) ≡ good
   unfolding read_of
-  filled_good k a b c e = (done_by (λ (o : ReadOutcome). o.answer) _ _ _ (read.Filled k a b c) (λ number place q. refuted (cc)) e).0
+  filled_good k a b c e = (done_by (λ (o : ReadOutcome). o.answer) _ _ _ (filled k a b c) (λ r q. refuted (cc)) e).0
 
   -- where READ answers `Filled`, it took the sheet, and its tables start with what the sheet means
-  pub read_done_lem : (k a b c : ℕ) → (read_of bs t).answer ≡ read.Filled k a b c → ReadDone bs t k a b c
+  pub read_done_lem : (k a b c : ℕ) → (read_of bs t).answer ≡ filled k a b c → ReadDone bs t k a b c
   unfolding read_done
   read_done_lem k a b c e =
       let h = filled_good k a b c e in
       let r = read_good h in
       let taken = read_takes bs _ h in
-      let q : read.Filled (sheet_k bs) (sheet_n bs) (sheet_m bs) (sheet_weights bs) ≡ read.Filled k a b c = sym (ap (λ (o : ReadOutcome). o.answer) r) ∙ e in
-      let qa : sheet_n bs ≡ a = cc in
-      let qb : sheet_m bs ≡ b = cc in
-      let qc : sheet_weights bs ≡ c = cc in
+      let q = filled_same (sym (ap (λ (o : ReadOutcome). o.answer) r) ∙ e) in
       record {
         accepted = taken.0;
         within = taken.1;
-        k_is = cc;
-        letters_are = ap (λ (o : ReadOutcome). take a o.after.letters) r ∙ take_at (letters_in (sheet_strings bs)) _ a qa;
-        ends_are = ap (λ (o : ReadOutcome). take b o.after.ends) r ∙ take_at (ends_in 0 (sheet_strings bs)) _ b (ends-length 0 (sheet_strings bs) ∙ qb);
-        weights_are = ap (λ (o : ReadOutcome). take c o.after.weights) r ∙ take_at (weights_in (sheet_strings bs)) _ c qc;
+        k_is = sym q.k_same;
+        letters_are = ap (λ (o : ReadOutcome). take a o.after.letters) r ∙ take_at (letters_in (sheet_strings bs)) _ a q.letters_same;
+        ends_are = ap (λ (o : ReadOutcome). take b o.after.ends) r
+            ∙ take_at (ends_in 0 (sheet_strings bs)) _ b (ends-length 0 (sheet_strings bs) ∙ q.ends_same);
+        weights_are = ap (λ (o : ReadOutcome). take c o.after.weights) r ∙ take_at (weights_in (sheet_strings bs)) _ c q.weights_same;
       }
 
 -- the tables of an accepted sheet within the limits pass 2 to 6
@@ -92,11 +112,11 @@ accepted_written bs h =
 
 -- WRITE of a collection that passes, into a table with room
 write_good : (c : Collection) (sheet : List ℕ) → Passes c → length (write_text c) ≤ length sheet
-    → write_of c sheet ≡ write_outcome (write.Written (length (write_text c))) (fill (write_text c) sheet)
+    → write_of c sheet ≡ write_outcome (Ok (length (write_text c))) (fill (write_text c) sheet)
 unfolding write_of write_verdict
 write_good c sheet p l = sym (settled _ refl (then_good _ p (good_room l)))
 
-module _ (bs : List ℕ) (t : Tables) (k a b c : ℕ) (e : (read_of bs t).answer ≡ read.Filled k a b c) where
+module _ (bs : List ℕ) (t : Tables) (k a b c : ℕ) (e : (read_of bs t).answer ≡ filled k a b c) where
   -- the collection that READ filled in
   abbrev collection_read_lem : Collection
   collection_read_lem = collection_in k a b c (read_of bs t).after
@@ -113,19 +133,19 @@ module _ (bs : List ℕ) (t : Tables) (k a b c : ℕ) (e : (read_of bs t).answer
   read_passes = ap collection_verdict read_is ∙ accepted_passes bs done.accepted done.within
 
   -- WRITE of what READ gives is the same bytes
-  pub write_of_read : (sheet : List ℕ) → length bs ≤ length sheet → write_of collection_read_lem sheet ≡ write_outcome (write.Written (length bs))
+  pub write_of_read : (sheet : List ℕ) → length bs ≤ length sheet → write_of collection_read_lem sheet ≡ write_outcome (Ok (length bs))
       (fill bs sheet)
   write_of_read sheet l =
       let t : write_text collection_read_lem ≡ bs = ap write_text read_is ∙ accepted_written bs done.accepted in
       write_good collection_read_lem sheet read_passes (omega (arith, ap length t))
-      ∙ ap (λ (x : List ℕ). write_outcome (write.Written (length x)) (fill x sheet)) t
+      ∙ ap (λ (x : List ℕ). write_outcome (Ok (length x)) (fill x sheet)) t
 
 -- ─── what a WRITE leaves ─────────────────────────────────────────────────────
 
-module _ (c : Collection) (sheet : List ℕ) (n : ℕ) (e : (write_of c sheet).answer ≡ write.Written n) where
-  written_good : write_verdict c (length sheet) ≡ Good
+module _ (c : Collection) (sheet : List ℕ) (n : ℕ) (e : (write_of c sheet).answer ≡ Ok n) where
+  written_good : write_verdict c (length sheet) ≡ good
   unfolding write_of
-  written_good = (done_by (λ (o : WriteOutcome). o.answer) _ _ _ (write.Written n) (λ number place q. refuted (cc)) e).0
+  written_good = (done_by (λ (o : WriteOutcome). o.answer) _ _ _ (Ok n) (λ r q. refuted (cc)) e).0
 
   -- what was written passes 2 to 6
   pub written_passes : Passes c
@@ -138,7 +158,7 @@ module _ (c : Collection) (sheet : List ℕ) (n : ℕ) (e : (write_of c sheet).a
   written_text =
       let t : List ℕ = write_text c in
       let r = write_good c sheet written_passes (room_good _ _ (both_good (collection_verdict c) _ written_good).1) in
-      let q : write.Written (length t) ≡ write.Written n = sym (ap (λ (o : WriteOutcome). o.answer) r) ∙ e in
+      let q : ◌≡◌ {A = Result ℕ Refusal} (Ok (length t)) (Ok n) = sym (ap (λ (o : WriteOutcome). o.answer) r) ∙ e in
       let l : length t ≡ n = cc in
       ap (λ (o : WriteOutcome). take n o.sheet) r ∙ take_at t _ n l
 
@@ -150,7 +170,7 @@ record Back (c : Collection) (bs : List ℕ) : Type 0 where
   ends_are : ends_in 0 (sheet_strings bs) ≡ c.ends
   weights_are : weights_in (sheet_strings bs) ≡ c.weights
 
-passes_k : (c : Collection) → Passes c → k_verdict c.k ≡ Good
+passes_k : (c : Collection) → Passes c → k_verdict c.k ≡ good
 unfolding collection_verdict shape_verdict
 passes_k c p = (both_good (k_verdict c.k) _ (both_good (shape_verdict (spelling_of c)) _ p).0).0
 
@@ -182,10 +202,10 @@ text_back c p =
     )
 
 -- READ of what WRITE gives is the same collection
-pub read_of_write : (c : Collection) (sheet : List ℕ) (n : ℕ) → (write_of c sheet).answer ≡ write.Written n
+pub read_of_write : (c : Collection) (sheet : List ℕ) (n : ℕ) → (write_of c sheet).answer ≡ Ok n
     → (t : Tables) → length c.letters ≤ length t.letters → length c.ends ≤ length t.ends → length c.weights ≤ length t.weights
     → read_of (take n (write_of c sheet).sheet) t
-    ≡ read_outcome (read.Filled c.k (length c.letters) (length c.ends) (length c.weights))
+    ≡ read_outcome (filled c.k (length c.letters) (length c.ends) (length c.weights))
     (tables (fill c.letters t.letters) (fill c.ends t.ends) (fill c.weights t.weights))
 unfolding read_done
 read_of_write c sheet n e t letters-fit ends-fit weights-fit =
@@ -205,9 +225,9 @@ read_of_write c sheet n e t letters-fit ends-fit weights-fit =
       ends_room = omega arith;
       weights_room = omega arith;
     } in
-    let g : read_verdict bs (rooms_of t) ≡ Good = takes_read bs _ back.accepted within in
+    let g : read_verdict bs (rooms_of t) ≡ good = takes_read bs _ back.accepted within in
     ap (λ (x : List ℕ). read_of x t) (written_text c sheet n e)
     ∙ (read_good bs t g
     ∙ (λ i.
-    read_outcome (read.Filled (back.k_is i) (N i) (m i) (w i))
+    read_outcome (filled (back.k_is i) (N i) (m i) (w i))
     (tables (fill (back.letters_are i) t.letters) (fill (back.ends_are i) t.ends) (fill (back.weights_are i) t.weights))))

@@ -3,12 +3,11 @@ use mathlib.Core.Path.{◌≡◌}
 use mathlib.Core.List.{List}
 use Prim.Native.Nat.{ℕ, ◌≤◌}
 use Rattle.lists.specs.Limits.{most_letters, most_strings}
-use Rattle.collection.specs.declared.Verdict.TheVariants.{Good}
 use Rattle.collection.proofs.Judged.{good_size, size_good}
 use Rattle.collection.proofs.Verdicts.{good_room, both_good, room_good, then_good}
 use Rattle.collection.specs.Judge.{size_verdict}
 use Rattle.collection.specs.Tables.{Rooms, rooms_verdict}
-use Rattle.collection.specs.Verdict.{room_verdict}
+use Rattle.collection.specs.Verdict.{room_verdict, good}
 use Rattle.sheet.specs.Read.{sheet_n, sheet_m, sheet_weights, read_verdict}
 use Rattle.sheet.specs.Sheet.{sheet_verdict, Accepted}
 
@@ -21,7 +20,7 @@ pub record Within (bs : List ℕ) (r : Rooms) : Type 0 where
   pub weights_room : sheet_weights bs ≤ r.weights
 
 -- what READ takes is an accepted sheet within the limits
-pub read_takes : (bs : List ℕ) (r : Rooms) → read_verdict bs r ≡ Good → Accepted bs × Within bs r
+pub read_takes : (bs : List ℕ) (r : Rooms) → read_verdict bs r ≡ good → Accepted bs × Within bs r
 unfolding read_verdict rooms_verdict
 read_takes bs r h =
     let a = both_good (sheet_verdict bs) _ h in
@@ -40,7 +39,7 @@ read_takes bs r h =
     )
 
 -- and each such sheet is taken
-pub takes_read : (bs : List ℕ) (r : Rooms) → Accepted bs → Within bs r → read_verdict bs r ≡ Good
+pub takes_read : (bs : List ℕ) (r : Rooms) → Accepted bs → Within bs r → read_verdict bs r ≡ good
 unfolding read_verdict rooms_verdict
 takes_read bs r h w =
     then_good _ h

@@ -7,11 +7,10 @@ use native.Mathlib.Omega.{arith}
 use borrow.Author.Tests.{eq-eqb, le-leb}
 use lib.Dec.{eqb}
 use lib.ListN.{length-map}
-use Rattle.collection.specs.declared.Verdict.TheVariants.{Good}
 use Rattle.alphabet.specs.Letter.{is_letter}
 use Rattle.collection.specs.Judge.{k_verdict}
 use Rattle.collection_faults.specs.Faults.{is_weight}
-use Rattle.collection.specs.Verdict.{and_then, at_place}
+use Rattle.collection.specs.Verdict.{and_then, at_place, good}
 use Rattle.collection.proofs.Judged.{k_good}
 use Rattle.lists.specs.Every.{All, every}
 use Rattle.lists.proofs.Every.{and_both}
@@ -171,7 +170,7 @@ same-strings k (s ∷ (f ∷ ss)) h = λ i. written_string k s h.0 i ∷ same-st
 
 -- ─── the written sheet ───────────────────────────────────────────────────────
 
-module _ (k : ℕ) (ss : List Str) (range : k_verdict k ≡ Good) (each : All (Holds k) ss) where
+module _ (k : ℕ) (ss : List Str) (range : k_verdict k ≡ good) (each : All (Holds k) ss) where
   abbrev head_text : List ℕ
   head_text = 75 ∷ (tab ∷ digits k)
 

@@ -1,15 +1,14 @@
 -- Which bytes are a sheet, the collection it means, and its first wrong line.
 -- Specification: 7.1, 7.3.
-use Rattle.std.specs.Prelude.{Bool, false, ◌&&◌, List, [], ◌∷◌, map, ◌≡◌, ℕ, suc, ◌+◌, ◌-◌, leb, eqb, length}
+use Rattle.collection.specs.declared.refusal.Refusal.TheVariants.{Line}
+use Rattle.std.specs.Prelude.{Bool, false, ◌&&◌, List, [], ◌∷◌, map, ◌≡◌, ℕ, suc, ◌+◌, ◌-◌, leb, eqb, length, Err}
 use Rattle.lists.specs.Choose.{choose}
 use Rattle.lists.specs.Every.{every}
 use Rattle.alphabet.specs.Letter.{is_letter}
-use Rattle.collection.specs.declared.Verdict.{Verdict}
-use Rattle.collection.specs.declared.Verdict.TheVariants.{Good, Bad}
 use Rattle.collection.specs.Judge.{k_verdict}
 use Rattle.collection_faults.specs.Faults.{is_weight}
 use Rattle.collection.specs.Strings.{Str}
-use Rattle.collection.specs.Verdict.{and_then, at_place}
+use Rattle.collection.specs.Verdict.{and_then, at_place, Verdict, good}
 use Rattle.text.specs.Numbers.{is_number, value}
 use Rattle.text.specs.Parts.{up_to, later, tab, feed}
 
@@ -91,9 +90,9 @@ is_head l (m ∷ ls) = is_k_line l
 -- the form of line 1 (11), then k (2), then the first wrong later line (11)
 unfoldable pub sheet_verdict : List ℕ → Verdict
 sheet_verdict bs =
-    and_then (choose (is_head (up_to feed bs) (later feed bs)) Good (Bad 11 1))
-    (and_then (k_verdict (sheet_k bs)) (at_place 11 (first_wrong (sheet_k bs) 2 (later feed bs))))
+    and_then (choose (is_head (up_to feed bs) (later feed bs)) good (Err (Line 1)))
+    (and_then (k_verdict (sheet_k bs)) (at_place Line (first_wrong (sheet_k bs) 2 (later feed bs))))
 
 -- bytes that are a sheet, with k in range
 abbrev pub Accepted : List ℕ → Type 0
-Accepted bs = sheet_verdict bs ≡ Good
+Accepted bs = sheet_verdict bs ≡ good

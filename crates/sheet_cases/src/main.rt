@@ -3,9 +3,7 @@
 // wrong line of that number, `k` for a k out of range, `r` for a sheet that the tables have no room for.
 #![tactic(auto)]
 
-ghost use Rattle.std.specs.Prelude.{◌<◌, ◌≤◌, length};
-
-use sheet::{ReadAnswer, WriteAnswer};
+use collection::Refusal;
 use std::io;
 use std::io::Write;
 
@@ -17,60 +15,27 @@ fn say(rt: &impl Print, good: bool) -> io::Result<()> {
     io::writer(rt).write_all(b"n")
 }
 
-// Whether READ refuses a sheet with this number and place.
-fn refused(sheet: &[u8], number: u32, place: usize) -> bool {
+// Whether READ refuses a sheet so.
+fn is_refused(sheet: &[u8], refusal: Refusal) -> bool {
     let mut letters = [0u8; 32];
     let mut ends = [0u32; 8];
     let mut weights = [0u32; 32];
-    let a = sheet_read::read(sheet, &mut letters, &mut ends, &mut weights);
-    match a {
-        ReadAnswer::Filled {
-            k,
-            letters,
-            ends,
-            weights,
-        } => false,
-        ReadAnswer::Refused {
-            number: n,
-            place: p,
-        } => (n == number) & (p == place),
-    }
+    sheet_read::read(sheet, &mut letters, &mut ends, &mut weights) == Err(refusal)
 }
 
-// Whether the first n bytes are the sheet.
-fn is_sheet(out: &[u8], n: usize, sheet: &[u8]) -> bool {
-    if out.len() < n {
-        return false;
-    }
-    &out[..n] == sheet
-}
-
-// Whether WRITE of the collection in the first n letters, m ends and w weights is the sheet.
+// Whether WRITE of a collection is the sheet.
 fn written(
     k: usize,
     letters: &[u8],
-    n: usize,
     ends: &[u32],
-    m: usize,
     weights: &[u32],
-    w: usize,
     sheet: &[u8],
     out: &mut [u8],
 ) -> bool {
-    if letters.len() < n {
-        return false;
-    }
-    if ends.len() < m {
-        return false;
-    }
-    if weights.len() < w {
-        return false;
-    }
-    let a = sheet_write::write(k, &letters[..n], &ends[..m], &weights[..w], out);
-    let WriteAnswer::Written(c) = a else {
+    let Ok(c) = sheet_write::write(k, letters, ends, weights, out) else {
         return false;
     };
-    is_sheet(out, c, sheet)
+    out.get(..c) == Some(sheet)
 }
 
 // Whether READ takes a sheet, and WRITE of what it gives is the same bytes.
@@ -81,17 +46,17 @@ fn back(
     weights: &mut [u32],
     out: &mut [u8],
 ) -> bool {
-    let a = sheet_read::read(sheet, letters, ends, weights);
-    let ReadAnswer::Filled {
-        k,
-        letters: n,
-        ends: m,
-        weights: w,
-    } = a
-    else {
+    let Ok(filled) = sheet_read::read(sheet, letters, ends, weights) else {
         return false;
     };
-    written(k, letters, n, ends, m, weights, w, sheet, out)
+    let (Some(letters), Some(ends), Some(weights)) = (
+        letters.get(..filled.letters),
+        ends.get(..filled.ends),
+        weights.get(..filled.weights),
+    ) else {
+        return false;
+    };
+    written(filled.k, letters, ends, weights, sheet, out)
 }
 
 // The same with tables of its own.
@@ -107,40 +72,22 @@ fn same(sheet: &[u8]) -> bool {
 fn answers(mark: u8, sheet: &[u8]) -> bool {
     match mark {
         b'=' => same(sheet),
-        b'1' => refused(sheet, 11, 1),
-        b'2' => refused(sheet, 11, 2),
-        b'3' => refused(sheet, 11, 3),
-        b'k' => refused(sheet, 2, 0),
-        b'r' => refused(sheet, 1, 0),
+        b'1' => is_refused(sheet, Refusal::Line { place: 1 }),
+        b'2' => is_refused(sheet, Refusal::Line { place: 2 }),
+        b'3' => is_refused(sheet, Refusal::Line { place: 3 }),
+        b'k' => is_refused(sheet, Refusal::Sizes),
+        b'r' => is_refused(sheet, Refusal::Room),
         _ => false,
     }
 }
 
-// Where the case at a place ends: at the next `~`, or at the end.
-fn case_end(cases: &[u8], at: usize) -> usize
-    requires { at < length cases.now }
-    ensures { (at < result) × (result ≤ length cases.now) }
-{
-    let mut i = at + 1;
-    while i < cases.len() {
-        if cases[i] == b'~' {
-            return i;
-        }
-        i += 1;
-    }
-    i
-}
-
-// One case after the other.
+// One case after the other: a mark, and a sheet up to the next `~` or the end.
 fn run(rt: &impl Print, cases: &[u8]) -> io::Result<()> {
-    let mut at = 0;
-    while at < cases.len() {
-        let e = case_end(cases, at);
-        say(rt, answers(cases[at], &cases[at + 1..e]))?;
-        if e == cases.len() {
-            return Ok(());
-        }
-        at = e + 1;
+    let mut rest = cases;
+    while let Some((mark, tail)) = rest.split_first() {
+        let n = tail.iter().position(|b| *b == b'~').unwrap_or(tail.len());
+        say(rt, answers(*mark, &tail[..n]))?;
+        rest = tail.get(n + 1..).unwrap_or(&[]);
     }
     Ok(())
 }

@@ -2,6 +2,7 @@
 use mathlib.Core.Path.{◌≡◌, refl, sym, ap, ◌∙◌}
 use mathlib.Core.Bool.{Bool, true, false, not, ◌&&◌}
 use mathlib.Core.List.{List, [], ◌∷◌, ◌++◌, append-nil}
+use Rattle.std.specs.Prelude.{None, Some}
 use Prim.Native.Nat.{ℕ, zero, suc, ◌+◌, ◌-◌, ◌*◌, ◌<◌, ◌≤◌}
 use native.Mathlib.Omega.{arith}
 use borrow.Author.Tests.{eqb-false, le-leb, leb-true, not-true}
@@ -17,10 +18,9 @@ use Rattle.lists.proofs.Refuted.{refuted, never}
 use Rattle.text.specs.Numbers.{is_digit, is_number, value_from, value}
 use Rattle.text.specs.Parts.{up_to, later, tab, feed}
 use Rattle.sheet.specs.Sheet.{is_mark, is_k, is_k_line, is_weight_field, k_of, is_head}
-use Rattle.text.specs.Fields.{field, number_of, byte_is}
-use Rattle.sheet_lines.specs.Cursor.{weight_at, head_of, head_in, head_end}
-use Rattle.text.specs.declared.Number.TheVariants as number
-use Rattle.sheet_lines.specs.declared.Head.TheVariants as head
+use Rattle.text.specs.Fields.{field, number, number_of, byte_is}
+use Rattle.text.specs.declared.Number.{Number}
+use Rattle.sheet_lines.specs.Cursor.{weight_at, head, head_of, head_in, head_end}
 use Rattle.text.proofs.Tests.{both, every_more, digit_range}
 use Rattle.text.proofs.Parts.{joined, Free, up_last, later_last, up_first, later_first, join_parts, up_short, up_take, take_up}
 use Rattle.text.proofs.Numbers.{number_all}
@@ -51,14 +51,14 @@ module _ (f rest : List ℕ) (h : is_number f ≡ true) (l : length f ≤ 2) whe
   unfolding is_k_line
   good_line = and_both (ap (is_mark 75) (up_first tab (75 ∷ []) f (mark_free 75 (λ e. omega arith)))) (ap is_k fields ∙ and_both h (le-leb (length f) 2 l))
 
-  head_yes : head_in ((75 ∷ (tab ∷ f)) ++ (feed ∷ rest)) ≡ head.Good (value f) (length f + 2 + 1)
+  head_yes : head_in ((75 ∷ (tab ∷ f)) ++ (feed ∷ rest)) ≡ Some (head (value f) (length f + 2 + 1))
   unfolding head_of
   head_yes =
       let a = up_first feed (75 ∷ (tab ∷ f)) rest line_free in
       let b = later_first feed (75 ∷ (tab ∷ f)) rest line_free in
       let n : suc (suc (length f)) + 1 ≡ length f + 2 + 1 = omega arith in
-      (λ i. head_of (a i) (b i)) ∙ (ap (λ (t : Bool). choose t (head.Good (k_of (later tab (75 ∷ (tab ∷ f)))) (suc (suc (length f)) + 1)) head.Wrong) good_line
-      ∙ (λ i. head.Good (k_of (fields i)) (n i)))
+      (λ i. head_of (a i) (b i)) ∙ (ap (λ (t : Bool). choose t (Some (head (k_of (later tab (75 ∷ (tab ∷ f)))) (suc (suc (length f)) + 1))) None) good_line
+      ∙ (λ i. Some (head (k_of (fields i)) (n i))))
 
 -- ─── what a good line 1 looks like ───────────────────────────────────────────
 
@@ -98,11 +98,11 @@ head_text s (m ∷ ms) e h =
     one_field (up_to feed s) (later tab (up_to feed s)) t.1 (mark_is 75 _ t.0) refl s m ms refl e
 
 -- a sheet whose line 1 cannot be such a text is refused
-head_no : (s : List ℕ) → (Text s → ⊥) → head_in s ≡ head.Wrong
+head_no : (s : List ℕ) → (Text s → ⊥) → head_in s ≡ None
 unfolding head_of
 head_no s h = go (is_head (up_to feed s) (later feed s)) refl where
   go : (t : Bool) → is_head (up_to feed s) (later feed s) ≡ t
-      → choose t (head.Good (k_of (later tab (up_to feed s))) (length (up_to feed s) + 1)) head.Wrong ≡ head.Wrong
+      → choose t (Some (head (k_of (later tab (up_to feed s))) (length (up_to feed s) + 1))) None ≡ None
   go true e = absurd (h (head_text s (later feed s) refl e))
   go false e = refl
 
@@ -114,10 +114,10 @@ module _ (s : List ℕ) where
   size t = omega (arith, ap length t.same, length-append (75 ∷ (tab ∷ t.f)) (feed ∷ t.rest))
 
   -- no `K`, no tab
-  pub not_k : byte_is s 0 75 ≡ false → head_in s ≡ head.Wrong
+  pub not_k : byte_is s 0 75 ≡ false → head_in s ≡ None
   not_k h = head_no s (λ t. clash (byte_is_lem s 0 75 (omega (arith, size t)) (ap (λ (x : List ℕ). get_or x 0 0) t.same)) h)
 
-  pub not_tab : byte_is s 1 tab ≡ false → head_in s ≡ head.Wrong
+  pub not_tab : byte_is s 1 tab ≡ false → head_in s ≡ None
   not_tab h = head_no s (λ t. clash (byte_is_lem s 1 tab (omega (arith, size t)) (ap (λ (x : List ℕ). get_or x 1 0) t.same)) h)
 
   feed_there : (t : Text s) (i : ℕ) → i ≡ length t.f + 2 → byte_is s i feed ≡ true
@@ -134,12 +134,12 @@ module _ (s : List ℕ) where
 
     -- the line feed stands behind the field f
     found_head : (f : List ℕ) (i : ℕ) → is_number f ≡ true → length f ≤ 2 → drop 2 s ≡ f ++ drop i s → i ≡ length f + 2 → byte_is s i feed ≡ true
-        → head_in s ≡ head.Good (value f) (i + 1)
+        → head_in s ≡ Some (head (value f) (i + 1))
     found_head f i h l e n w =
         let b = byte_here s i feed w in
         let d : drop i s ≡ feed ∷ drop (suc i) s = drop-cons s i 0 b.0 ∙ (λ x. b.1 x ∷ drop (suc i) s) in
         let t : s ≡ (75 ∷ (tab ∷ f)) ++ (feed ∷ drop (suc i) s) = begins ∙ ap (λ (x : List ℕ). 75 ∷ (tab ∷ x)) (e ∙ ap (λ (x : List ℕ). f ++ x) d) in
-        ap head_in t ∙ (head_yes f (drop (suc i) s) h l ∙ ap (λ (x : ℕ). head.Good (value f) (x + 1)) (sym n))
+        ap head_in t ∙ (head_yes f (drop (suc i) s) h l ∙ ap (λ (x : ℕ). Some (head (value f) (x + 1))) (sym n))
 
 -- a number that begins with 0 is 0
 zero_led : (f rest : List ℕ) → is_number f ≡ true → get_or (f ++ (feed ∷ rest)) 0 0 ≡ 48 → length f ≡ 1
@@ -176,7 +176,7 @@ zero-value : value (48 ∷ []) ≡ 0
 unfolding value_from
 zero-value = refl
 
-weight_yes : (i : ℕ) (f : List ℕ) → is_number f ≡ true → is_weight (value f) ≡ true → number_of most_weight i f ≡ number.Good (value f) (i + length f)
+weight_yes : (i : ℕ) (f : List ℕ) → is_number f ≡ true → is_weight (value f) ≡ true → number_of most_weight i f ≡ Some (number (value f) (i + length f))
 unfolding number_of
 weight_yes i f h g = rw (h, g)
 
@@ -184,10 +184,12 @@ weight_number : (f : List ℕ) → is_weight_field f ≡ true → is_number f �
 unfolding is_weight_field
 weight_number f h = (both (is_number f) _ h).0
 
-same_place : {v w x y : ℕ} → number.Good v x ≡ number.Good w y → x ≡ y
-same_place h = cc
+same_place : {v w x y : ℕ} → Some (number v x) ≡ Some (number w y) → x ≡ y
+same_place {v} {w} {x} {y} h =
+    let q : number v x ≡ number w y = cc in
+    ap (λ (n : Number). n.next) q
 
-no_place : {v x : ℕ} → number.Good v x ≡ number.Wrong → ⊥
+no_place : {v x : ℕ} → Some (number v x) ≡ None → ⊥
 no_place h = refuted (cc)
 
 -- what stands behind `K` and a tab is the field, then the rest
@@ -210,14 +212,14 @@ module _ (s : List ℕ) (k-here : byte_is s 0 75 ≡ true) (tab-here : byte_is s
     b : (2 < length s) × (get_or s 2 0 ≡ 48)
     b = byte_here s 2 48 h
 
-    go : (t : Bool) → byte_is s 3 feed ≡ t → choose t (head.Good 0 4) head.Wrong ≡ head_in s
+    go : (t : Bool) → byte_is s 3 feed ≡ t → choose t (Some (head 0 4)) None ≡ head_in s
     go true e =
         sym (found_head s k-here tab-here (48 ∷ []) 3 zero_is (omega arith) (drop-cons s 2 0 b.0 ∙ (λ i. b.1 i ∷ drop 3 s)) refl e
-        ∙ ap (λ (x : ℕ). head.Good x 4) zero-value)
+        ∙ ap (λ (x : ℕ). Some (head x 4)) zero-value)
     go false e = sym (head_no s (λ t. let z = zero_led t.f t.rest t.is_a_number (sym (third t) ∙ b.1) in clash (feed_there s t 3 (omega arith)) e))
 
   module _ (no_zero : byte_is s 2 48 ≡ false) where
-    text_weight : (t : Text s) → weight_at s 2 ≡ number.Good (value t.f) (2 + length t.f)
+    text_weight : (t : Text s) → weight_at s 2 ≡ Some (number (value t.f) (2 + length t.f))
     unfolding field
     text_weight t =
         let d : drop 2 s ≡ t.f ++ (feed ∷ t.rest) = ap (drop 2) t.same in
@@ -228,12 +230,12 @@ module _ (s : List ℕ) (k-here : byte_is s 0 75 ≡ true) (tab-here : byte_is s
         ∙ weight_yes 2 t.f t.is_a_number (small_value t.f t.rest t.is_a_number t.short (λ e. byte_other s 2 48 no_zero l (third t ∙ e)))
 
     -- no weight, so no number
-    pub no_number : weight_at s 2 ≡ number.Wrong → head_in s ≡ head.Wrong
+    pub no_number : weight_at s 2 ≡ None → head_in s ≡ None
     no_number h = head_no s (λ t. no_place (sym (text_weight t) ∙ h))
 
-    module _ (v next : ℕ) (w : weight_at s 2 ≡ number.Good v next) where
+    module _ (v next : ℕ) (w : weight_at s 2 ≡ Some (number v next)) where
       -- a third digit
-      pub too_long : 4 < next → head_in s ≡ head.Wrong
+      pub too_long : 4 < next → head_in s ≡ None
       too_long l = head_no s (λ t. let p = same_place (sym (text_weight t) ∙ w) in omega (arith, t.short))
 
       -- a number, and its line feed or none
@@ -248,9 +250,9 @@ module _ (s : List ℕ) (k-here : byte_is s 0 75 ≡ true) (tab-here : byte_is s
         cut : drop 2 s ≡ f ++ drop next s
         cut = front_cut s next g.1
 
-        go : (t : Bool) → byte_is s next feed ≡ t → choose t (head.Good v (next + 1)) head.Wrong ≡ head_in s
+        go : (t : Bool) → byte_is s next feed ≡ t → choose t (Some (head v (next + 1))) None ≡ head_in s
         go true e =
             let n = g.1 in
             sym (found_head s k-here tab-here f next (weight_number f g.0) (omega arith) cut (omega arith) e
-            ∙ ap (λ (x : ℕ). head.Good x (next + 1)) (sym g.2))
+            ∙ ap (λ (x : ℕ). Some (head x (next + 1))) (sym g.2))
         go false e = sym (head_no s (λ t. let p = same_place (sym (text_weight t) ∙ w) in clash (feed_there s t next (omega arith)) e))

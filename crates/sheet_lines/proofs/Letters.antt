@@ -1,14 +1,13 @@
--- The letters in front: `span` byte by byte, and within the parts of a line. Assumes nothing.
+-- The letters in front: where they end, and within the parts of a line. Assumes nothing.
 use mathlib.Core.Path.{◌≡◌, refl, sym, ap, ◌∙◌}
 use mathlib.Core.Bool.{Bool, true, false}
 use mathlib.Core.List.{List, [], ◌∷◌}
-use Prim.Native.Nat.{ℕ, suc, ◌+◌, ◌<◌, ◌≤◌}
-use native.Mathlib.Numerals.{add-one}
+use Prim.Native.Nat.{ℕ, zero, suc, ◌<◌, ◌≤◌}
 use native.Mathlib.Omega.{arith}
 use borrow.Author.Tests.{ne_eqb}
 use lib.Dec.{eqb}
-use lib.ListN.{length, drop, get_or, drop_of_length-le, length-drop}
-use lib.Seq.{drop-cons}
+use lib.ListN.{length, drop, length-drop}
+use Rattle.std.specs.List.{AllWithin, HoldsAt}
 use Rattle.lists.specs.Choose.{choose}
 use Rattle.lists.specs.Every.{every}
 use Rattle.lists.proofs.Refuted.{never}
@@ -17,22 +16,25 @@ use Rattle.text.specs.Parts.{up_to, tab, feed}
 use Rattle.sheet_lines.specs.Cursor.{span, is_empty}
 use Rattle.text.proofs.Parts.{inside_part}
 
--- ─── byte by byte, as a loop's index counts ──────────────────────────────────
+-- ─── where they end ──────────────────────────────────────────────────────────
 
--- the letters in front end at a byte that is none, or go on with one that is
-module _ (s : List ℕ) (i : ℕ) (h : i < length s) where
-  pub span_stop : is_letter (get_or s i 0) ≡ false → span (drop i s) ≡ 0
-  unfolding span
-  span_stop e = rw (drop-cons s i 0, e)
+-- letters up to n
+abbrev Letters : List ℕ → ℕ → Type 0
+Letters s n = AllWithin (λ b. is_letter b ≡ true) s 0 n
 
-  pub span_next : is_letter (get_or s i 0) ≡ true → span (drop i s) ≡ suc (span (drop (i + 1) s))
-  unfolding span
-  span_next e = rw (drop-cons s i 0, e, add-one)
-
--- none stands behind the end
-pub span_none : (s : List ℕ) (i : ℕ) → length s ≤ i → span (drop i s) ≡ 0
+-- they end at the first byte that is none
+pub span_found : (s : List ℕ) (n : ℕ) → (n < length s) × HoldsAt (λ b. is_letter b ≡ false) s n × Letters s n → span s ≡ n
 unfolding span
-span_none s i h = rw (drop_of_length-le s h)
+span_found [] n h = absurd (omega (arith, h.0))
+span_found (b ∷ s) zero h = rw (h.1 0)
+span_found (b ∷ s) (suc n) h =
+    rw (h.2 0 0 (omega arith) (omega arith)) (ap suc (span_found s n (omega (arith, h.0), h.1, λ k d l u. h.2 (suc k) d (omega arith) (omega arith))))
+
+-- where none is, at the end
+pub span_missing : (s : List ℕ) → Letters s (length s) → span s ≡ length s
+unfolding span
+span_missing [] h = refl
+span_missing (b ∷ s) h = rw (h 0 0 (omega arith) (omega arith)) (ap suc (span_missing s (λ k d l u. h (suc k) d (omega arith) (omega arith))))
 
 -- ─── within a line ───────────────────────────────────────────────────────────
 

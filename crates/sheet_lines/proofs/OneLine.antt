@@ -2,6 +2,7 @@
 use mathlib.Core.Path.{◌≡◌, refl, sym, ap, ◌∙◌}
 use mathlib.Core.Bool.{Bool, true, false, ◌&&◌, and-false}
 use mathlib.Core.List.{List, [], ◌∷◌, map}
+use Rattle.std.specs.Prelude.{Option, None, Some}
 use Prim.Native.Nat.{ℕ, suc, ◌+◌, ◌-◌, ◌<◌, ◌≤◌}
 use native.Mathlib.Omega.{arith}
 use borrow.Author.Tests.{lt-ltb, le-ltb, le-leb, lt-leb, ltb-true, ltb-false, eqb-true}
@@ -15,11 +16,8 @@ use Rattle.alphabet.specs.Letter.{is_letter}
 use Rattle.text.specs.Numbers.{value}
 use Rattle.text.specs.Parts.{up_to, later, tab, feed}
 use Rattle.sheet.specs.Sheet.{is_mark, is_weight_field, is_string, is_string_line}
-use Rattle.sheet_lines.specs.Cursor.{span, is_empty, tail_of, tail_at, line_of, line_at, marked}
-use Rattle.sheet_lines.specs.declared.Tail.{Tail}
-use Rattle.sheet_lines.specs.declared.Tail.TheVariants as tail
+use Rattle.sheet_lines.specs.Cursor.{span, is_empty, tail_of, tail_at, line, line_of, line_at, marked}
 use Rattle.sheet_lines.specs.declared.Line.{Line}
-use Rattle.sheet_lines.specs.declared.Line.TheVariants as line
 use Rattle.text.proofs.Tests.{both}
 use Rattle.text.proofs.Parts.{inside_part, up_short}
 use Rattle.sheet_lines.proofs.Letters.{tab-other, feed-other, span_up, letters-all, letters-length}
@@ -27,33 +25,33 @@ use Rattle.sheet_lines.proofs.Letters.{tab-other, feed-other, span_up, letters-a
 -- ─── the line as a list ──────────────────────────────────────────────────────
 
 -- the line of n letters and w weights, by what stands behind the letters
-abbrev line_with : ℕ → ℕ → Tail → Line
-line_with n w (tail.Good next) = line.Good next n w
-line_with n w tail.Wrong = line.Wrong
+abbrev line_with : ℕ → ℕ → Option ℕ → Option Line
+line_with n w (Some next) = Some (line next n w)
+line_with n w None = None
 
-both_wrong : (t : Bool) → line.Wrong ≡ choose t line.Wrong line.Wrong
-both_wrong true = refl
-both_wrong false = refl
+both_same : (x : Option Line) (t : Bool) → x ≡ choose t x x
+both_same x true = refl
+both_same x false = refl
 
 -- the two ways to the answer, where the letters are good
 same_answer : (k n w p p' q : ℕ) (x : Bool) → p ≡ p' → (x ≡ true → q ≡ w)
-    → choose ((leb k n && true) && x) (line.Good p n q) line.Wrong ≡ choose (ltb n k) line.Wrong (line_with n w (choose x (tail.Good p') tail.Wrong))
+    → choose ((leb k n && true) && x) (Some (line p n q)) None ≡ choose (ltb n k) None (line_with n w (choose x (Some p') None))
 same_answer k n w p p' q x e f = go (ltb n k) refl x refl where
   go : (t : Bool) → ltb n k ≡ t → (u : Bool) → x ≡ u
-      → choose ((leb k n && true) && x) (line.Good p n q) line.Wrong ≡ choose (ltb n k) line.Wrong (line_with n w (choose x (tail.Good p') tail.Wrong))
+      → choose ((leb k n && true) && x) (Some (line p n q)) None ≡ choose (ltb n k) None (line_with n w (choose x (Some p') None))
   go true g u h = rw (lt-leb k n (ltb-true _ _ g), g)
-  go false g true h = rw (le-leb k n (ltb-false _ _ g), g, h) (λ i. line.Good (e i) n (f h i))
+  go false g true h = rw (le-leb k n (ltb-false _ _ g), g, h) (λ i. Some (line (e i) n (f h i)))
   go false g false h = rw (le-leb k n (ltb-false _ _ g), g, h)
 
 -- a marked line is found by its letters and what stands behind them
 line_list : (k i : ℕ) (l : List ℕ) (ms : List (List ℕ))
     → line_of k i (83 ∷ (tab ∷ l)) ms
-    ≡ choose (ltb (span l) k) line.Wrong (line_with (span l) (span l + 1 - k) (tail_of (span l + 1 - k) (i + 2 + span l) (drop (span l) l) ms))
+    ≡ choose (ltb (span l) k) None (line_with (span l) (span l + 1 - k) (tail_of (span l + 1 - k) (i + 2 + span l) (drop (span l) l) ms))
 unfolding line_of tail_of is_string_line is_string up_to later
-line_list k i l [] = both_wrong (ltb (span l) k)
+line_list k i l [] = both_same None (ltb (span l) k)
 line_list k i l (m ∷ ms) = go (is_empty (up_to tab (drop (span l) l))) refl where
   go : (t : Bool) → is_empty (up_to tab (drop (span l) l)) ≡ t → line_of k i (83 ∷ (tab ∷ l)) (m ∷ ms)
-      ≡ choose (ltb (span l) k) line.Wrong (line_with (span l) (span l + 1 - k) (tail_of (span l + 1 - k) (i + 2 + span l) (drop (span l) l) (m ∷ ms)))
+      ≡ choose (ltb (span l) k) None (line_with (span l) (span l + 1 - k) (tail_of (span l + 1 - k) (i + 2 + span l) (drop (span l) l) (m ∷ ms)))
   go true e =
       let a : every is_letter (up_to tab l) ≡ true = letters-all l ∙ e in
       let n : length (up_to tab l) ≡ span l = letters-length l e in
@@ -68,7 +66,7 @@ line_list k i l (m ∷ ms) = go (is_empty (up_to tab (drop (span l) l))) refl wh
       (λ h. length-map (later tab l) value ∙ eqb-true _ _ (both (eqb (length (later tab l)) (span l + 1 - k)) _ h).0))
   go false e =
       let a : every is_letter (up_to tab l) ≡ false = letters-all l ∙ e in
-      rw (e, a, and-false) (both_wrong (ltb (span l) k))
+      rw (e, a, and-false) (both_same None (ltb (span l) k))
 
 -- ─── the mark ────────────────────────────────────────────────────────────────
 
@@ -107,25 +105,17 @@ marked-line k (b ∷ (c ∷ l)) h = go (eqb b tab) (eqb c tab) refl _ h where
   go false false e x g = never g
 
 -- a line that does not begin with `S` and a tab is wrong
-unmarked_list : (k i : ℕ) (l : List ℕ) (ms : List (List ℕ)) → marked l ≡ false → line_of k i l ms ≡ line.Wrong
+unmarked_list : (k i : ℕ) (l : List ℕ) (ms : List (List ℕ)) → marked l ≡ false → line_of k i l ms ≡ None
 unfolding line_of
 unmarked_list k i l [] h = refl
 unmarked_list k i l (m ∷ ms) h = go (is_string_line k l) refl where
-  go : (t : Bool) → is_string_line k l ≡ t → line_of k i l (m ∷ ms) ≡ line.Wrong
+  go : (t : Bool) → is_string_line k l ≡ t → line_of k i l (m ∷ ms) ≡ None
   go true e = never (sym h ∙ marked-line k l e)
   go false e = rw e
 
 -- ─── the line at a place ─────────────────────────────────────────────────────
 
 module _ (s : List ℕ) (at : ℕ) where
-  -- `S` and a tab, by the two bytes there
-  pub marked_short : length s - at < 2 → marked (drop at s) ≡ false
-  marked_short h = short (drop at s) (omega (arith, length-drop at s)) where
-    short : (r : List ℕ) → length r < 2 → marked r ≡ false
-    short [] h = refl
-    short (b ∷ []) h = refl
-    short (b ∷ (c ∷ r)) h = absurd (omega arith)
-
   two : at + 1 < length s → drop at s ≡ get_or s at 0 ∷ (get_or s (at + 1) 0 ∷ drop (at + 2) s)
   two h =
       let a : drop at s ≡ get_or s at 0 ∷ drop (suc at) s = drop-cons s at 0 (omega arith) in
@@ -134,7 +124,7 @@ module _ (s : List ℕ) (at : ℕ) where
       let q : suc (suc at) ≡ at + 2 = omega arith in
       a ∙ (ap (λ (x : List ℕ). get_or s at 0 ∷ x) b ∙ (λ i. get_or s at 0 ∷ (get_or s (p i) 0 ∷ drop (q i) s)))
 
-  pub marked_is : at + 1 < length s → marked (drop at s) ≡ choose (eqb (get_or s at 0) 83) (eqb (get_or s (at + 1) 0) tab) false
+  marked_is : at + 1 < length s → marked (drop at s) ≡ choose (eqb (get_or s at 0) 83) (eqb (get_or s (at + 1) 0) tab) false
   marked_is h = ap marked (two h)
 
   marked_true : (r : List ℕ) → marked r ≡ true → 2 ≤ length r
@@ -167,7 +157,7 @@ module _ (s : List ℕ) (at : ℕ) where
 
   -- the answer by the letters and what follows them; n is how many letters there are, e where they end, w how many weights are wanted
   module _ (k n e w : ℕ) (h : marked (drop at s) ≡ true) (p : e ≡ at + 2 + span (drop (at + 2) s)) (q : n ≡ e - (at + 2)) (r : w ≡ n + 1 - k) where
-    line_answer : line_at k s at ≡ choose (ltb n k) line.Wrong (line_with n w (tail_at s e w))
+    line_answer : line_at k s at ≡ choose (ltb n k) None (line_with n w (tail_at s e w))
     line_answer =
         let x : List ℕ = drop (at + 2) s in
         let l : List ℕ = up_to feed x in
@@ -181,20 +171,20 @@ module _ (s : List ℕ) (at : ℕ) where
         let g : at + 2 + span l ≡ e = omega arith in
         let o : span l + 1 - k ≡ w = ap (λ (y : ℕ). y + 1 - k) m ∙ sym r in
         (λ i. line_of k at ((ap (up_to feed) f ∙ front_up x) i) ((ap (later feed) f ∙ front-later x) i))
-        ∙ (line_list k at l (later feed x) ∙ (λ i. choose (ltb (m i) k) line.Wrong (line_with (m i) (o i) (tail_of (o i) (g i) (sym a i) (sym b i)))))
+        ∙ (line_list k at l (later feed x) ∙ (λ i. choose (ltb (m i) k) None (line_with (m i) (o i) (tail_of (o i) (g i) (sym a i) (sym b i)))))
 
     -- too few letters
-    pub line_few : n < k → line_at k s at ≡ line.Wrong
+    pub line_few : n < k → line_at k s at ≡ None
     line_few l = line_answer ∙ rw (lt-ltb n k l)
 
     -- wrong weights
-    pub line_bad : k ≤ n → tail_at s e w ≡ tail.Wrong → line_at k s at ≡ line.Wrong
-    line_bad l t = line_answer ∙ (ap (λ (x : Bool). choose x line.Wrong (line_with n w (tail_at s e w))) (le-ltb n k l) ∙ ap (line_with n w) t)
+    pub line_bad : k ≤ n → tail_at s e w ≡ None → line_at k s at ≡ None
+    line_bad l t = line_answer ∙ (ap (λ (x : Bool). choose x None (line_with n w (tail_at s e w))) (le-ltb n k l) ∙ ap (line_with n w) t)
 
     -- a good line
-    pub line_good : (next : ℕ) → k ≤ n → tail_at s e w ≡ tail.Good next → line_at k s at ≡ line.Good next n w
-    line_good next l t = line_answer ∙ (ap (λ (x : Bool). choose x line.Wrong (line_with n w (tail_at s e w))) (le-ltb n k l) ∙ ap (line_with n w) t)
+    pub line_good : (next : ℕ) → k ≤ n → tail_at s e w ≡ Some next → line_at k s at ≡ Some (line next n w)
+    line_good next l t = line_answer ∙ (ap (λ (x : Bool). choose x None (line_with n w (tail_at s e w))) (le-ltb n k l) ∙ ap (line_with n w) t)
 
   -- no `S`
-  pub line_unmarked : (k : ℕ) → marked (drop at s) ≡ false → line_at k s at ≡ line.Wrong
+  pub line_unmarked : (k : ℕ) → marked (drop at s) ≡ false → line_at k s at ≡ None
   line_unmarked k h = unmarked_list k at (up_to feed (drop at s)) (later feed (drop at s)) (marked_up (drop at s) ∙ h)

@@ -2,6 +2,7 @@
 use mathlib.Core.Path.{◌≡◌, refl, sym, ap, ◌∙◌}
 use mathlib.Core.Bool.{Bool, true, false, and-false}
 use mathlib.Core.List.{List, [], ◌∷◌}
+use Rattle.std.specs.Prelude.{None, Some}
 use Prim.Native.Nat.{ℕ, suc, ◌+◌, ◌-◌, ◌<◌, ◌≤◌}
 use native.Mathlib.Nat.{add-zero}
 use native.Mathlib.Omega.{arith}
@@ -16,34 +17,35 @@ use Rattle.lists.proofs.Refuted.{refuted}
 use Rattle.text.specs.Numbers.{value}
 use Rattle.text.specs.Parts.{up_to, later, tab, feed}
 use Rattle.sheet.specs.Sheet.{is_weight_field}
-use Rattle.text.specs.Fields.{field, number_of, byte_is}
+use Rattle.text.specs.Fields.{field, number, number_of, byte_is}
+use Rattle.text.specs.declared.Number.{Number}
 use Rattle.sheet_lines.specs.Cursor.{weight_at, tail_of, tail_at}
-use Rattle.text.specs.declared.Number.TheVariants as number
-use Rattle.sheet_lines.specs.declared.Tail.TheVariants as tail
 use Rattle.text.proofs.Parts.{up_next, up_stop, later_next, later_stop, inside_part, up_short}
 use Rattle.text.proofs.Bytes.{byte_here, byte_other}
 
 -- ─── one weight ──────────────────────────────────────────────────────────────
 
 -- a good weight: its field is good, and this is where it ends and what its value is
-pub weight_good : (i : ℕ) (f : List ℕ) (v next : ℕ) → number_of most_weight i f ≡ number.Good v next
+pub weight_good : (i : ℕ) (f : List ℕ) (v next : ℕ) → number_of most_weight i f ≡ Some (number v next)
     → (is_weight_field f ≡ true) × (next ≡ i + length f) × (v ≡ value f)
 unfolding number_of is_weight_field
 weight_good i f v next h = go (is_weight_field f) refl h where
-  go : (t : Bool) → is_weight_field f ≡ t → choose t (number.Good (value f) (i + length f)) number.Wrong ≡ number.Good v next
+  go : (t : Bool) → is_weight_field f ≡ t → choose t (Some (number (value f) (i + length f))) None ≡ Some (number v next)
       → (is_weight_field f ≡ true) × (next ≡ i + length f) × (v ≡ value f)
-  go true e r = (e, cc, cc)
+  go true e r =
+      let q : number (value f) (i + length f) ≡ number v next = cc in
+      (e, sym (ap (λ (x : Number). x.next) q), sym (ap (λ (x : Number). x.value) q))
   go false e r = refuted (cc)
 
-weight_wrong : (i : ℕ) (f : List ℕ) → number_of most_weight i f ≡ number.Wrong → is_weight_field f ≡ false
+weight_wrong : (i : ℕ) (f : List ℕ) → number_of most_weight i f ≡ None → is_weight_field f ≡ false
 unfolding number_of is_weight_field
 weight_wrong i f h = go (is_weight_field f) refl h where
-  go : (t : Bool) → is_weight_field f ≡ t → choose t (number.Good (value f) (i + length f)) number.Wrong ≡ number.Wrong → is_weight_field f ≡ false
+  go : (t : Bool) → is_weight_field f ≡ t → choose t (Some (number (value f) (i + length f))) None ≡ None → is_weight_field f ≡ false
   go true e r = refuted (cc)
   go false e r = e
 
 -- behind a weight stand the rest of its line, and the same lines after it
-pub after_weight : (s : List ℕ) (i v next : ℕ) → weight_at s i ≡ number.Good v next
+pub after_weight : (s : List ℕ) (i v next : ℕ) → weight_at s i ≡ Some (number v next)
     → (up_to feed (drop next s) ≡ drop (length (field tab (drop i s))) (up_to feed (drop i s))) × (later feed (drop next s) ≡ later feed (drop i s))
 unfolding field
 after_weight s i v next w =
@@ -69,34 +71,34 @@ tail_list j i next l (m ∷ ms) g e =
     rw (u, w.1, n, g, eqb-suc-suc)
 
 -- a wrong weight
-tail_wrong : (j i : ℕ) (l : List ℕ) (ms : List (List ℕ)) → is_weight_field (up_to tab l) ≡ false → tail_of (suc j) i (tab ∷ l) ms ≡ tail.Wrong
+tail_wrong : (j i : ℕ) (l : List ℕ) (ms : List (List ℕ)) → is_weight_field (up_to tab l) ≡ false → tail_of (suc j) i (tab ∷ l) ms ≡ None
 unfolding tail_of up_to later every
 tail_wrong j i l [] g = refl
 tail_wrong j i l (m ∷ ms) g = rw (g, and-false)
 
 -- a line that goes on with neither a tab nor its end
-tail_other : (j i b : ℕ) (l : List ℕ) (ms : List (List ℕ)) → (b ≡ tab → ⊥) → tail_of j i (b ∷ l) ms ≡ tail.Wrong
+tail_other : (j i b : ℕ) (l : List ℕ) (ms : List (List ℕ)) → (b ≡ tab → ⊥) → tail_of j i (b ∷ l) ms ≡ None
 unfolding tail_of up_to
 tail_other j i b l [] h = refl
 tail_other j i b l (m ∷ ms) h = rw (ne_eqb b tab h)
 
 -- a line that ends before the last weight, or goes on after it
-tail_none : (j i : ℕ) (ms : List (List ℕ)) → tail_of (suc j) i [] ms ≡ tail.Wrong
+tail_none : (j i : ℕ) (ms : List (List ℕ)) → tail_of (suc j) i [] ms ≡ None
 unfolding tail_of up_to later
 tail_none j i [] = refl
 tail_none j i (m ∷ ms) = rw (eqb-zero-suc)
 
-tail_more : (i : ℕ) (l : List ℕ) (ms : List (List ℕ)) → tail_of 0 i (tab ∷ l) ms ≡ tail.Wrong
+tail_more : (i : ℕ) (l : List ℕ) (ms : List (List ℕ)) → tail_of 0 i (tab ∷ l) ms ≡ None
 unfolding tail_of up_to later
 tail_more i l [] = refl
 tail_more i l (m ∷ ms) = rw (eqb-suc-zero)
 
 -- no line feed
-tail_past : (s : List ℕ) (i n : ℕ) → length s ≤ i → tail_at s i n ≡ tail.Wrong
+tail_past : (s : List ℕ) (i n : ℕ) → length s ≤ i → tail_at s i n ≡ None
 unfolding tail_of up_to later
 tail_past s i n h = rw (drop_of_length-le s h)
 
-tail_feed : (i : ℕ) (m : List ℕ) (ms : List (List ℕ)) → tail_of 0 i [] (m ∷ ms) ≡ tail.Good (i + 1)
+tail_feed : (i : ℕ) (m : List ℕ) (ms : List (List ℕ)) → tail_of 0 i [] (m ∷ ms) ≡ Some (i + 1)
 unfolding tail_of up_to later every
 tail_feed i m ms = rw add-zero
 
@@ -114,7 +116,7 @@ module _ (s : List ℕ) (i : ℕ) where
   at_feed n h q = tail_here n (up_stop feed s i h q) (later_stop feed s i h q)
 
   -- at the line feed
-  pub tail_ended : byte_is s i feed ≡ true → tail_at s i 0 ≡ tail.Good (i + 1)
+  pub tail_ended : byte_is s i feed ≡ true → tail_at s i 0 ≡ Some (i + 1)
   tail_ended h =
       let b = byte_here s i feed h in
       at_feed 0 b.0 b.1 ∙ tail_feed i _ _
@@ -123,9 +125,9 @@ module _ (s : List ℕ) (i : ℕ) where
   with_tab n h q = on_line n h (λ e. omega arith) ∙ ap (λ (x : ℕ). tail_of n i (x ∷ up_to feed (drop (i + 1) s)) (later feed (drop (i + 1) s))) q
 
   -- no line feed where the line has to end
-  pub tail_unended : byte_is s i feed ≡ false → tail_at s i 0 ≡ tail.Wrong
+  pub tail_unended : byte_is s i feed ≡ false → tail_at s i 0 ≡ None
   tail_unended h = go (ltb i (length s)) refl (eqb (get_or s i 0) tab) refl where
-    go : (t : Bool) → ltb i (length s) ≡ t → (u : Bool) → eqb (get_or s i 0) tab ≡ u → tail_at s i 0 ≡ tail.Wrong
+    go : (t : Bool) → ltb i (length s) ≡ t → (u : Bool) → eqb (get_or s i 0) tab ≡ u → tail_at s i 0 ≡ None
     go false e u g = tail_past s i 0 (ltb-false _ _ e)
     go true e true g = with_tab 0 (ltb-true _ _ e) (eqb-true _ _ g) ∙ tail_more i _ _
     go true e false g =
@@ -137,9 +139,9 @@ module _ (s : List ℕ) (i : ℕ) where
     up_one = omega arith
 
     -- no tab where a weight has to come
-    pub tail_no_tab : byte_is s i tab ≡ false → tail_at s i j ≡ tail.Wrong
+    pub tail_no_tab : byte_is s i tab ≡ false → tail_at s i j ≡ None
     tail_no_tab h = go (ltb i (length s)) refl (eqb (get_or s i 0) feed) refl where
-      go : (t : Bool) → ltb i (length s) ≡ t → (u : Bool) → eqb (get_or s i 0) feed ≡ u → tail_at s i j ≡ tail.Wrong
+      go : (t : Bool) → ltb i (length s) ≡ t → (u : Bool) → eqb (get_or s i 0) feed ≡ u → tail_at s i j ≡ None
       go false e u g = tail_past s i j (ltb-false _ _ e)
       go true e true g =
           at_feed j (ltb-true _ _ e) (eqb-true _ _ g)
@@ -152,14 +154,14 @@ module _ (s : List ℕ) (i : ℕ) where
     at_tab h q = with_tab j h q ∙ ap (λ (x : ℕ). tail_of x i (tab ∷ up_to feed (drop (i + 1) s)) (later feed (drop (i + 1) s))) (sym up_one)
 
     -- a tab and a wrong weight
-    pub tail_bad : byte_is s i tab ≡ true → weight_at s (i + 1) ≡ number.Wrong → tail_at s i j ≡ tail.Wrong
+    pub tail_bad : byte_is s i tab ≡ true → weight_at s (i + 1) ≡ None → tail_at s i j ≡ None
     unfolding field
     tail_bad h w =
         let b = byte_here s i tab h in
         at_tab b.0 b.1 ∙ tail_wrong (j - 1) i _ _ (weight_wrong _ _ w)
 
     -- a tab and a good weight
-    pub tail_next : (v next : ℕ) → byte_is s i tab ≡ true → weight_at s (i + 1) ≡ number.Good v next → tail_at s i j ≡ tail_at s next (j - 1)
+    pub tail_next : (v next : ℕ) → byte_is s i tab ≡ true → weight_at s (i + 1) ≡ Some (number v next) → tail_at s i j ≡ tail_at s next (j - 1)
     unfolding field
     tail_next v next h w =
         let b = byte_here s i tab h in

@@ -2,26 +2,22 @@
 ghost use Rattle.std.specs.Prelude.{◌≡◌, ◌+◌, ◌≤◌, length, drop};
 ghost use Rattle.sheet_lines.specs.Cursor.{span, lines_at, count_of};
 
-use crate::{Counted, Line, lines};
+use crate::{Totals, lines};
 
 // Where the letters that start at a place end.
 pub fn letters_end(s: &[u8], at: usize) -> usize
     requires { at ≤ length s.now }
     ensures { (result ≡ at + span (drop at s.now)) × (result ≤ length s.now) }
 {
-    let mut i = at;
-    while i < s.len() {
-        if !alphabet::is_letter(s[i]) {
-            return i;
-        }
-        i += 1;
+    match s[at..].iter().position(|b| !alphabet::is_letter(*b)) {
+        Some(n) => at + n,
+        None => s.len(),
     }
-    i
 }
 
-// Judges and counts the strings' lines, the first of which starts at a place: n letters, m strings, w weights so far. The first
-// string's line is line 2.
-pub fn count_lines(k: usize, s: &[u8], at: usize) -> Counted
+// Judges and counts the strings' lines, the first of which starts at a place: n letters, m strings, w weights so far. Answers the
+// number of the first wrong line, where there is one; the first string's line is line 2.
+pub fn count_lines(k: usize, s: &[u8], at: usize) -> Result<Totals, usize>
     requires { (2 ≤ at) × (at ≤ length s.now) }
     ensures { result ≡ count_of k 0 0 0 (lines_at s.now at) }
 {
@@ -30,23 +26,15 @@ pub fn count_lines(k: usize, s: &[u8], at: usize) -> Counted
     let mut w: usize = 0;
     let mut i = at;
     while i < s.len() {
-        let l = lines::line_at(k, s, i);
-        let Line::Good {
-            next,
-            letters,
-            weights,
-        } = l
-        else {
-            return Counted::Wrong { line: m + 2 };
-        };
-        n += letters;
+        let line = lines::line_at(k, s, i).ok_or(m + 2)?;
+        n += line.letters;
         m += 1;
-        w += weights;
-        i = next;
+        w += line.weights;
+        i = line.next;
     }
-    Counted::Good {
+    Ok(Totals {
         letters: n,
         strings: m,
         weights: w,
-    }
+    })
 }

@@ -1,9 +1,11 @@
 -- The loop that fills the tables line by line: what is still to be stored. Assumes nothing.
 use mathlib.Core.Path.{◌≡◌, refl, sym, ap, ◌∙◌, subst}
 use mathlib.Core.List.{List, [], ◌∷◌, ◌++◌}
+use Rattle.std.specs.Prelude.{Some}
 use Prim.Native.Nat.{ℕ, suc, ◌+◌, ◌-◌, ◌<◌, ◌≤◌}
 use native.Mathlib.Omega.{arith}
-use lib.ListN.{length, drop, take, length-append, set, drop_of_length-le}
+use lib.ListN.{length, drop, take, length-append, length-drop, set, drop_of_length-le}
+use lib.Seq.{length-take-le}
 use Rattle.lists.specs.Fill.{put, fill}
 use Rattle.lists.specs.Limits.{most_letters}
 use Rattle.lists.proofs.Storing.{Storing, begin, store, restated, stored}
@@ -14,8 +16,6 @@ use Rattle.text.specs.Parts.{up_to, later}
 use Rattle.sheet.specs.Sheet.{string, strings_of, first_wrong}
 use Rattle.text.proofs.Blocks.{block_room, store_block}
 use Rattle.sheet_lines.specs.Cursor.{span, tail_at, lines_at, strings_at, weights_at}
-use Rattle.sheet_lines.specs.declared.Tail.TheVariants as tail
-use Rattle.text.proofs.Copied.{take_size}
 use Rattle.sheet_lines.proofs.OneLine.{marked_room}
 use Rattle.sheet_read.specs.Fits.{Fits}
 use Rattle.sheet_read.proofs.Rows.{Row, row, row_marked}
@@ -98,7 +98,7 @@ module _ {k : ℕ} {s : List ℕ} {a b c : ℕ} {A B C : List ℕ} {i n m w : �
       let x : List ℕ = take (e - (i + 2)) (drop (i + 2) s) in
       let rest : List Str = strings_at s (r.feed_at + 1) in
       let u : Str = string x (weights_at s e) in
-      let z : length x ≡ e - (i + 2) = take_size s e (i + 2) r.start p.1 in
+      let z : length x ≡ e - (i + 2) = length-take-le _ _ (omega (arith, length-drop (i + 2) s, p.1)) in
       let f : letters_in (strings_at s i) ≡ x ++ letters_in rest = ap letters_in r.strings_are ∙ letters-cons u _ in
       let g : ends_in n (strings_at s i) ≡ (n + (e - (i + 2))) ∷ ends_in (n + (e - (i + 2))) rest =
       ap (ends_in n) r.strings_are ∙ (ends-cons n u _ ∙ ap (λ (y : ℕ). (n + y) ∷ ends_in (n + y) rest) z) in
@@ -125,10 +125,10 @@ module _ {k : ℕ} {s : List ℕ} {a b c : ℕ} {A B C : List ℕ} {i n m w : �
 
 -- f is where the line's feed was found
 module _ {k : ℕ} {s : List ℕ} {a b c : ℕ} {A B C : List ℕ} {i e n m w : ℕ} {ls es ws : List ℕ} (sp : Split k s a b c A B C i e n m w ls es ws)
-    (f : ℕ) (t : tail_at s e (e - (i + 2) + 1 - k) ≡ tail.Good (f + 1)) where
+    (f : ℕ) (t : tail_at s e (e - (i + 2) + 1 - k) ≡ Some (f + 1)) where
   same-feed : sp.row.feed_at + 1 ≡ f + 1
   same-feed = same_next (sym sp.row.tail_is ∙ t) where
-    same_next : {x y : ℕ} → tail.Good x ≡ tail.Good y → x ≡ y
+    same_next : {x y : ℕ} → Some x ≡ Some y → x ≡ y
     same_next h = cc
 
   -- the line ends inside the sheet

@@ -2,6 +2,7 @@
 use mathlib.Core.Path.{◌≡◌, refl, sym, ap, ◌∙◌}
 use mathlib.Core.Bool.{Bool, true, false}
 use mathlib.Core.List.{List, [], ◌∷◌, map}
+use Rattle.std.specs.Prelude.{Option, None, Some}
 use Prim.Native.Nat.{ℕ, suc, ◌+◌, ◌-◌, ◌<◌, ◌≤◌}
 use native.Mathlib.Omega.{arith}
 use borrow.Author.Tests.{eqb-true, ltb-true, ltb-false}
@@ -14,11 +15,8 @@ use Rattle.text.specs.Numbers.{value}
 use Rattle.text.specs.Parts.{up_to, later, tab, feed}
 use Rattle.collection.specs.Strings.{Str}
 use Rattle.sheet.specs.Sheet.{is_string_line, string, string_of, strings_of, first_wrong}
-use Rattle.sheet_lines.specs.Cursor.{span, tail_at, line_of, line_at, lines_at, strings_at, marked, weights_at}
-use Rattle.sheet_lines.specs.declared.Tail.{Tail}
-use Rattle.sheet_lines.specs.declared.Tail.TheVariants as tail
+use Rattle.sheet_lines.specs.Cursor.{span, tail_at, line, line_of, line_at, lines_at, strings_at, marked, weights_at}
 use Rattle.sheet_lines.specs.declared.Line.{Line}
-use Rattle.sheet_lines.specs.declared.Line.TheVariants as line
 use Rattle.sheet.proofs.Accepted.{choose-zero}
 use Rattle.text.proofs.Parts.{parts, inside_part, past_sep, up_short, up_take, take_up, some-part}
 use Rattle.sheet_lines.proofs.Letters.{tab-other, feed-other, span_up}
@@ -27,15 +25,15 @@ use Rattle.sheet_lines.proofs.Counts.{found}
 
 -- ─── lines of which none is wrong ────────────────────────────────────────────
 
-wrong_bad : (k q i : ℕ) (l : List ℕ) (ms : List (List ℕ)) → first_wrong k (suc q) (l ∷ ms) ≡ 0 → 1 ≤ length l + length ms → line_of k i l ms ≡ line.Wrong → ⊥
+wrong_bad : (k q i : ℕ) (l : List ℕ) (ms : List (List ℕ)) → first_wrong k (suc q) (l ∷ ms) ≡ 0 → 1 ≤ length l + length ms → line_of k i l ms ≡ None → ⊥
 unfolding first_wrong line_of
 wrong_bad k q i l [] h o e = omega (arith, eqb-true (length l) 0 (choose-zero (eqb (length l) 0) 0 q h).0)
 wrong_bad k q i l (m ∷ ms) h o e =
     let t = choose-zero (is_string_line k l) _ q h in
-    let g : line.Good (i + length l + 1) (length (string_of (later tab l)).letters) (length (string_of (later tab l)).weights) ≡ line.Wrong =
+    let g : Some (line (i + length l + 1) (length (string_of (later tab l)).letters) (length (string_of (later tab l)).weights)) ≡ None =
     clash (is_string_line k l) _ t.0 e in
     refuted (cc) where
-      clash : (t : Bool) (x : Line) → t ≡ true → choose t x line.Wrong ≡ line.Wrong → x ≡ line.Wrong
+      clash : (t : Bool) (x : Option Line) → t ≡ true → choose t x None ≡ None → x ≡ None
       clash true x e r = r
       clash false x e r = never e
 
@@ -50,7 +48,7 @@ pub record Row (k q : ℕ) (s : List ℕ) (i e : ℕ) : Type 0 where
   pub start : i + 2 ≤ e
   pub long : k ≤ e - (i + 2)
   pub feed_at : ℕ
-  pub tail_is : tail_at s e (e - (i + 2) + 1 - k) ≡ tail.Good (feed_at + 1)
+  pub tail_is : tail_at s e (e - (i + 2) + 1 - k) ≡ Some (feed_at + 1)
   pub count : length (weights_at s e) ≡ e - (i + 2) + 1 - k
   pub inside : feed_at + 1 ≤ length s
   pub after : i < feed_at
@@ -66,7 +64,7 @@ unfolding strings_of
 strings_next l m ms = refl
 
 module _ (k q : ℕ) (s : List ℕ) (i e : ℕ) (h : first_wrong k (suc q) (lines_at s i) ≡ 0) (l : i < length s) (p : e ≡ i + 2 + span (drop (i + 2) s)) where
-  not_wrong : line_at k s i ≡ line.Wrong → ⊥
+  not_wrong : line_at k s i ≡ None → ⊥
   not_wrong r = wrong_bad k q i (up_to feed (drop i s)) (later feed (drop i s)) h (some-part feed (drop i s) (omega (arith, length-drop i s))) r
 
   -- its mark stands there
@@ -82,7 +80,7 @@ module _ (k q : ℕ) (s : List ℕ) (i e : ℕ) (h : first_wrong k (suc q) (line
     go true r = absurd (not_wrong (line_few s i k (e - (i + 2)) e (e - (i + 2) + 1 - k) row_marked p refl refl (ltb-true _ _ r)))
     go false r = ltb-false _ _ r
 
-  row_made : (next : ℕ) → tail_at s e (e - (i + 2) + 1 - k) ≡ tail.Good next → Row k q s i e
+  row_made : (next : ℕ) → tail_at s e (e - (i + 2) + 1 - k) ≡ Some next → Row k q s i e
   unfolding weights_at
   row_made next t =
       let n : ℕ = e - (i + 2) in
@@ -113,7 +111,7 @@ module _ (k q : ℕ) (s : List ℕ) (i e : ℕ) (h : first_wrong k (suc q) (line
         start = omega arith;
         long = row_long;
         feed_at = i + length (up_to feed r);
-        tail_is = t ∙ ap tail.Good f.next_is;
+        tail_is = t ∙ ap Some f.next_is;
         count = ap (λ (y : List (List ℕ)). length (map value y)) le ∙ sym (f.weights ∙ ap (λ (y : Str). length y.weights) fe);
         inside = omega (arith, o.1, length-drop i s);
         after = omega (arith, ap length fr);
@@ -126,6 +124,6 @@ module _ (k q : ℕ) (s : List ℕ) (i e : ℕ) (h : first_wrong k (suc q) (line
   -- it is such a line
   pub row : Row k q s i e
   row = go (tail_at s e (e - (i + 2) + 1 - k)) refl where
-    go : (t : Tail) → tail_at s e (e - (i + 2) + 1 - k) ≡ t → Row k q s i e
-    go (tail.Good next) r = row_made next r
-    go tail.Wrong r = absurd (not_wrong (line_bad s i k (e - (i + 2)) e (e - (i + 2) + 1 - k) row_marked p refl refl row_long r))
+    go : (t : Option ℕ) → tail_at s e (e - (i + 2) + 1 - k) ≡ t → Row k q s i e
+    go (Some next) r = row_made next r
+    go None r = absurd (not_wrong (line_bad s i k (e - (i + 2)) e (e - (i + 2) + 1 - k) row_marked p refl refl row_long r))

@@ -5,28 +5,21 @@ ghost use Rattle.collection.specs.Tables.{tables, filled_by};
 ghost use Rattle.sheet_lines.specs.Cursor.{tail_at, fine, weights_at, ends_at, strings_at};
 ghost use Rattle.sheet_read.specs.Fits.{Fits};
 
-use text::Number;
-
 // Stores the n weights that stand from a place to the line's end; answers where the line's feed stands.
 fn fill_weights(s: &[u8], at: usize, n: usize, out: &mut [u32], o: usize) -> usize
     requires { (fine (tail_at s.now at n) ≡ true) × (o + length (weights_at s.now at) ≤ length out.old) }
     ensures { (out.new ≡ put o (weights_at s.now at) out.old) × (tail_at s.now at n ≡ ends_at result) }
 {
     let mut i = at;
-    let mut j = n;
-    let mut p = o;
-    while 0 < j {
+    for t in out[o..o + n].iter_mut() {
         if !text::byte_is(s, i, b'\t') {
             return i;
         }
-        let w = sheet_lines::fields::weight_at(s, i + 1);
-        let Number::Good { value, next } = w else {
+        let Some(w) = sheet_lines::fields::weight_at(s, i + 1) else {
             return i;
         };
-        out[p] = value;
-        p += 1;
-        i = next;
-        j -= 1;
+        *t = w.value;
+        i = w.next;
     }
     i
 }

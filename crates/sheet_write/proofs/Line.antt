@@ -1,9 +1,10 @@
 -- One line stored piece by piece: weights, line 1, a string's line. What is still to be stored, and where it ends. Assumes nothing.
-use mathlib.Core.Path.{◌≡◌, sym, ap, subst, ◌∙◌}
+use mathlib.Core.Path.{◌≡◌, sym, ap, subst}
 use mathlib.Core.List.{List, [], ◌∷◌, ◌++◌}
 use Prim.Native.Nat.{ℕ, ◌+◌, ◌-◌, ◌<◌, ◌≤◌}
 use native.Mathlib.Omega.{arith}
-use lib.ListN.{length, take, drop, get_or, set, length-append}
+use lib.ListN.{length, take, drop, get_or, set, length-append, length-drop}
+use lib.Seq.{length-take-le}
 use Rattle.lists.specs.Fill.{put}
 use Rattle.lists.proofs.Storing.{Storing, begin_at, inside, store, restated, stored}
 use Rattle.collection.specs.Strings.{Str}
@@ -12,7 +13,6 @@ use Rattle.text.specs.Parts.{tab, feed}
 use Rattle.sheet.specs.Text.{weights_text}
 use Rattle.text.proofs.Blocks.{block_room, store_block}
 use Rattle.sheet_write.specs.Written.{head_line, cut_string, string_line}
-use Rattle.text.proofs.Copied.{take_size}
 use Rattle.sheet_write.proofs.Texts.{weights_next, weights_end, line-length}
 
 moved : {size o o' : ℕ} {out target rest : List ℕ} → o ≡ o' → Storing size out target rest o → Storing size out target rest o'
@@ -20,25 +20,15 @@ moved {size} {out = out} {target} {rest} e s = subst (λ (o : ℕ). Storing size
 
 -- ─── weights ─────────────────────────────────────────────────────────────────
 
--- the weights from entry i up to e are still to be stored, from p on; the last ends at `total`
-pub record Weighing (size : ℕ) (ws : List ℕ) (e total : ℕ) (target out : List ℕ) (i p : ℕ) : Type 0 where
-  pub low : i ≤ e
-  pub high : e ≤ length ws
-  pub storing : Storing size out target (weights_text (take (e - i) (drop i ws))) p
-  pub place : p + length (weights_text (take (e - i) (drop i ws))) ≡ total
+-- the weights from entry i on are still to be stored, from p on; the last ends at `total`
+pub record Weighing (size : ℕ) (ws : List ℕ) (total : ℕ) (target out : List ℕ) (i p : ℕ) : Type 0 where
+  pub storing : Storing size out target (weights_text (drop i ws)) p
+  pub place : p + length (weights_text (drop i ws)) ≡ total
 
--- at the start none is stored
-pub weighing : (ws : List ℕ) (w n at : ℕ) (out : List ℕ) → w + n ≤ length ws → at + length (weights_text (take n (drop w ws))) ≤ length out
-    → Weighing (length out) ws (w + n) (at + length (weights_text (take n (drop w ws)))) (put at (weights_text (take n (drop w ws))) out) out w at
-weighing ws w n at out h r =
-    let z : n ≡ w + n - w = omega arith in
-    let e : weights_text (take n (drop w ws)) ≡ weights_text (take (w + n - w) (drop w ws)) = ap (λ (x : ℕ). weights_text (take x (drop w ws))) z in
-    record { low = omega arith; high = h; storing = restated e (begin_at at out _ r); place = ap (λ (x : List ℕ). at + length x) (sym e) }
-
-module _ {size : ℕ} {ws : List ℕ} {e total : ℕ} {target out : List ℕ} {i p : ℕ} (s : Weighing size ws e total target out i p) where
-  module _ (l : i < e) where
-    here : Storing size out target (tab ∷ (digits (get_or ws i 0) ++ weights_text (take (e - (i + 1)) (drop (i + 1) ws)))) p
-    here = restated (weights_next ws e i l s.high) s.storing
+module _ {size : ℕ} {ws : List ℕ} {total : ℕ} {target out : List ℕ} {i p : ℕ} (s : Weighing size ws total target out i p) where
+  module _ (l : i < length ws) where
+    here : Storing size out target (tab ∷ (digits (get_or ws i 0) ++ weights_text (drop (i + 1) ws))) p
+    here = restated (weights_next ws i l) s.storing
 
     -- its tab fits, then its digits
     pub tab_room : p < length out
@@ -48,24 +38,20 @@ module _ {size : ℕ} {ws : List ℕ} {e total : ℕ} {target out : List ℕ} {i
     digits_room = block_room (digits (get_or ws i 0)) _ (store here)
 
     -- one weight more is stored
-    pub weighed : {w : ℕ} {out' : List ℕ} {p' : ℕ} → w ≡ get_or ws i 0 → p' ≡ p + 1 + length (digits w) → out' ≡ put (p + 1) (digits w) (set out p tab)
-        → Weighing size ws e total target out' (i + 1) p'
-    weighed {out' = out'} {p' = p'} is q₀ f₀ =
+    pub weighed : {out' : List ℕ} {p' : ℕ} → p' ≡ p + 1 + length (digits (get_or ws i 0)) → out' ≡ put (p + 1) (digits (get_or ws i 0)) (set out p tab)
+        → Weighing size ws total target out' (i + 1) p'
+    weighed {out' = out'} {p' = p'} q f =
         let d : List ℕ = digits (get_or ws i 0) in
-        let q : p' ≡ p + 1 + length d = q₀ ∙ ap (λ (x : ℕ). p + 1 + length (digits x)) is in
-        let f : out' ≡ put (p + 1) d (set out p tab) = f₀ ∙ ap (λ (x : ℕ). put (p + 1) (digits x) (set out p tab)) is in
-        let r : List ℕ = weights_text (take (e - (i + 1)) (drop (i + 1) ws)) in
+        let r : List ℕ = weights_text (drop (i + 1) ws) in
         record {
-          low = omega arith;
-          high = s.high;
           storing = store_block d r (store here) f q;
-          place = omega (arith, s.place, ap length (weights_next ws e i l s.high), length-append d r);
+          place = omega (arith, s.place, ap length (weights_next ws i l), length-append d r);
         }
 
   -- at the end all are
-  pub weighed-all : e ≤ i → (p ≡ total) × (out ≡ target)
+  pub weighed-all : length ws ≤ i → (p ≡ total) × (out ≡ target)
   weighed-all l =
-      let z = weights_end ws e i l in
+      let z = weights_end ws i l in
       (omega (arith, s.place, ap length z), stored (restated z s.storing))
 
 -- ─── line 1 ──────────────────────────────────────────────────────────────────
@@ -99,7 +85,7 @@ module _ (letters weights out : List ℕ) (b e w n at : ℕ) (fits : (b ≤ e) �
   marked = set (set out at 83) (at + 1) tab
 
   letters_size : length (take (e - b) (drop b letters)) ≡ e - b
-  letters_size = take_size letters e b fits.0 fits.1
+  letters_size = length-take-le (e - b) (drop b letters) (omega (arith, length-drop b letters))
 
   line_begun : Storing (length out) out target (83 ∷ (tab ∷ (str.letters ++ (weights_text str.weights ++ (feed ∷ []))))) at
   unfolding string_line

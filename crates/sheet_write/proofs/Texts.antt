@@ -1,9 +1,9 @@
 -- The text of weights and of strings, piece by piece, and its length. Assumes nothing.
 use mathlib.Core.Path.{◌≡◌, refl, sym, ap, ◌∙◌}
 use mathlib.Core.List.{List, [], ◌∷◌, ◌++◌, append_assoc}
-use Prim.Native.Nat.{ℕ, ◌+◌, ◌-◌, ◌*◌, ◌<◌, ◌≤◌}
+use Prim.Native.Nat.{ℕ, ◌+◌, ◌*◌, ◌<◌, ◌≤◌}
 use native.Mathlib.Omega.{arith}
-use lib.ListN.{length, take, drop, get_or, length-append, drop_of_length-le}
+use lib.ListN.{length, drop, get_or, length-append, drop_of_length-le}
 use Rattle.lists.specs.Limits.{most_letters}
 use Rattle.lists.proofs.Storing.{drop_next}
 use Rattle.collection.specs.Collection.{Collection}
@@ -13,7 +13,6 @@ use Rattle.collection.proofs.Strings.{strings-joined, ends-length}
 use Rattle.text.specs.Numbers.{digits}
 use Rattle.text.specs.Parts.{tab, feed}
 use Rattle.sheet.specs.Text.{weights_text, lines_text, sheet_text, write_text}
-use Rattle.text.proofs.Copied.{take_next, take_none}
 use Rattle.sheet_write.specs.Written.{head_line, string_line}
 
 -- ─── weights ─────────────────────────────────────────────────────────────────
@@ -27,24 +26,18 @@ unfolding weights_text
 weights-cons w ws = refl
 
 -- one weight more, as a loop's index counts
-pub weights_next : (ws : List ℕ) (e i : ℕ) → i < e → e ≤ length ws
-    → weights_text (take (e - i) (drop i ws)) ≡ tab ∷ (digits (get_or ws i 0) ++ weights_text (take (e - (i + 1)) (drop (i + 1) ws)))
-weights_next ws e i l h = ap weights_text (take_next ws e i l h) ∙ weights-cons (get_or ws i 0) _
+pub weights_next : (ws : List ℕ) (i : ℕ) → i < length ws → weights_text (drop i ws) ≡ tab ∷ (digits (get_or ws i 0) ++ weights_text (drop (i + 1) ws))
+weights_next ws i l = ap weights_text (drop_next ws i 0 l) ∙ weights-cons (get_or ws i 0) _
 
 -- none is left
-pub weights_end : (ws : List ℕ) (e i : ℕ) → e ≤ i → weights_text (take (e - i) (drop i ws)) ≡ []
-weights_end ws e i l = ap weights_text (take_none ws e i l) ∙ no_weights
+pub weights_end : (ws : List ℕ) (i : ℕ) → length ws ≤ i → weights_text (drop i ws) ≡ []
+weights_end ws i l = ap weights_text (drop_of_length-le ws l) ∙ no_weights
 
 -- the length of the weights left, with one weight less
 pub weights_count : (ws : List ℕ) (i : ℕ) → i < length ws
     → length (weights_text (drop i ws)) ≡ 1 + length (digits (get_or ws i 0)) + length (weights_text (drop (i + 1) ws))
 weights_count ws i l =
-    ap (λ (x : List ℕ). length (weights_text x)) (drop_next ws i 0 l)
-    ∙ (ap length (weights-cons (get_or ws i 0) (drop (i + 1) ws)) ∙ omega (arith, length-append (digits (get_or ws i 0)) (weights_text (drop (i + 1) ws))))
-
--- none is left
-pub weights-counted : (ws : List ℕ) (i : ℕ) → length ws ≤ i → length (weights_text (drop i ws)) ≡ 0
-weights-counted ws i l = ap (λ (x : List ℕ). length (weights_text x)) (drop_of_length-le ws l) ∙ ap length no_weights
+    ap length (weights_next ws i l) ∙ omega (arith, length-append (digits (get_or ws i 0)) (weights_text (drop (i + 1) ws)))
 
 weights-append : (xs ys : List ℕ) → weights_text (xs ++ ys) ≡ weights_text xs ++ weights_text ys
 unfolding weights_text

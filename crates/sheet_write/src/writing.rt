@@ -17,10 +17,8 @@ fn weights_length(weights: &[u32]) -> usize
     ensures { (result ≡ length (weights_text weights.now)) × (result ≤ 21 * length weights.now) }
 {
     let mut n: usize = 0;
-    let mut i = 0;
-    while i < weights.len() {
-        n += 1 + text::inner::digit_count(numbers::wide(weights[i]));
-        i += 1;
+    for w in weights {
+        n += 1 + text::inner::digit_count(*w as usize);
     }
     n
 }
@@ -86,14 +84,12 @@ fn put_lines(
     let mut before: usize = 0;
     let mut w: usize = 0;
     let mut p = at;
-    let mut i = 0;
-    while i < ends.len() {
-        let e = ends[i] as usize;
+    for end in ends {
+        let e = *end as usize;
         let n = e + 1 - (before + k);
         p = put_string(letters, before, e, weights, w, n, out, p);
         before = e;
         w += n;
-        i += 1;
     }
     p
 }

@@ -2,6 +2,7 @@
 use mathlib.Core.Path.{◌≡◌, refl, ap}
 use mathlib.Core.List.{List, [], ◌∷◌, ◌++◌}
 use Prim.Native.Nat.{ℕ}
+use Rattle.std.specs.Prelude.{Ok}
 use Rattle.lists.specs.Count.{count_from, sum, agree}
 use Rattle.lists.specs.Every.{every, same}
 use Rattle.lists.specs.First.{first_from}
@@ -19,7 +20,6 @@ use Rattle.repeats.specs.Check.{any_that, alike, repeated, first_repeat}
 use Rattle.cover_trails.specs.Groups.{least}
 use Rattle.runs.specs.Runs.{later_runs, runs, inner_runs}
 use Rattle.summary_counts.specs.Counts.{is_in, fresh, distinct, largest, bits_from, bits_for, bits_of}
-use Rattle.summary_text.specs.declared.Summary.TheVariants.{Counted}
 use Rattle.summary_text.specs.Text.{entry, line, lines, counted_text, text_for}
 use Rattle.summary.specs.Summary.{numbers_of, checked_of, long_verdict, lines_verdict, summary_of}
 use Rattle.summary.specs.Report.{text_of}
@@ -35,7 +35,7 @@ sheet =
 
 -- its numbers
 pub sheet_summary : summary_of sheet
-    ≡ Counted (record { strings = 4; kmers = 10; total = 43; inner = 8; given = 7; paths = 1; least = 5; distinct = 4; bits = 12 })
+    ≡ Ok (record { strings = 4; kmers = 10; total = 43; inner = 8; given = 7; paths = 1; least = 5; distinct = 4; bits = 12 })
 unfolding summary_of long_verdict lines_verdict sheet_verdict size_verdict k_verdict and_then settle at_place up_to later is_k_line is_number value_from
     every is_weight_field
     is_string is_string_line strings_of first_wrong letter is_letter letters_in ends_in weights_in checked_of first_repeat first_from repeated any_that alike

@@ -7,9 +7,8 @@ ghost use Rattle.summary_counts.specs.Inner.{Weighed};
 ghost use Rattle.summary.specs.Summary.{checked_of};
 ghost use Rattle.summary.specs.Inner.{numbers_from};
 
-use cover::CoverAnswer;
-use repeats::CheckAnswer;
-use summary_text::{Numbers, Summary};
+use collection::Refusal;
+use summary_text::Numbers;
 
 // The numbers of a collection, of which the least number of paths is known.
 fn count_all(k: usize, ends: &[u32], weights: &[u32], paths: usize, work: &mut [u32]) -> Numbers
@@ -41,24 +40,12 @@ pub fn tell_collection(
     weights: &[u32],
     places: &mut [i32],
     work: &mut [u32],
-) -> Summary
+) -> Result<Numbers, Refusal>
     requires passes { Passes (collection k letters.now ends.now weights.now) }
     requires ends_in_bounds { (length ends.now ≤ length places.old) × (16 * length ends.now ≤ length work.old) × (4 * length weights.now ≤ length work.old) }
     ensures { result ≡ checked_of (collection k letters.now ends.now weights.now) }
 {
-    let a = repeats::check(k, letters, ends, weights, work);
-    if let CheckAnswer::Refused { number, place } = a {
-        return Summary::Refused { number, place };
-    }
-    let b = cover::cover(k, letters, ends, weights, places, work);
-    match b {
-        CoverAnswer::Covered {
-            places: filled,
-            paths,
-        } => {
-            let numbers = count_all(k, ends, weights, paths, work);
-            Summary::Counted { numbers }
-        }
-        CoverAnswer::Refused { number, place } => Summary::Refused { number, place },
-    }
+    repeats::check(k, letters, ends, weights, work)?;
+    let covered = cover::cover(k, letters, ends, weights, places, work)?;
+    Ok(count_all(k, ends, weights, covered.paths, work))
 }

@@ -8,11 +8,11 @@ ghost use Rattle.std.specs.Prelude.{◌≡◌, ◌≤◌, length};
 ghost use Rattle.summary_text.specs.Written.{outcome};
 ghost use Rattle.summary.specs.Report.{text_of, report_of};
 
-use summary_text::ReportAnswer;
+use collection::Refusal;
 
-// Writes what there is to say of a sheet. The tables that READ, CHECK and COVER need stand on the stack; a sheet of at most
+// Writes what there is to say of a sheet; answers how many bytes it wrote. The tables that READ, CHECK and COVER need stand on the stack; a sheet of at most
 // 8,192 bytes fits them. 247 bytes are room for every report.
-pub fn report(sheet: &[u8], text: &mut [u8]) -> ReportAnswer
+pub fn report(sheet: &[u8], text: &mut [u8]) -> Result<usize, Refusal>
     ensures text_after { outcome result text.new ≡ report_of sheet.now text.old }
     ensures sheet_len_bound { length (text_of sheet.now) ≤ 247 }
 {

@@ -4,8 +4,8 @@ ghost use Rattle.summary.specs.Summary.{summary_of};
 ghost use Rattle.summary.specs.Inner.{Ample};
 
 use crate::inner;
-use sheet::ReadAnswer;
-use summary_text::Summary;
+use collection::Refusal;
+use summary_text::Numbers;
 
 // A sheet: its length, READ, then the collection.
 pub(crate) fn tell(
@@ -15,24 +15,20 @@ pub(crate) fn tell(
     weights: &mut [u32],
     places: &mut [i32],
     work: &mut [u32],
-) -> Summary
+) -> Result<Numbers, Refusal>
     requires { Ample (length letters.old) (length ends.old) (length weights.old) (length places.old) (length work.old) }
     ensures { result ≡ summary_of sheet.now }
 {
     if 8192 < sheet.len() {
-        return Summary::Refused {
-            number: 3,
-            place: 0,
-        };
+        return Err(Refusal::Limits);
     }
-    let a = sheet_read::read(sheet, letters, ends, weights);
-    match a {
-        ReadAnswer::Filled {
-            k,
-            letters: n,
-            ends: m,
-            weights: w,
-        } => inner::tell_collection(k, &letters[..n], &ends[..m], &weights[..w], places, work),
-        ReadAnswer::Refused { number, place } => Summary::Refused { number, place },
-    }
+    let filled = sheet_read::read(sheet, letters, ends, weights)?;
+    inner::tell_collection(
+        filled.k,
+        &letters[..filled.letters],
+        &ends[..filled.ends],
+        &weights[..filled.weights],
+        places,
+        work,
+    )
 }

@@ -2,7 +2,6 @@
 ghost use Rattle.std.specs.Prelude.{map, ◌≡◌, ◌*◌, ◌≤◌, ◌<◌, length};
 ghost use Rattle.lists.specs.Count.{sum};
 ghost use Rattle.lists.specs.Every.{All};
-ghost use Rattle.lists.specs.Fill.{fill};
 ghost use Rattle.lists.specs.Limits.{most_letters};
 ghost use Rattle.collection.specs.Ready.{Strung};
 ghost use Rattle.runs.specs.Runs.{run_count};
@@ -10,25 +9,12 @@ ghost use Rattle.sorting.specs.Keys.{key_at};
 ghost use Rattle.summary_counts.specs.Counts.{distinct as distinct_in, largest as largest_of, bits_for, bits_of};
 ghost use Rattle.summary_counts.specs.Inner.{inner_from, Weighed};
 
-// A number of 32 bits as one of 64.
-fn wide(x: u32) -> usize
-    ensures { result ≡ x }
-{
-    x as usize
-}
-
 // The sum of all weights, which may pass 32 bits.
 pub fn total(weights: &[u32]) -> usize
     requires { Weighed weights.now }
     ensures { result ≡ sum weights.now }
 {
-    let mut t: usize = 0;
-    let mut i = 0;
-    while i < weights.len() {
-        t += wide(weights[i]);
-        i += 1;
-    }
-    t
+    weights.iter().map(|w| *w as usize).sum()
 }
 
 // The runs inside each string, together (R).
@@ -39,14 +25,12 @@ pub fn inner_runs(k: usize, ends: &[u32], weights: &[u32]) -> usize
     let mut before: usize = 0;
     let mut passed: usize = 0;
     let mut r: usize = 0;
-    let mut i = 0;
-    while i < ends.len() {
-        let e = wide(ends[i]);
+    for end in ends {
+        let e = *end as usize;
         let to = passed + (e + 1 - (before + k));
         r += runs::inner::count_runs(&weights[passed..to]);
         before = e;
         passed = to;
-        i += 1;
     }
     r
 }
@@ -55,23 +39,14 @@ pub fn inner_runs(k: usize, ends: &[u32], weights: &[u32]) -> usize
 fn largest(weights: &[u32]) -> u32
     ensures { result ≡ largest_of weights.now }
 {
-    let mut w: u32 = 0;
-    let mut i = 0;
-    while i < weights.len() {
-        let v = weights[i];
-        i += 1;
-        if w < v {
-            w = v;
-        }
-    }
-    w
+    weights.iter().copied().max().unwrap_or(0)
 }
 
 // The base-2 logarithm of a weight, rounded up.
 fn bits_for(w: u32) -> usize
     ensures { result ≡ bits_for w }
 {
-    let most = wide(w);
+    let most = w as usize;
     let mut b: usize = 0;
     let mut p: usize = 1;
     while p < most {
@@ -81,28 +56,13 @@ fn bits_for(w: u32) -> usize
     b
 }
 
-// Copies the weights into the first entries of a table.
-fn copy_weights(weights: &[u32], work: &mut [u32])
-    requires { length weights.now ≤ length work.old }
-    ensures { work.new ≡ fill weights.now work.old }
-{
-    let mut i = 0;
-    while i < weights.len() {
-        work[i] = weights[i];
-        i += 1;
-    }
-}
-
 // Replaces each id by its weight.
 fn weigh_ids(weights: &[u32], ids: &mut [u32])
     requires { All (λ x. x < length weights.now) ids.old }
     ensures { ids.new ≡ map (key_at weights.now) ids.old }
 {
-    let mut i = 0;
-    while i < ids.len() {
-        let x = wide(ids[i]);
-        ids[i] = weights[x];
-        i += 1;
+    for id in ids.iter_mut() {
+        *id = weights[*id as usize];
     }
 }
 
@@ -123,7 +83,7 @@ pub fn distinct(weights: &[u32], work: &mut [u32]) -> usize
 {
     let n = weights.len();
     let e = n + n;
-    copy_weights(weights, work);
+    work[..n].copy_from_slice(weights);
     sorting::inner::number_ids(&mut work[n..e]);
     sorting::inner::sort_by_weight(work, 0, n, e, n);
     runs_by(weights, &mut work[n..e])

@@ -1,11 +1,11 @@
 -- The lines that `tally` writes: one of a refusal, or nine of numbers.
 -- Specification: 10.2.
-use Rattle.std.specs.Prelude.{List, [], ◌∷◌, ◌++◌, ℕ}
+use Rattle.collection.specs.Verdict.{number_of, place_of}
+use Rattle.collection.specs.declared.refusal.Refusal.{Refusal}
+use Rattle.std.specs.Prelude.{List, [], ◌∷◌, ◌++◌, ℕ, Ok, Err, Result}
 use Rattle.text.specs.Numbers.{digits}
 use Rattle.text.specs.Parts.{tab, feed}
 use Rattle.summary_text.specs.declared.Numbers.{Numbers}
-use Rattle.summary_text.specs.declared.Summary.{Summary}
-use Rattle.summary_text.specs.declared.Summary.TheVariants.{Counted, Refused}
 
 -- a label, a tab, and a number in decimal
 unfoldable pub entry : List ℕ → ℕ → List ℕ
@@ -85,6 +85,6 @@ unfoldable pub refused_text : ℕ → ℕ → List ℕ
 refused_text number place = entry refused_label number ++ line [] place
 
 -- what is written of a summary
-unfoldable pub text_for : Summary → List ℕ
-text_for (Counted numbers) = counted_text numbers
-text_for (Refused number place) = refused_text number place
+unfoldable pub text_for : Result Numbers Refusal → List ℕ
+text_for (Ok numbers) = counted_text numbers
+text_for (Err r) = refused_text (number_of r) (place_of r)

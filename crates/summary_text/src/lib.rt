@@ -9,10 +9,10 @@ ghost use Rattle.text.specs.Numbers.{digits};
 ghost use Rattle.summary_text.specs.Text.{counted_text, refused_text, text_for};
 ghost use Rattle.summary_text.specs.Written.{outcome, written_of};
 
-use collection::Verdict;
+use collection::Refusal;
 
 // The nine numbers of a collection.
-#[derive(Clone, Copy)]
+#[derive(Clone, Copy, Debug, PartialEq, Eq)]
 pub struct Numbers {
     pub strings: usize,
     pub kmers: usize,
@@ -23,20 +23,6 @@ pub struct Numbers {
     pub least: usize,
     pub distinct: usize,
     pub bits: usize,
-}
-
-// What there is to say of a sheet: the numbers of its collection, or why it is refused.
-#[derive(Clone, Copy)]
-pub enum Summary {
-    Counted { numbers: Numbers },
-    Refused { number: u32, place: usize },
-}
-
-// What a report answers: how many bytes it wrote; or a refusal, where the table is too short.
-#[derive(Clone, Copy)]
-pub enum ReportAnswer {
-    Written { bytes: usize },
-    Refused { number: u32, place: usize },
 }
 
 // How long three numbers are, with a tab and a line feed each.
@@ -70,19 +56,15 @@ fn put_counted(n: Numbers, text: &mut [u8]) -> usize
 }
 
 // Writes the nine lines, where they have room. The nine labels have 49 letters.
-fn write_counted(n: Numbers, text: &mut [u8]) -> ReportAnswer
+fn write_counted(n: Numbers, text: &mut [u8]) -> Result<usize, Refusal>
     ensures text_after { outcome result text.new ≡ written_of (counted_text n) text.old }
     ensures n_len_bound { length (counted_text n) ≤ 247 }
 {
     let a = numbers_length(n.strings, n.kmers, n.total);
     let b = numbers_length(n.inner, n.given, n.paths);
     let c = numbers_length(n.least, n.distinct, n.bits);
-    let v = collection::judge_room(text.len(), 49 + a + b + c);
-    if let Verdict::Bad { number, place } = v {
-        return ReportAnswer::Refused { number, place };
-    }
-    let bytes = put_counted(n, text);
-    ReportAnswer::Written { bytes }
+    collection::judge_room(text.len(), 49 + a + b + c)?;
+    Ok(put_counted(n, text))
 }
 
 // The line of a refusal; answers where it ends.
@@ -95,41 +77,25 @@ fn put_refused(number: usize, place: usize, text: &mut [u8]) -> usize
 }
 
 // Writes the line of a refusal, where it has room. The label, two tabs and the line feed are ten bytes.
-fn write_refused(number: usize, place: usize, text: &mut [u8]) -> ReportAnswer
+fn write_refused(number: usize, place: usize, text: &mut [u8]) -> Result<usize, Refusal>
     ensures text_after { outcome result text.new ≡ written_of (refused_text number place) text.old }
     ensures place_len_bound { length (refused_text number place) ≤ 247 }
 {
     let a = text::inner::digit_count(number);
     let b = text::inner::digit_count(place);
-    let v = collection::judge_room(text.len(), 10 + a + b);
-    if let Verdict::Bad {
-        number: n,
-        place: p,
-    } = v
-    {
-        return ReportAnswer::Refused {
-            number: n,
-            place: p,
-        };
-    }
-    let n = put_refused(number, place, text);
-    ReportAnswer::Written { bytes: n }
+    collection::judge_room(text.len(), 10 + a + b)?;
+    Ok(put_refused(number, place, text))
 }
 
-// The number of a refusal, as wide as its place.
-fn wide(x: u32) -> usize
-    ensures { result ≡ x }
-{
-    x as usize
-}
-
-// Writes a summary, where it has room (else 1). 247 bytes are room for every summary.
-pub fn write_summary(summary: Summary, text: &mut [u8]) -> ReportAnswer
+// Writes what there is to say of a sheet, the numbers of its collection or why it is refused, where it has room (else 1); answers how many bytes it wrote. 247
+// bytes are room for every summary.
+#[tactic(auto, unfolding(crate::specs::Text::text_for))]
+pub fn write_summary(summary: Result<Numbers, Refusal>, text: &mut [u8]) -> Result<usize, Refusal>
     ensures text_after { outcome result text.new ≡ written_of (text_for summary) text.old }
     ensures summary_len_bound { length (text_for summary) ≤ 247 }
 {
     match summary {
-        Summary::Counted { numbers } => write_counted(numbers, text),
-        Summary::Refused { number, place } => write_refused(wide(number), place, text),
+        Ok(numbers) => write_counted(numbers, text),
+        Err(refusal) => write_refused(refusal.number() as usize, refusal.place(), text),
     }
 }

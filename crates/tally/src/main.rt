@@ -3,14 +3,12 @@
 
 use std::io;
 use std::io::Write;
-use summary_text::ReportAnswer;
 
 // Writes the report of a sheet. It takes at most 247 bytes, so that it always has room (`report_enough` of `summary`): the early way
 // out is never taken.
 fn tell(rt: &impl Print, sheet: &[u8]) -> io::Result<()> {
     let mut text = [0u8; 256];
-    let answer = summary::report(sheet, &mut text);
-    let ReportAnswer::Written { bytes } = answer else {
+    let Ok(bytes) = summary::report(sheet, &mut text) else {
         return Ok(());
     };
     io::writer(rt).write_all(&text[..bytes])

@@ -1,7 +1,9 @@
 -- Reading a number: the walk that the code makes, digit by digit, finds what the field says. Assumes nothing.
 use mathlib.Core.Path.{◌≡◌, refl, sym, ap, ◌∙◌}
 use mathlib.Core.Bool.{Bool, true, false, ◌&&◌, and-false}
+use mathlib.Core.Logic.{◌⊎◌, inl, inr}
 use mathlib.Core.List.{List, [], ◌∷◌}
+use Rattle.std.specs.Prelude.{Option, None, Some}
 use Prim.Native.Nat.{ℕ, suc, ◌+◌, ◌-◌, ◌*◌, ◌<◌, ◌≤◌}
 use native.Mathlib.Nat.{add-zero}
 use native.Mathlib.Omega.{arith}
@@ -11,12 +13,12 @@ use lib.Dec.{leb, eqb}
 use lib.ListN.{length, drop, get_or, drop_of_length-le}
 use Rattle.lists.specs.Choose.{choose}
 use Rattle.lists.specs.Every.{every}
+use Rattle.lists.proofs.Compare.{lt_or_le}
 use Rattle.lists.proofs.Every.{and_both}
 use Rattle.text.specs.Numbers.{is_digit, is_number, value_from}
 use Rattle.text.specs.Parts.{up_to, feed}
-use Rattle.text.specs.Fields.{is_end, field, in_range, ended_at, number_end, number_of}
+use Rattle.text.specs.Fields.{is_end, field, in_range, number, ended_at, number_end, number_of}
 use Rattle.text.specs.declared.Number.{Number}
-use Rattle.text.specs.declared.Number.TheVariants.{Good, Wrong}
 use Rattle.lists.proofs.Refuted.{never}
 use Rattle.text.proofs.Tests.{both, digit_range}
 use Rattle.text.proofs.Parts.{up_next, up_stop}
@@ -52,19 +54,19 @@ module _ (most : ℕ) where
   -- ─── the walk ──────────────────────────────────────────────────────────────
 
   -- the number of a field, digit by digit: v is the value of the digits before i
-  unfoldable pub number_from : ℕ → ℕ → List ℕ → Number
+  unfoldable pub number_from : ℕ → ℕ → List ℕ → Option Number
   number_from v i [] = ended_at most v i
-  number_from v i (b ∷ f) = choose (is_digit b) (choose (in_range most (v * 10 + (b - 48))) (number_from (v * 10 + (b - 48)) (i + 1) f) Wrong) Wrong
+  number_from v i (b ∷ f) = choose (is_digit b) (choose (in_range most (v * 10 + (b - 48))) (number_from (v * 10 + (b - 48)) (i + 1) f) None) None
 
   -- what is left of a field after a value of at least 1
-  abbrev rest_of : ℕ → ℕ → List ℕ → Number
-  rest_of v i f = choose (every is_digit f && in_range most (value_from v f)) (Good (value_from v f) (i + length f)) Wrong
+  abbrev rest_of : ℕ → ℕ → List ℕ → Option Number
+  rest_of v i f = choose (every is_digit f && in_range most (value_from v f)) (Some (number (value_from v f) (i + length f))) None
 
   rest_end : (v i : ℕ) → number_from v i [] ≡ rest_of v i []
   unfolding number_from every value_from
-  rest_end v i = ap (λ (x : ℕ). choose (in_range most v) (Good v x) Wrong) (sym (add-zero i))
+  rest_end v i = ap (λ (x : ℕ). choose (in_range most v) (Some (number v x)) None) (sym (add-zero i))
 
-  rest_heavy : (v i : ℕ) (f : List ℕ) → 1 ≤ v → in_range most v ≡ false → Wrong ≡ rest_of v i f
+  rest_heavy : (v i : ℕ) (f : List ℕ) → 1 ≤ v → in_range most v ≡ false → None ≡ rest_of v i f
   rest_heavy v i f l h =
       let u = value_up v f in
       let b = out_of_range most v l h in
@@ -76,7 +78,7 @@ module _ (most : ℕ) where
       let n : i + 1 + length f ≡ i + suc (length f) = omega arith in
       rw (h, n)
 
-  rest_stop : (v i b : ℕ) (f : List ℕ) → is_digit b ≡ false → Wrong ≡ rest_of v i (b ∷ f)
+  rest_stop : (v i b : ℕ) (f : List ℕ) → is_digit b ≡ false → None ≡ rest_of v i (b ∷ f)
   unfolding every
   rest_stop v i b f h = rw h
 
@@ -85,11 +87,11 @@ module _ (most : ℕ) where
     unfolding number_from
     step_go h g = rw (h, g)
 
-    step_bad : is_digit b ≡ true → in_range most (v * 10 + (b - 48)) ≡ false → number_from v i (b ∷ f) ≡ Wrong
+    step_bad : is_digit b ≡ true → in_range most (v * 10 + (b - 48)) ≡ false → number_from v i (b ∷ f) ≡ None
     unfolding number_from
     step_bad h g = rw (h, g)
 
-    step_stop : is_digit b ≡ false → number_from v i (b ∷ f) ≡ Wrong
+    step_stop : is_digit b ≡ false → number_from v i (b ∷ f) ≡ None
     unfolding number_from
     step_stop h = rw h
 
@@ -113,13 +115,13 @@ module _ (most : ℕ) where
   led_by b (c ∷ f) h z = rw (h, ne_eqb b 48 z)
 
   -- a field that begins with 0 is no number from 1 on
-  zero_led : (i : ℕ) (f : List ℕ) → Wrong ≡ number_of most i (48 ∷ f)
+  zero_led : (i : ℕ) (f : List ℕ) → None ≡ number_of most i (48 ∷ f)
   unfolding number_of is_number value_from
   zero_led i [] = refl
   zero_led i (c ∷ f) = refl
 
   -- nor one that begins with no digit
-  stopped : (i b : ℕ) (f : List ℕ) → is_digit b ≡ false → Wrong ≡ number_of most i (b ∷ f)
+  stopped : (i b : ℕ) (f : List ℕ) → is_digit b ≡ false → None ≡ number_of most i (b ∷ f)
   unfolding number_of is_number
   stopped i b [] h = rw h
   stopped i b (c ∷ f) h = rw h
@@ -198,7 +200,7 @@ module _ (sep : ℕ) where
 
     module _ (most : ℕ) where
       end_walk : (v : ℕ) (t : Bool) → is_end sep (get_or s i 0) ≡ t → is_digit (get_or s i 0) ≡ false
-          → choose t (ended_at most v i) Wrong ≡ number_from most v i (field sep (drop i s))
+          → choose t (ended_at most v i) None ≡ number_from most v i (field sep (drop i s))
       unfolding number_from
       end_walk v true e d = sym (ap (number_from most v i) (field_end e))
       end_walk v false e d =
@@ -219,7 +221,7 @@ module _ (sep : ℕ) where
         -- w is the value with the digit here
         module _ (v w : ℕ) (e : w ≡ v * 10 + (get_or s i 0 - 48)) where
           -- out of range, the walk ends
-          pub walk_bad : in_range most w ≡ false → number_from most v i (field sep (drop i s)) ≡ Wrong
+          pub walk_bad : in_range most w ≡ false → number_from most v i (field sep (drop i s)) ≡ None
           walk_bad g = ap (number_from most v i) digit_field ∙ step_bad most v i (get_or s i 0) (field sep (drop (i + 1) s)) d (ap (in_range most) (sym e) ∙ g)
 
           -- else it goes on
@@ -229,7 +231,14 @@ module _ (sep : ℕ) where
               ∙ (step_go most v i (get_or s i 0) (field sep (drop (i + 1) s)) d (ap (in_range most) (sym e) ∙ g)
               ∙ ap (λ (x : ℕ). number_from most x (i + 1) (field sep (drop (i + 1) s))) (sym e))
 
-  -- at the end of the text
-  pub walk_none : (s : List ℕ) (most v i : ℕ) → length s ≤ i → number_from most v i (field sep (drop i s)) ≡ ended_at most v i
+  -- at the end of the text, or beyond it with no digit read
+  pub walk_none : (s : List ℕ) (most v i : ℕ) → length s ≤ i → (length s < i → v ≡ 0)
+      → number_from most v i (field sep (drop i s)) ≡ ended_at most v (length s)
   unfolding number_from
-  walk_none s most v i h = ap (number_from most v i) (field-none s i h)
+  walk_none s most v i h z = ap (number_from most v i) (field-none s i h) ∙ go (lt_or_le (length s) i)
+    where
+      go : (length s < i) ⊎ (i ≤ length s) → ended_at most v i ≡ ended_at most v (length s)
+      go (inl l) = rw (z l)
+      go (inr l) =
+          let e : i ≡ length s = omega arith in
+          ap (ended_at most v) e

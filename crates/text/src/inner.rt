@@ -54,13 +54,8 @@ pub fn copy_bytes(s: &[u8], at: usize, e: usize, out: &mut [u8], o: usize)
     requires { (at ≤ e) × (e ≤ length s.now) × (o + (e - at) ≤ length out.old) }
     ensures { out.new ≡ put o (take (e - at) (drop at s.now)) out.old }
 {
-    let mut i = at;
-    let mut p = o;
-    while i < e {
-        out[p] = s[i];
-        p += 1;
-        i += 1;
-    }
+    let part = &mut out[o..o + (e - at)];
+    part.copy_from_slice(&s[at..e]);
 }
 
 // Whether a byte is a digit.
@@ -88,23 +83,23 @@ fn in_range(v: u32, most: u32) -> bool
 }
 
 // The number of the value v that ends at a place.
-fn ended(v: u32, i: usize, most: u32) -> Number
+fn ended(v: u32, i: usize, most: u32) -> Option<Number>
     ensures { result ≡ ended_at most v i }
 {
     if in_range(v, most) {
-        return Number::Good { value: v, next: i };
+        return Some(Number { value: v, next: i });
     }
-    Number::Wrong
+    None
 }
 
 // The same where the byte behind the number, which is no digit, is b.
-fn number_end(b: u8, sep: u8, v: u32, i: usize, most: u32) -> Number
+fn number_end(b: u8, sep: u8, v: u32, i: usize, most: u32) -> Option<Number>
     ensures { result ≡ number_end sep most b v i }
 {
     if is_end(b, sep) {
         return ended(v, i, most);
     }
-    Number::Wrong
+    None
 }
 
 // A number with one digit more.
@@ -117,22 +112,20 @@ fn with_digit(v: u32, b: u8) -> u32
 
 // The number from 1 to `most` at a place of a text, up to a separator. One that leaves the range is given up at once, so it cannot wrap; a leading zero leaves
 // it at the first digit.
-pub fn number_at(s: &[u8], at: usize, sep: u8, most: u32) -> Number
+pub fn number_at(s: &[u8], at: usize, sep: u8, most: u32) -> Option<Number>
     requires { (is_digit sep ≡ false) × (9 ≤ most) × (most ≤ 429496728) }
     ensures { result ≡ number_at sep most s.now at }
 {
     let mut v: u32 = 0;
-    let mut i = at;
-    while i < s.len() {
+    for i in at..s.len() {
         let b = s[i];
         if !is_digit(b) {
             return number_end(b, sep, v, i, most);
         }
         v = with_digit(v, b);
-        i += 1;
         if !in_range(v, most) {
-            return Number::Wrong;
+            return None;
         }
     }
-    ended(v, i, most)
+    ended(v, s.len(), most)
 }

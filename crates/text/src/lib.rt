@@ -7,18 +7,15 @@ ghost use Rattle.std.specs.Prelude.{◌≡◌};
 ghost use Rattle.text.specs.Fields.{byte_is};
 
 // A number at a place of a text: its value, and where its field ends.
-#[derive(Clone, Copy)]
-pub enum Number {
-    Good { value: u32, next: usize },
-    Wrong,
+#[derive(Clone, Copy, Debug, PartialEq, Eq)]
+pub struct Number {
+    pub value: u32,
+    pub next: usize,
 }
 
 // Whether a byte stands at a place.
 pub fn byte_is(s: &[u8], i: usize, b: u8) -> bool
     ensures { result ≡ byte_is s.now i b }
 {
-    if i < s.len() {
-        return s[i] == b;
-    }
-    false
+    s.get(i) == Some(&b)
 }

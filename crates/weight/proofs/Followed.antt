@@ -2,12 +2,12 @@
 use mathlib.Core.Path.{◌≡◌, refl, sym, ap, ap₂, ◌∙◌}
 use mathlib.Core.Bool.{Bool, false, ◌&&◌}
 use mathlib.Core.List.{List, [], ◌∷◌}
-use Prim.Native.Nat.{ℕ, suc, ◌+◌, ◌<◌, ◌≤◌}
+use Prim.Native.Nat.{ℕ, suc, ◌-◌}
 use native.Mathlib.Omega.{arith}
 use lib.Dec.{eqb}
-use lib.ListN.{length, drop, get_or, drop_of_length-le}
+use lib.ListN.{length, take, drop, get_or}
+use lib.Seq.{take_all}
 use Rattle.lists.proofs.Every.{and_assoc, and_true, and_no}
-use Rattle.lists.proofs.Storing.{drop_next}
 use Rattle.weight.specs.RunList.{begins, follows, all_follow, is_run_list}
 
 module _ (n : ℕ) where
@@ -33,27 +33,40 @@ module _ (n : ℕ) where
   list_none [] (f ∷ fs) e h = absurd (omega arith)
   list_none (w ∷ ws) fs e h = absurd (omega arith)
 
-  -- the first run, and whether the others follow
-  pub list_first : (ws fs : List ℕ) → length ws ≡ length fs → (length ws ≡ 0 → ⊥) → (t : Bool) → t ≡ begins n (get_or ws 0 0) (get_or fs 0 0)
-      → is_run_list n ws fs ≡ (t && all_follow n (get_or ws 0 0) (get_or fs 0 0) (drop 1 ws) (drop 1 fs))
-  unfolding is_run_list
-  list_first [] fs e h t b = absurd (h refl)
-  list_first (w ∷ ws) [] e h t b = absurd (omega arith)
-  list_first (w ∷ ws) (f ∷ fs) e h t b = ap (λ (x : Bool). x && all_follow n w f ws fs) (sym b)
+-- A loop tests one run after the other: `good` is the test of those before, the last of them (w, f), and `all` that of the whole list. ws and fs are left.
+pub record Judging (n : ℕ) (all good : Bool) (w f : ℕ) (ws fs : List ℕ) : Type 0 where
+  pub even : length ws ≡ length fs
+  pub whole : all ≡ (good && all_follow n w f ws fs)
 
-  module _ (ws fs : List ℕ) (w f i : ℕ) (good all : Bool) where
-    pub follow_next : i < length ws → i < length fs → (t : Bool) → t ≡ follows n w f (get_or ws i 0) (get_or fs i 0)
-        → all ≡ (good && all_follow n w f (drop i ws) (drop i fs))
-        → all ≡ ((good && t) && all_follow n (get_or ws i 0) (get_or fs i 0) (drop (i + 1) ws) (drop (i + 1) fs))
-    unfolding all_follow
-    follow_next l m t e q =
-        q
-        ∙ (ap₂ (λ (xs ys : List ℕ). good && all_follow n w f xs ys) (drop_next ws i 0 l) (drop_next fs i 0 m)
-        ∙ (and_assoc good (follows n w f (get_or ws i 0) (get_or fs i 0)) (all_follow n (get_or ws i 0) (get_or fs i 0) (drop (i + 1) ws) (drop (i + 1) fs))
-        ∙ ap (λ (b : Bool). (good && b) && all_follow n (get_or ws i 0) (get_or fs i 0) (drop (i + 1) ws) (drop (i + 1) fs)) (sym e)))
+-- the first run is tested
+pub judge_first : (n : ℕ) (ws fs vs gs : List ℕ) → length ws ≡ length fs → (length ws ≡ 0 → ⊥) → (t : Bool) → t ≡ begins n (get_or ws 0 0) (get_or fs 0 0)
+    → vs ≡ take (length ws - 1) (drop 1 ws) → gs ≡ take (length fs - 1) (drop 1 fs)
+    → Judging n (is_run_list n ws fs) t (get_or ws 0 0) (get_or fs 0 0) vs gs
+unfolding is_run_list
+judge_first n [] fs vs gs e h t b p q = absurd (h refl)
+judge_first n (w ∷ ws) [] vs gs e h t b p q = absurd (omega arith)
+judge_first n (w ∷ ws) (f ∷ fs) vs gs e h t b p q =
+    let v : vs ≡ ws = p ∙ take_all (suc (length ws) - 1) ws (omega arith) in
+    let g : gs ≡ fs = q ∙ take_all (suc (length fs) - 1) fs (omega arith) in
+    record {
+      even = ap length v ∙ (omega (arith, ap length g));
+      whole = ap (λ (x : Bool). x && all_follow n w f ws fs) (sym b) ∙ ap₂ (λ (xs ys : List ℕ). t && all_follow n w f xs ys) (sym v) (sym g);
+    }
 
-    -- no run is left
-    pub follow_end : length ws ≤ i → length fs ≤ i → all ≡ (good && all_follow n w f (drop i ws) (drop i fs)) → good ≡ all
-    unfolding all_follow
-    follow_end l m q =
-        sym (q ∙ (ap₂ (λ (xs ys : List ℕ). good && all_follow n w f xs ys) (drop_of_length-le ws l) (drop_of_length-le fs m) ∙ and_true good))
+module _ {n : ℕ} {all good : Bool} {w f : ℕ} {ws fs : List ℕ} (s : Judging n all good w f ws fs) where
+  -- the next run is
+  pub judge_next : {v g : ℕ} {vs gs : List ℕ} → ws ≡ v ∷ vs → fs ≡ g ∷ gs → {t : Bool} → t ≡ follows n w f v g → Judging n all (good && t) v g vs gs
+  unfolding all_follow
+  judge_next {v} {g} {vs} {gs} p q e =
+      record {
+        even = omega (arith, s.even, ap length p, ap length q);
+        whole =
+            s.whole
+            ∙ (ap₂ (λ (xs ys : List ℕ). good && all_follow n w f xs ys) p q
+            ∙ (and_assoc good (follows n w f v g) (all_follow n v g vs gs) ∙ ap (λ (b : Bool). (good && b) && all_follow n v g vs gs) (sym e)));
+      }
+
+  -- no run is left
+  pub judge_end : ws ≡ [] → fs ≡ [] → good ≡ all
+  unfolding all_follow
+  judge_end p q = sym (s.whole ∙ (ap₂ (λ (xs ys : List ℕ). good && all_follow n w f xs ys) p q ∙ and_true good))

@@ -7,18 +7,18 @@ use native.Mathlib.Decide.{ℕ_discrete}
 use native.Mathlib.Omega.{arith}
 use borrow.Author.Tests.{le-leb, lt-ltb, ne_eqb}
 use lib.ListN.{length, get_or}
+use Rattle.std.specs.Prelude.{Ok, Err}
+use Rattle.collection.specs.Verdict.{good}
 use Rattle.lists.specs.Choose.{choose}
 use Rattle.lists.specs.Every.{All}
 use Rattle.lists.specs.Limits.{most_letters}
 use Rattle.lists.proofs.Every.{and_both}
 use Rattle.collection.specs.Collection.{Collection}
-use Rattle.collection.specs.declared.Verdict.TheVariants.{Good}
 use Rattle.collection_faults.specs.Faults.{is_weight}
 use Rattle.collection.specs.Judge.{handle_verdict, Passes}
 use Rattle.collection.specs.Kmers.{weight_of}
 use Rattle.collection.proofs.Judged.{collection_good}
 use Rattle.collection.proofs.Verdicts.{then_good, settled}
-use Rattle.weight.specs.declared.WeightAnswer.TheVariants.{Found, Refused}
 use Rattle.weight.specs.Weight.{weight_answer}
 use Rattle.runs.proofs.Later.{later-nil, later_equal, later-other, later-above}
 use Rattle.runs.specs.Runs.{Run, later_runs, runs, weights_of_runs, firsts_of_runs}
@@ -96,22 +96,22 @@ runs_weight (w ∷ ws) handle l m =
     ap (λ (b : Bool). last_at handle (choose b w 0) (map (λ r. r.0) (later_runs 1 w ws)) (map (λ r. r.1) (later_runs 1 w ws))) (le-leb 1 handle l)
     ∙ later_weight 1 w ws handle l (omega arith)
 
-list_verdict_lem : (n : ℕ) (weights firsts : List ℕ) → n ≤ most_letters → is_run_list n weights firsts ≡ true → run_list_verdict n weights firsts ≡ Good
+list_verdict_lem : (n : ℕ) (weights firsts : List ℕ) → n ≤ most_letters → is_run_list n weights firsts ≡ true → run_list_verdict n weights firsts ≡ good
 unfolding run_list_verdict
 list_verdict_lem n weights firsts l e = rw (le-leb n most_letters l, e)
 
-handle_verdict_lem : (n handle : ℕ) → 1 ≤ handle → handle ≤ n → handle_verdict n handle ≡ Good
+handle_verdict_lem : (n handle : ℕ) → 1 ≤ handle → handle ≤ n → handle_verdict n handle ≡ good
 unfolding handle_verdict
 handle_verdict_lem n handle l m = rw (le-leb 1 handle l, le-leb handle n m)
 
 -- RUNS, then WEIGHT of any handle 1 to n, is that k-mer's weight
 pub runs_then_weight : (c : Collection) → Passes c → (handle : ℕ) → 1 ≤ handle → handle ≤ length c.weights
-    → weight_answer (weights_of_runs c.weights) (firsts_of_runs c.weights) (length c.weights) handle ≡ Found (weight_of c.weights handle)
+    → weight_answer (weights_of_runs c.weights) (firsts_of_runs c.weights) (length c.weights) handle ≡ Ok (weight_of c.weights handle)
 unfolding weight_answer
 runs_then_weight c p handle l m =
     let j = collection_good c p in
     sym
-    (settled Refused (ap Found (sym (runs_weight c.weights handle l m)))
+    (settled Err (ap Ok (sym (runs_weight c.weights handle l m)))
     (then_good _ (list_verdict_lem (length c.weights) (weights_of_runs c.weights) (firsts_of_runs c.weights) (omega (arith, j.counted, j.shape.letters_high))
     (runs_listed c.weights j.all_weights))
     (handle_verdict_lem (length c.weights) handle l m)))

@@ -9,6 +9,8 @@ use native.Mathlib.Omega.{arith}
 use borrow.Author.Tests.{leb-true, ltb-true, eqb-true, le-leb, lt-leb}
 use lib.Dec.{leb, ltb, eqb}
 use lib.ListN.{length, get_or}
+use Rattle.collection.specs.Verdict.{good}
+use Rattle.collection.specs.declared.refusal.Refusal.TheVariants.{RunList}
 use Rattle.lists.specs.Choose.{choose}
 use Rattle.lists.specs.Every.{All}
 use Rattle.lists.specs.Pairs.{Pairs}
@@ -16,7 +18,6 @@ use Rattle.lists.specs.Limits.{most_letters}
 use Rattle.lists.proofs.Every.{and_left, and_right, all_map, at_all}
 use Rattle.lists.proofs.Pairs.{pairs_at}
 use Rattle.lists.proofs.Refuted.{never}
-use Rattle.collection.specs.declared.Verdict.TheVariants.{Good}
 use Rattle.collection_faults.specs.Faults.{is_weight}
 use Rattle.collection.proofs.Verdicts.{test_good}
 use Rattle.weight.specs.RunList.{follows, all_follow, is_run_list, run_list_verdict, last_at, weight_at, Listed}
@@ -82,11 +83,11 @@ list_good n (w ∷ weights) (f ∷ firsts) e =
     }
 
 -- what passes 12
-pub list_verdict_good : (n : ℕ) (weights firsts : List ℕ) → run_list_verdict n weights firsts ≡ Good → (n ≤ most_letters)
+pub list_verdict_good : (n : ℕ) (weights firsts : List ℕ) → run_list_verdict n weights firsts ≡ good → (n ≤ most_letters)
     × (is_run_list n weights firsts ≡ true)
 unfolding run_list_verdict
 list_verdict_good n weights firsts h =
-    let t = (test_good (leb n most_letters && is_run_list n weights firsts) 12 0 Good h).0 in
+    let t = (test_good (leb n most_letters && is_run_list n weights firsts) RunList good h).0 in
     (leb-true n most_letters (and_left (leb n most_letters) (is_run_list n weights firsts) t), and_right (leb n most_letters) (is_run_list n weights firsts) t)
 
 -- ─── the last run at or before a handle ──────────────────────────────────────

@@ -1,10 +1,10 @@
 -- Run lists as a caller lends them: when one is bad (12), and the weight that it gives a handle.
 -- Specification: 4.3, 9.12.
-use Rattle.std.specs.Prelude.{Bool, true, false, not, ◌&&◌, List, [], ◌∷◌, ◌≡◌, ℕ, ◌≤◌, leb, ltb, eqb}
+use Rattle.collection.specs.Verdict.{Verdict, good}
+use Rattle.collection.specs.declared.refusal.Refusal.TheVariants.{RunList}
+use Rattle.std.specs.Prelude.{Bool, true, false, not, ◌&&◌, List, [], ◌∷◌, ◌≡◌, ℕ, ◌≤◌, leb, ltb, eqb, Err}
 use Rattle.lists.specs.Choose.{choose}
 use Rattle.lists.specs.Limits.{most_letters}
-use Rattle.collection.specs.declared.Verdict.{Verdict}
-use Rattle.collection.specs.declared.Verdict.TheVariants.{Good, Bad}
 use Rattle.collection_faults.specs.Faults.{is_weight}
 
 -- a run (w, f) may be the first: its weight is in range, it starts at 1, and 1 is at most n
@@ -33,7 +33,7 @@ is_run_list n (w ∷ weights) (f ∷ firsts) = begins n w f && all_follow n w f 
 -- 12: a bad run list, or n above 1,048,576
 unfoldable pub run_list_verdict : ℕ → List ℕ → List ℕ → Verdict
 unfolding is_run_list
-run_list_verdict n weights firsts = choose (leb n most_letters && is_run_list n weights firsts) Good (Bad 12 0)
+run_list_verdict n weights firsts = choose (leb n most_letters && is_run_list n weights firsts) good (Err RunList)
 
 -- the weight of the last run that starts at or before the handle; `so_far` where none does
 unfoldable pub last_at : ℕ → ℕ → List ℕ → List ℕ → ℕ

@@ -15,14 +15,10 @@ pub(crate) fn is_run_list(run_weights: &[u32], run_firsts: &[u32], n: usize) -> 
     let mut w = run_weights[0];
     let mut f = run_firsts[0];
     let mut good = crate::inner::may_begin(n, w, f);
-    let mut i = 1;
-    while i < run_weights.len() {
-        let v = run_weights[i];
-        let g = run_firsts[i];
-        good = good & crate::inner::may_follow(n, w, f, v, g);
-        w = v;
-        f = g;
-        i += 1;
+    for (v, g) in run_weights[1..].iter().zip(run_firsts[1..].iter()) {
+        good = good & crate::inner::may_follow(n, w, f, *v, *g);
+        w = *v;
+        f = *g;
     }
     good
 }

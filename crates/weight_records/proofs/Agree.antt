@@ -5,10 +5,10 @@ use mathlib.Core.List.{List, [], ◌∷◌, map}
 use Prim.Native.Nat.{ℕ, ◌≤◌}
 use native.Mathlib.Omega.{arith}
 use lib.ListN.{length, length-map}
+use Rattle.std.specs.Prelude.{Ok}
 use Rattle.collection.specs.Collection.{Collection}
 use Rattle.collection.specs.Judge.{Passes}
 use Rattle.collection.specs.Kmers.{weight_of}
-use Rattle.weight.specs.declared.WeightAnswer.TheVariants.{Found}
 use Rattle.weight.specs.Weight.{weight_answer}
 use Rattle.runs.specs.Runs.{runs, weights_of_runs, firsts_of_runs}
 use Rattle.weight.specs.RunList.{is_run_list}
@@ -44,7 +44,7 @@ records_agree weights firsts n handle e = tables_agree weights firsts n handle (
 pub runs_then_records : (c : Collection) → Passes c → (handle : ℕ) → 1 ≤ handle → handle ≤ length c.weights
     → weight_answer (map weight_in (records_of (weights_of_runs c.weights) (firsts_of_runs c.weights)))
     (map first_in (records_of (weights_of_runs c.weights) (firsts_of_runs c.weights))) (length c.weights) handle
-    ≡ Found (weight_of c.weights handle)
+    ≡ Ok (weight_of c.weights handle)
 runs_then_records c p handle l m =
     tables_agree (weights_of_runs c.weights) (firsts_of_runs c.weights) (length c.weights) handle
     (length-map (runs c.weights) (λ r. r.0) ∙ sym (length-map (runs c.weights) (λ r. r.1)))

@@ -1,22 +1,18 @@
 -- One pass over a list of records gives what `weight_answer` says of its weights and first handles. Assumes nothing.
 --     passed-answers     what is answered after all records is WEIGHT's answer
---     after              what is known after i records; `after_none`, `after_next` and `after_all` go from none to all
+--     passed_none, passed_more     what is known after no record, and after one more
 use mathlib.Core.Path.{◌≡◌, refl, sym, ◌∙◌, ap, ap₂}
 use mathlib.Core.Bool.{Bool, true, ◌&&◌, ◌||◌}
-use mathlib.Core.List.{List, [], ◌∷◌, map}
-use Prim.Native.Nat.{ℕ, zero, suc, ◌+◌, ◌<◌}
-use native.Mathlib.Nat.{not-suc-le-zero, le_of_suc-le-suc}
-use native.Mathlib.Numerals.{add-one}
+use mathlib.Core.List.{List, [], ◌∷◌, ◌++◌, map}
+use Prim.Native.Nat.{ℕ}
 use lib.Dec.{leb, eqb}
-use lib.ListN.{length, get_or}
+use Rattle.std.specs.Prelude.{Ok, Err}
+use Rattle.collection.specs.declared.refusal.Refusal.TheVariants.{RunList}
 use Rattle.lists.specs.Choose.{choose}
 use Rattle.lists.specs.Limits.{most_letters}
 use Rattle.lists.proofs.Every.{and_assoc, and_true}
-use Rattle.collection.specs.declared.Verdict.{Verdict}
-use Rattle.collection.specs.declared.Verdict.TheVariants.{Good, Bad}
 use Rattle.collection.specs.Judge.{handle_verdict}
-use Rattle.collection.specs.Verdict.{and_then, settle}
-use Rattle.weight.specs.declared.WeightAnswer.TheVariants.{Found, Refused}
+use Rattle.collection.specs.Verdict.{and_then, settle, Verdict, good}
 use Rattle.weight.specs.Weight.{weight_answer}
 use Rattle.weight.specs.RunList.{follows, all_follow, is_run_list, run_list_verdict, last_at, begins}
 use Rattle.weight_records.specs.declared.Run.{Run}
@@ -89,51 +85,32 @@ module _ (n handle : ℕ) where
   verdict_list : (rs : List Run) → list_verdict (passed (started n handle) rs) ≡ run_list_verdict n (weights_in rs) (firsts_in rs)
   unfolding list_verdict run_list_verdict
   verdict_list rs =
-      ap (λ (m : ℕ). choose ((passed (started n handle) rs).good && ((passed (started n handle) rs).begun || eqb m 0)) Good (Bad 12 0))
+      ap (λ (m : ℕ). choose ((passed (started n handle) rs).good && ((passed (started n handle) rs).begun || eqb m 0)) good (Err RunList))
       (n_stays (started n handle) rs)
-      ∙ ap (λ (b : Bool). choose b Good (Bad 12 0)) (good_list rs)
+      ∙ ap (λ (b : Bool). choose b good (Err RunList)) (good_list rs)
 
   -- one pass answers WEIGHT
   pub passed_answers : (rs : List Run) → finished (passed (started n handle) rs) ≡ weight_answer (weights_in rs) (firsts_in rs) n handle
   unfolding finished weight_answer
   passed_answers rs =
-      ap (λ (v : Verdict). settle (and_then v (handle_verdict (passed (started n handle) rs).n (passed (started n handle) rs).handle)) Refused
-      (Found (passed (started n handle) rs).found))
+      ap (λ (v : Verdict). settle (and_then v (handle_verdict (passed (started n handle) rs).n (passed (started n handle) rs).handle)) Err
+      (Ok (passed (started n handle) rs).found))
       (verdict_list rs)
-      ∙ (ap₂ (λ (m h : ℕ). settle (and_then (run_list_verdict n (weights_in rs) (firsts_in rs)) (handle_verdict m h)) Refused
-      (Found (passed (started n handle) rs).found)) (n_stays (started n handle) rs)
+      ∙ (ap₂ (λ (m h : ℕ). settle (and_then (run_list_verdict n (weights_in rs) (firsts_in rs)) (handle_verdict m h)) Err
+      (Ok (passed (started n handle) rs).found)) (n_stays (started n handle) rs)
       (handle_stays (started n handle) rs)
-      ∙ ap (λ (w : ℕ). settle (and_then (run_list_verdict n (weights_in rs) (firsts_in rs)) (handle_verdict n handle)) Refused (Found w))
+      ∙ ap (λ (w : ℕ). settle (and_then (run_list_verdict n (weights_in rs) (firsts_in rs)) (handle_verdict n handle)) Err (Ok w))
       (found_last (started n handle) rs))
 
--- ─── after i records ─────────────────────────────────────────────────────────
+-- ─── along the list ──────────────────────────────────────────────────────────
 
--- what a place past the end gives
-abbrev pub zeros : Run
-zeros = record { weight = 0; first = 0 }
-
-pub after : State → List Run → ℕ → State
-after s rs zero = s
-after s [] (suc i) = s
-after s (r ∷ rs) (suc i) = after (stepped s r) rs i
-
--- before any record
-pub after_none : (s : State) (rs : List Run) → after s rs 0 ≡ s
-unfolding after
-after_none s rs = refl
-
--- after all of them
-pub after_all : (s : State) (rs : List Run) → after s rs (length rs) ≡ passed s rs
-unfolding after passed
-after_all s [] = refl
-after_all s (r ∷ rs) = after_all (stepped s r) rs
-
-after_suc : (s : State) (rs : List Run) (i : ℕ) → i < length rs → after s rs (suc i) ≡ stepped (after s rs i) (get_or rs i zeros)
-unfolding after
-after_suc s [] i l = absurd (not-suc-le-zero l)
-after_suc s (r ∷ rs) zero l = refl
-after_suc s (r ∷ rs) (suc i) l = after_suc (stepped s r) rs i (le_of_suc-le-suc l)
+-- after no run
+pub passed_none : (s : State) → passed s [] ≡ s
+unfolding passed
+passed_none s = refl
 
 -- after one more
-pub after_next : (s : State) (rs : List Run) (i : ℕ) → i < length rs → after s rs (i + 1) ≡ stepped (after s rs i) (get_or rs i zeros)
-after_next s rs i l = ap (after s rs) (add-one i) ∙ after_suc s rs i l
+pub passed_more : (s : State) (rs : List Run) (r : Run) → passed s (rs ++ (r ∷ [])) ≡ stepped (passed s rs) r
+unfolding passed
+passed_more s [] r = refl
+passed_more s (q ∷ rs) r = passed_more (stepped s q) rs r

@@ -1,14 +1,12 @@
 -- Inner: the one pass over a list of records: what is known before any, after one more, and what is answered after all.
-use Rattle.std.specs.Prelude.{Bool, true, false, ◌&&◌, ◌||◌, List, [], ◌∷◌, ℕ, leb, eqb}
+use Rattle.collection.specs.declared.refusal.Refusal.TheVariants.{RunList}
+use Rattle.collection.specs.declared.refusal.Refusal.{Refusal}
+use Rattle.std.specs.Prelude.{Bool, true, false, ◌&&◌, ◌||◌, List, [], ◌∷◌, ℕ, leb, eqb, Ok, Err, Result}
 use Rattle.lists.specs.Choose.{choose}
 use Rattle.lists.specs.Limits.{most_letters}
-use Rattle.collection.specs.declared.Verdict.{Verdict}
-use Rattle.collection.specs.declared.Verdict.TheVariants.{Good, Bad}
 use Rattle.collection.specs.Judge.{handle_verdict}
-use Rattle.collection.specs.Verdict.{and_then, settle}
+use Rattle.collection.specs.Verdict.{and_then, settle, Verdict, good}
 use Rattle.weight.specs.RunList.{begins, follows}
-use Rattle.weight.specs.declared.WeightAnswer.{WeightAnswer}
-use Rattle.weight.specs.declared.WeightAnswer.TheVariants.{Found, Refused}
 use Rattle.weight_records.specs.declared.Run.{Run}
 use Rattle.weight_records.specs.declared.State.{State}
 
@@ -35,8 +33,8 @@ passed s (r ∷ rs) = passed (stepped s r) rs
 
 -- 12: a run that did not fit, n above 1,048,576, or no run although n is not 0
 unfoldable pub list_verdict : State → Verdict
-list_verdict s = choose (s.good && (s.begun || eqb s.n 0)) Good (Bad 12 0)
+list_verdict s = choose (s.good && (s.begun || eqb s.n 0)) good (Err RunList)
 
 -- 12, then 9; then the weight that was found
-unfoldable pub finished : State → WeightAnswer
-finished s = settle (and_then (list_verdict s) (handle_verdict s.n s.handle)) Refused (Found s.found)
+unfoldable pub finished : State → Result ℕ Refusal
+finished s = settle (and_then (list_verdict s) (handle_verdict s.n s.handle)) Err (Ok s.found)

@@ -6,11 +6,10 @@ ghost use Rattle.weight.specs.Weight.{weight_answer};
 ghost use Rattle.weight_records.specs.Records.{weight_in, first_in};
 ghost use Rattle.weight_records.specs.Pass.{fits, found_by, started, stepped, list_verdict, finished};
 
-use collection::Verdict;
-use weight::WeightAnswer;
+use collection::Refusal;
 
 // A run: its weight and its first handle.
-#[derive(Clone, Copy)]
+#[derive(Clone, Copy, Debug, PartialEq, Eq)]
 pub struct Run {
     pub weight: u32,
     pub first: u32,
@@ -18,7 +17,7 @@ pub struct Run {
 
 // What is known of the runs that were read: whether they can begin a run list of n k-mers, whether there was one, the last one's
 // weight and first handle, and the weight of the last one that starts at or before the handle.
-#[derive(Clone, Copy)]
+#[derive(Clone, Copy, Debug, PartialEq, Eq)]
 struct State {
     good: bool,
     begun: bool,
@@ -82,42 +81,30 @@ fn step(s: State, r: Run) -> State
 }
 
 // 12: what was read is no run list of n k-mers.
-fn judge_read(s: State) -> Verdict
+#[tactic(auto, unfolding(crate::specs::Pass::list_verdict))]
+fn judge_read(s: State) -> Result<(), Refusal>
     ensures { result ≡ list_verdict s }
 {
     if s.good & (s.begun | (s.n == 0)) {
-        return Verdict::Good;
+        return Ok(());
     }
-    Verdict::Bad {
-        number: 12,
-        place: 0,
-    }
+    Err(Refusal::RunList)
 }
 
 // 12, then 9; else the weight that was found.
-fn finish(s: State) -> WeightAnswer
+#[tactic(auto, unfolding(crate::specs::Pass::finished, collection::specs::Verdict::settle, collection::specs::Verdict::and_then))]
+fn finish(s: State) -> Result<u32, Refusal>
     ensures { result ≡ finished s }
 {
-    let a = judge_read(s);
-    if let Verdict::Bad { number, place } = a {
-        return WeightAnswer::Refused { number, place };
-    }
-    let b = collection::judge_handle(s.n, s.handle);
-    if let Verdict::Bad { number, place } = b {
-        return WeightAnswer::Refused { number, place };
-    }
-    WeightAnswer::Found { weight: s.found }
+    judge_read(s)?;
+    collection::judge_handle(s.n, s.handle)?;
+    Ok(s.found)
 }
 
 // WEIGHT: the weight of the last run that starts at or before the handle. The whole list is judged first.
-pub fn weight_of_records(runs: &[Run], n: usize, handle: usize) -> WeightAnswer
+pub fn weight_of_records(runs: &[Run], n: usize, handle: usize) -> Result<u32, Refusal>
     ensures { result ≡ weight_answer (map weight_in runs.now) (map first_in runs.now) n handle }
 {
-    let mut s = start(n, handle);
-    let mut i = 0;
-    while i < runs.len() {
-        s = step(s, runs[i]);
-        i = i + 1;
-    }
+    let s = runs.iter().fold(start(n, handle), |s, r| step(s, *r));
     finish(s)
 }

@@ -145,6 +145,10 @@ pub record Turning (k c left rest turned : ℕ) : Type 0 where
 pub turning_begins : (k c : ℕ) → k ≤ most_k → Turning k c k c 0
 turning_begins k c h = record { left_high = omega arith; k_high = h; small = one-le-pow (k - k) 4 (lit≤ tt); ends = sym (turned_from k c) }
 
+-- the same number of letters left, said another way
+pub turning_left : {k c left left' rest turned : ℕ} → left ≡ left' → Turning k c left rest turned → Turning k c left' rest turned
+turning_left {k} {c} {left} {left'} {rest} {turned} e s = subst (λ (n : ℕ). Turning k c n rest turned) e s
+
 module _ (e k c left rest turned t : ℕ) (s : Turning k c left rest turned) (h : e ≤ left) (l : t < 4 ^ e) where
   grown : turned * 4 ^ e + t < 4 ^ (k - (left - e))
   grown =

@@ -36,10 +36,8 @@ pub fn word_code(word: &[u8]) -> u64
     ensures { result ≡ code (map two_bits word.now) }
 {
     let mut c: u64 = 0;
-    let mut i = 0;
-    while i < word.len() {
-        c = c * 4 + alphabet::letter_code(word[i]);
-        i += 1;
+    for b in word {
+        c = c * 4 + alphabet::letter_code(*b);
     }
     c
 }
@@ -51,17 +49,14 @@ pub fn turned_code(k: usize, c: u64) -> u64
 {
     let table = &TURNED;
     let mut rest = c;
-    let mut left = k;
     let mut turned: u64 = 0;
-    while 4 <= left {
+    for _ in 0..k / 4 {
         turned = turned * 256 + looked_up(table, (rest % 256) as u8) as u64;
         rest /= 256;
-        left -= 4;
     }
-    while 0 < left {
+    for _ in 0..k % 4 {
         turned = turned * 4 + (3 - rest % 4);
         rest /= 4;
-        left -= 1;
     }
     turned
 }

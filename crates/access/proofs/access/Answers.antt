@@ -10,24 +10,24 @@ use Rattle.access.proofs.access.Goals as goal
 
 pub returns-in_default : goal.returns-in_default
 unfolding access_part access_start
-returns-in_default c = let e = sym c.judge_access-v.ensures ∙ c.in_default.is in (refused _ _ e, refl, start_refused _ _ e)
+returns-in_default c = let e = sym c.judge_access.ensures ∙ c.in_default.is in (refused _ _ e, refl, start_refused _ _ e)
 
 pub position-p-requires : goal.position-p-requires
 position-p-requires c =
-    let g = access_good _ _ (sym c.judge_access-v.ensures ∙ c.in-Good.is) in record { long = shape_long g.shape; le_handle = (g.low, g.high) }
+    let g = access_good _ _ (sym c.judge_access.ensures ∙ c.in-Ok.is) in record { long = shape_long g.shape; le_handle = (g.low, g.high) }
 
 pub overflow_add-result : goal.overflow_add-result
 overflow_add-result c =
-    let g = access_good _ _ (sym c.judge_access-v.ensures ∙ c.in-Good.is) in
+    let g = access_good _ _ (sym c.judge_access.ensures ∙ c.in-Ok.is) in
     omega (arith, position_fits g.shape _ g.low g.high, c.position-p.ensures)
 
 pub slice_bounds-result-end-2 : goal.slice_bounds-result-end-2
 slice_bounds-result-end-2 c =
-    let g = access_good _ _ (sym c.judge_access-v.ensures ∙ c.in-Good.is) in
+    let g = access_good _ _ (sym c.judge_access.ensures ∙ c.in-Ok.is) in
     omega (arith, position_fits g.shape _ g.low g.high, c.position-p.ensures)
 
 pub returns : goal.returns
 unfolding access_part access_start
 returns c =
-    let e = sym c.judge_access-v.ensures ∙ c.in-Good.is in
+    let e = sym c.judge_access.ensures ∙ c.in-Ok.is in
     (settled _ (part_from _ _ c.position-p.ensures) e, refl, start_found _ e c.position-p.ensures)

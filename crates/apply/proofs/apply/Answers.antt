@@ -1,30 +1,28 @@
 -- `apply` meets its contract: the tables judged, then the places. Assumes nothing.
-use Rattle.apply.proofs.Applying.{tables_good, apply_refused, apply_goes_on}
-use Rattle.apply.specs.Apply.{Lent, lent}
-use Rattle.collection.specs.Collection.{Collection, collection}
+use Rattle.std.proofs.lemmas.Result.{err_from_is_err_and}
+use Rattle.collection.specs.Collection.{collection}
 use Rattle.collection.specs.Tables.{tables}
+use Rattle.apply.specs.Apply.{lent}
+use Rattle.apply.proofs.Applying.{tables_good, apply_refused, apply_goes_on}
 use Rattle.apply.proofs.apply.Goals as goal
 
-pub returns-in-Bad : goal.returns-in-Bad
-returns-in-Bad c =
-    let j = c.before in
-    let s = j in
-    apply_refused (collection s.args.k s.args.letters.now s.args.ends.now s.args.weights.now) s.args.signed.now
-    (lent (tables s.args.new_letters.now s.args.new_ends.now s.args.new_weights.now) s.args.work.now) j.judge_tables-v.ensures c.in-Bad.is
+pub returns-in_err-judge_tables : goal.returns-in_err-judge_tables
+returns-in_err-judge_tables c =
+    let a = c.args in
+    let p = err_from_is_err_and c.from_residual.result c.from_residual.ensures.1 in
+    rw (p.1, p.2)
+    (apply_refused (collection a.k a.letters.now a.ends.now a.weights.now) a.signed.now
+    (lent (tables a.new_letters.now a.new_ends.now a.new_weights.now) a.work.now) c.judge_tables.ensures c.in_err-judge_tables.was)
 
 pub apply_places-requires : goal.apply_places-requires
 apply_places-requires c =
-    let j = c.before in
-    let s = j in
-    tables_good (collection s.args.k s.args.letters.now s.args.ends.now s.args.weights.now) s.args.signed.now
-    (lent (tables s.args.new_letters.now s.args.new_ends.now s.args.new_weights.now) s.args.work.now) j.judge_tables-v.ensures c.in_default.is
+    let a = c.args in
+    tables_good (collection a.k a.letters.now a.ends.now a.weights.now) a.signed.now
+    (lent (tables a.new_letters.now a.new_ends.now a.new_weights.now) a.work.now) c.judge_tables.ensures c.in_ok-judge_tables.was
 
 pub returns : goal.returns
 returns c =
-    let p = c.before in
-    let g = p in
-    let j = g in
-    let s = j in
-    apply_goes_on (collection s.args.k s.args.letters.now s.args.ends.now s.args.weights.now) s.args.signed.now
-    (lent (tables s.args.new_letters.now s.args.new_ends.now s.args.new_weights.now) s.args.work.now) j.judge_tables-v.ensures g.in_default.is
-    p.apply_places.ensures
+    let a = c.args in
+    apply_goes_on (collection a.k a.letters.now a.ends.now a.weights.now) a.signed.now
+    (lent (tables a.new_letters.now a.new_ends.now a.new_weights.now) a.work.now) c.judge_tables.ensures c.in_ok-judge_tables.was
+    c.apply_places.ensures

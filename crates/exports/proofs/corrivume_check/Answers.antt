@@ -10,5 +10,5 @@ returns-then-answer-lt-ANSWER c = let a = c.args in too_short a.answer.now _ _ c
 pub returns : goal.returns
 returns c =
     let a = c.args in
-    shown a.answer.now a.work.now c.if-answer-lt-ANSWER.false c.check_reply-reply.ensures c.tell.ensures
+    shown a.answer.now a.work.now c.if-answer-lt-ANSWER.false c.count_reply-reply.ensures c.tell.ensures
     ∙ ap (check_exported a.answer.now a.work.now) c.check-a.ensures

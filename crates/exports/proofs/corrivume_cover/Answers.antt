@@ -1,7 +1,8 @@
 -- `corrivume_cover` meets its contract: the answer table is judged, then the call is made, its promise kept and its answer told. Assumes nothing.
 use Prim.{absurd}
 use native.Mathlib.Omega.{arith}
-use Rattle.cover.specs.declared.CoverAnswer.TheVariants.{Refused}
+use Rattle.std.specs.Prelude.{Err}
+use Rattle.collection.specs.declared.refusal.Refusal.TheVariants.{Room}
 use Rattle.exports_replies.proofs.Telling.{too_short, shown}
 use Rattle.exports.proofs.corrivume_cover.Goals as goal
 
@@ -9,7 +10,7 @@ pub returns-then-answer-lt-ANSWER : goal.returns-then-answer-lt-ANSWER
 returns-then-answer-lt-ANSWER c =
     let a = c.args in
     record {
-      given = Refused 1 0;
+      given = Err Room;
       promised = λ h. absurd (omega (arith, h, c.if-answer-lt-ANSWER.true));
       shown = too_short a.answer.now _ _ c.if-answer-lt-ANSWER.true;
     }

@@ -1,10 +1,10 @@
--- `index_judged` meets its contract: a repeated word is refused, else the index is made; work is zeroed (proofs/Indexed). Assumes nothing.
+-- `index_judged` meets its contract: a repeated word is refused, else the index is made; work is zeroed (proofs/Ways). Assumes nothing.
 use mathlib.Core.Path.{ap}
 use Prim.Native.Nat.{ℕ, ◌+◌}
 use native.Mathlib.Omega.{arith}
 use Rattle.repeats.proofs.Arranged.{few_kmers}
 use Rattle.index.specs.Indexing.{lent}
-use Rattle.index.proofs.Indexed.{repeat_refused, judged_still, index_made_lem, work_still}
+use Rattle.index.proofs.Ways.{repeat_refused, judged_still, index_made_lem, work_still}
 use Rattle.index.proofs.index_judged.Goals as goal
 
 pub returns-then-repeated : goal.returns-then-repeated

@@ -1,10 +1,6 @@
--- `run` is safe and ends: each case starts behind the one before. Assumes nothing.
-use Prim.Native.Nat.{◌-◌}
+-- `run` is safe and ends: each case leaves fewer bytes. Assumes nothing.
 use lib.ListN.{length}
 use Rattle.sheet_cases.proofs.run.Given as goal
 
-abbrev pub invariant-loop-at : goal.invariant-loop-at
-invariant-loop-at g l = Unit {0}
-
-abbrev pub decreases-loop-at : goal.decreases-loop-at
-decreases-loop-at g l = length l.cases - l.at
+abbrev pub decreases-loop-mark : goal.decreases-loop-mark
+decreases-loop-mark g l = length l.rest

@@ -1,21 +1,19 @@
 -- `read` meets its contract: judged, then filled. Assumes nothing.
+use Rattle.std.proofs.lemmas.Result.{err_from_is_err_and}
 use Rattle.collection.specs.Tables.{tables}
 use Rattle.sheet_read.proofs.Outcomes.{read_refused, read_fits, read_filled}
 use Rattle.sheet_read.proofs.read.Goals as goal
 
+pub returns-in_err-held : goal.returns-in_err-held
+returns-in_err-held c =
+    let p = err_from_is_err_and c.from_residual.result c.from_residual.ensures.1 in
+    rw (p.1, p.2) (read_refused _ _ c.judge_read.ensures c.in_err-held.was)
+
 pub fill_lines-requires : goal.fill_lines-requires
 fill_lines-requires c =
-    let j = c.before in
-    let g = j.args in
-    read_fits g.sheet.now (tables g.letters.now g.ends.now g.weights.now) j.judge_read-j.ensures j.in-Good.is
+    let a = c.args in read_fits a.sheet.now (tables a.letters.now a.ends.now a.weights.now) c.judge_read.ensures c.in_ok-held.was
 
-pub returns-in-Good : goal.returns-in-Good
-returns-in-Good c =
-    let f = c.before in
-    let j = f in
-    let g = j.args in
-    read_filled _ (tables g.letters.now g.ends.now g.weights.now) j.judge_read-j.ensures j.in-Good.is
-    f.fill_lines.ensures
-
-pub returns-in-Bad : goal.returns-in-Bad
-returns-in-Bad c = read_refused _ _ c.judge_read-j.ensures c.in-Bad.is
+pub returns : goal.returns
+returns c =
+    let a = c.args in
+    read_filled _ (tables a.letters.now a.ends.now a.weights.now) c.judge_read.ensures c.in_ok-held.was c.fill_lines.ensures

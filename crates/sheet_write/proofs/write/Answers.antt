@@ -1,32 +1,24 @@
 -- `write` meets its contract: judged, then stored. Assumes nothing.
+use Rattle.std.proofs.lemmas.Result.{err_from_is_err_and}
 use Rattle.sheet_write.proofs.Outcomes.{write_refused, write_ready, write_done}
 use Rattle.collection.specs.Collection.{collection}
 use Rattle.sheet_write.proofs.write.Goals as goal
 
-pub returns-in-Bad : goal.returns-in-Bad
-returns-in-Bad c =
-    let j = c.before in
-    let g = j in
-    write_refused (collection g.args.k g.args.letters.now g.args.ends.now g.args.weights.now) g.args.sheet.now j.judge_write-v.ensures
-    c.in-Bad.is
+pub returns-in_err-judge_write : goal.returns-in_err-judge_write
+returns-in_err-judge_write c =
+    let a = c.args in
+    let p = err_from_is_err_and c.from_residual.result c.from_residual.ensures.1 in
+    rw (p.1, p.2)
+    (write_refused (collection a.k a.letters.now a.ends.now a.weights.now) a.sheet.now c.judge_write.ensures c.in_err-judge_write.was)
 
-pub put_sheet-n-requires : goal.put_sheet-n-requires
-put_sheet-n-requires c = record {
-  passes = (let j = c.before in
-      let g = j in
-      write_ready (collection g.args.k g.args.letters.now g.args.ends.now g.args.weights.now) g.args.sheet.now j.judge_write-v.ensures
-      c.in_default.is).0;
-  weights_in_bounds = (let j = c.before in
-      let g = j in
-      write_ready (collection g.args.k g.args.letters.now g.args.ends.now g.args.weights.now) g.args.sheet.now j.judge_write-v.ensures
-      c.in_default.is).1;
-}
+pub put_sheet-requires : goal.put_sheet-requires
+put_sheet-requires c =
+    let a = c.args in
+    let r = write_ready (collection a.k a.letters.now a.ends.now a.weights.now) a.sheet.now c.judge_write.ensures c.in_ok-judge_write.was in
+    record { passes = r.0; weights_in_bounds = r.1 }
 
 pub returns : goal.returns
 returns c =
-    let p = c.before in
-    let t = p in
-    let j = t in
-    let g = j in
-    write_done (collection g.args.k g.args.letters.now g.args.ends.now g.args.weights.now) g.args.sheet.now j.judge_write-v.ensures
-    t.in_default.is p.put_sheet-n.ensures.counted p.put_sheet-n.ensures.filled
+    let a = c.args in
+    write_done (collection a.k a.letters.now a.ends.now a.weights.now) a.sheet.now c.judge_write.ensures
+    c.in_ok-judge_write.was c.put_sheet.ensures.counted c.put_sheet.ensures.filled

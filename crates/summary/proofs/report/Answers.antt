@@ -2,7 +2,9 @@
 use mathlib.Core.Path.{ap, subst, ◌∙◌}
 use Prim.Native.Nat.{◌≤◌}
 use lib.ListN.{length}
-use Rattle.summary_text.specs.declared.Summary.{Summary}
+use Rattle.summary_text.specs.declared.Numbers.{Numbers}
+use Rattle.std.specs.Prelude.{Result}
+use Rattle.collection.specs.declared.refusal.Refusal.{Refusal}
 use Rattle.summary_text.specs.Text.{text_for}
 use Rattle.summary_text.specs.Written.{written_of}
 use Rattle.summary.specs.Report.{text_of, report_of}
@@ -14,6 +16,6 @@ returns c =
     let w = c.before in
     let t = w in record {
       text_after = w.write_summary.ensures.text_after
-          ∙ ap (λ (s : Summary). written_of (text_for s) t.args.text.now) t.tell-s.ensures;
-      sheet_len_bound = subst (λ (s : Summary). length (text_for s) ≤ 247) t.tell-s.ensures w.write_summary.ensures.summary_len_bound;
+          ∙ ap (λ (s : Result Numbers Refusal). written_of (text_for s) t.args.text.now) t.tell-s.ensures;
+      sheet_len_bound = subst (λ (s : Result Numbers Refusal). length (text_for s) ≤ 247) t.tell-s.ensures w.write_summary.ensures.summary_len_bound;
     }

@@ -5,8 +5,8 @@ use Rattle.summary.proofs.Reported.{report_writes}
 use Rattle.tally.proofs.tell.Goals as goal
 
 pub slice_bounds-text-end : goal.slice_bounds-text-end
-slice_bounds-text-end g c = (report_writes _ _ c.report-answer.ensures.text_after c.in-Written.is).0
+slice_bounds-text-end g c = (report_writes _ _ c.report.ensures.text_after c.in-Ok.is).0
 
 pub slice_bounds-write_all-end : goal.slice_bounds-write_all-end
 slice_bounds-write_all-end g c =
-    sym (length-take-le _ _ (report_writes _ _ c.report-answer.ensures.text_after c.in-Written.is).0)
+    sym (length-take-le _ _ (report_writes _ _ c.report.ensures.text_after c.in-Ok.is).0)

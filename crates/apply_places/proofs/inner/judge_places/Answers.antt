@@ -1,5 +1,6 @@
 -- `judge_places` meets its contract: the number of places, then each place over zeros. Assumes nothing.
 use native.Mathlib.Omega.{arith}
+use Rattle.collection.specs.declared.refusal.Refusal.TheVariants.{Places}
 use Rattle.collection.proofs.Verdicts.{bad_good, place_none, place_some}
 use Rattle.apply_places.proofs.Marking.{judged_number, judged_each, zeros_ready}
 use Rattle.apply_places.proofs.inner.judge_places.Goals as goal
@@ -21,7 +22,7 @@ returns-then-r-ne0 c =
     let s = z in
     let a = s.args in
     judged_each a.m _ a.work.now _ _ _ _ z.if-signed-m.false s.requires.1 z.zero_first.ensures
-    c.mark_places-r.ensures (place_some 8 _ c.if-r-ne0.true) (λ q. absurd (bad_good q))
+    c.mark_places-r.ensures (place_some Places _ c.if-r-ne0.true) (λ q. absurd (bad_good q))
 
 pub returns : goal.returns
 returns c =
@@ -29,4 +30,4 @@ returns c =
     let s = z in
     let a = s.args in
     judged_each a.m _ a.work.now _ _ _ _ z.if-signed-m.false s.requires.1 z.zero_first.ensures
-    c.mark_places-r.ensures (place_none 8 c.if-r-ne0.false) (λ q. c.if-r-ne0.false)
+    c.mark_places-r.ensures (place_none Places c.if-r-ne0.false) (λ q. c.if-r-ne0.false)

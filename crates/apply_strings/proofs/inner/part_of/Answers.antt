@@ -10,21 +10,15 @@ use Rattle.cover_trails.proofs.Signed.{kept}
 use Rattle.apply_strings.proofs.Parts.{string_long, weights-before}
 use Rattle.apply_strings.proofs.inner.part_of.Goals as goal
 
-pub overflow_cast-end : goal.overflow_cast-end
-overflow_cast-end c = omega (arith, c.shared_slice_known-2-1.given c.args.i)
-
 pub overflow_mul-first : goal.overflow_mul-first
 overflow_mul-first c =
     let a = c.args in
     let g = c.requires in
-    omega (arith, c.start_of-start.ensures, c.shared_slice_known-2-1.given a.i, string_long g.0 a.i g.1, weights-before g.0 a.i g.1)
+    omega (arith, c.start_of-start.ensures, string_long g.0 a.i g.1, weights-before g.0 a.i g.1)
 
 pub overflow_sub-first-2 : goal.overflow_sub-first-2
 overflow_sub-first-2 c =
     let g = c.requires in omega (arith, c.start_of-start.ensures, weights-before g.0 c.args.i g.1)
-
-pub overflow_add-result : goal.overflow_add-result
-overflow_add-result c = omega (arith, c.shared_slice_known-2-1.given c.args.i)
 
 pub overflow_add-result-2 : goal.overflow_add-result-2
 overflow_add-result-2 c =
@@ -32,7 +26,6 @@ overflow_add-result-2 c =
     omega (
       arith,
       c.start_of-start.ensures,
-      c.shared_slice_known-2-1.given c.args.i,
       string_long g.0 c.args.i g.1,
     )
 
@@ -46,7 +39,6 @@ overflow_add-result-3 c =
     omega (
       arith,
       c.start_of-start.ensures,
-      c.shared_slice_known-2-1.given c.args.i,
       string_long g.0 c.args.i g.1,
     )
 
@@ -59,5 +51,5 @@ returns c =
       end_is = refl;
       first_is = ap (λ (s : ℕ). s - a.i * (a.k - 1)) start_of_lem.ensures;
       last_is = ap (λ (s : ℕ). s - a.i * (a.k - 1) + within a.k s (get_or a.ends.now a.i 0)) start_of_lem.ensures;
-      turned_is = c.is_turned.ensures ∙ ap is_turned (kept (get_or a.signed.now a.i (pos 0)) c.is_turned-arg-1.given);
+      turned_is = c.is_turned.ensures ∙ ap is_turned (kept (get_or a.signed.now a.i (pos 0)) (omega arith));
     }

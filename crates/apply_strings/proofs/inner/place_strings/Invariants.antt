@@ -1,5 +1,4 @@
 -- `place_strings` meets its contract. Invariant: storing the strings from place j on completes the three tables. Assumes nothing.
-use Prim.Native.Nat.{◌-◌}
 use lib.ListN.{length}
 use Rattle.apply_strings.specs.Reordered.{reordered}
 use Rattle.apply_strings.proofs.Placements.{Placing}
@@ -10,6 +9,3 @@ abbrev pub invariant-loop-j : goal.invariant-loop-j
 invariant-loop-j l =
     Placing (reordered (collection l.k l.letters l.ends l.weights) l.signed) (length l.ends) l.initial.new_letters l.initial.new_ends l.initial.new_weights
     l.new_letters l.new_ends l.new_weights l.at l.kmer l.j
-
-abbrev pub decreases-loop-j : goal.decreases-loop-j
-decreases-loop-j l = length l.ends - l.j

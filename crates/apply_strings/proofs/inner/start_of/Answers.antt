@@ -1,14 +1,9 @@
 -- `start_of` meets its contract: 0 for the first string, else the end before. Assumes nothing.
-use Prim.Native.Nat.{◌-◌}
-use native.Mathlib.Omega.{arith}
 use Rattle.apply_strings.proofs.Parts.{start_first, start-later}
 use Rattle.apply_strings.proofs.inner.start_of.Goals as goal
 
 pub returns-then-i-eq0 : goal.returns-then-i-eq0
 returns-then-i-eq0 c = start_first _ _ c.if-i-eq0.true
-
-pub overflow_cast-result : goal.overflow_cast-result
-overflow_cast-result c = omega (arith, c.shared_slice_known-1.given (c.args.i - 1))
 
 pub returns : goal.returns
 returns c = start-later _ _ c.if-i-eq0.false c.requires

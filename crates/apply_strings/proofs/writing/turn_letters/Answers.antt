@@ -1,41 +1,25 @@
--- `turn_letters` meets its contract. Invariant: storing the letters that are left, the last one's pair first, from `at` on completes the table.
--- Assumes nothing.
-use mathlib.Core.Path.{sym, ap}
+-- `turn_letters` meets its contract: each step stores the pair of the last letter that is left. Assumes nothing.
+use mathlib.Core.Path.{◌≡◌}
+use mathlib.Core.List.{[], ◌∷◌, ◌++◌}
+use Rattle.std.specs.Slice.Iter.{iter_rest}
 use native.Mathlib.Omega.{arith}
-use lib.Seq.{take-length}
+use Rattle.std.proofs.lemmas.Grind.{common_steps}
 use Rattle.lists.proofs.Every.{every-all}
-use Rattle.lists.proofs.Storing.{begin, inside, store, restated, stored}
-use Rattle.alphabet.specs.Letter.{is_letter}
-use Rattle.apply_strings.specs.Turned.{turn_letters}
-use Rattle.apply_strings.proofs.Turning.{length-turned, turned_last, turned_none}
+use Rattle.lists.proofs.Storing.{begin, stored}
+use Rattle.apply_strings.proofs.Turning.{length-turned, turned_store, turned_none}
 use Rattle.apply_strings.proofs.writing.turn_letters.Goals as goal
 
-pub loop-left-init : goal.loop-left-init
-loop-left-init c =
-    let a = c.args in (
-      omega arith,
-      restated (ap turn_letters (sym (take-length a.from.now)))
-          (begin _ (turn_letters a.from.now) (omega (arith, c.requires.0, length-turned a.from.now))),
-    )
+pub loop-i-init : goal.loop-i-init
+loop-i-init c = record { good = grind (arith, common_steps, every-all); storing = grind (arith, common_steps, length-turned, begin) }
 
-pub bounds-to-at : goal.bounds-to-at
-bounds-to-at c =
-    let l = c.loop-left in
-    let s = c.before in
-    inside (restated (turned_last s.args.from.now (every-all is_letter _ s.requires.1) l.left _ c.loop-left-test.true
-    l.invariant.0 c.turned_letter.ensures) l.invariant.1)
-
-pub loop-left-preserved : goal.loop-left-preserved
-loop-left-preserved c =
-    let l = c.loop-left in
-    let s = c.before in (
-      omega arith,
-      store (restated (turned_last s.args.from.now (every-all is_letter _ s.requires.1) l.left _ c.loop-left-test.true
-          l.invariant.0 c.turned_letter.ensures) l.invariant.1),
-    )
-
-pub shape_of-to : goal.shape_of-to
-shape_of-to c = c.loop-left.invariant.1.size_kept
+pub loop-i-preserved : goal.loop-i-preserved
+loop-i-preserved c =
+    let rest = iter_rest c.next.new.self.iter.iter in
+    let b = c.in-Some.letter.now in
+    let w = c.loop-i.invariant in
+    let e : iter_rest c.loop-i.i-iterator.iter.iter ≡ rest ++ (b ∷ []) = grind (arith, common_steps) in
+    let t = turned_store rest b c.turned_letter.result e w.good c.turned_letter.ensures w.storing in
+    record { good = t.0; storing = grind (arith, common_steps, t.1) }
 
 pub returns : goal.returns
-returns c = stored (restated (turned_none _ _ c.loop-left-test.false) c.loop-left.invariant.1)
+returns c = grind (arith, common_steps, turned_none, stored)

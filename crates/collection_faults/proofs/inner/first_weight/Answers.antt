@@ -1,33 +1,25 @@
--- `first_weight` meets its contract. Invariant: the first from weight i on is the first of all. Assumes nothing.
-use mathlib.Core.Path.{◌≡◌, refl, sym, ap, ◌∙◌}
-use mathlib.Core.Bool.{not}
-use native.Mathlib.Omega.{arith}
+-- `first_weight` meets its contract: what `position` finds is the first. Assumes nothing.
+use mathlib.Core.Path.{◌≡◌, sym, ◌∙◌}
+use mathlib.Core.Bool.{true, false, not}
+use borrow.Author.Tests.{tests}
+use Rattle.std.proofs.Common.{rules}
+use Rattle.std.proofs.lemmas.Iterator.{IsFirst-from_position, YieldsList-from_slice}
 use Rattle.lists.proofs.Every.{every-all}
-use Rattle.lists.proofs.First.{first_here, first_next, first_end}
 use Rattle.collection_faults.specs.Faults.{is_weight}
-use Rattle.collection_faults.proofs.Finding.{every_first}
+use Rattle.collection_faults.proofs.Finding.{every_first, first_found, first_missing}
 use Rattle.collection_faults.proofs.inner.first_weight.Goals as goal
-use mathlib.Core.Path as path
-use mathlib.Core.Bool as bool
 
 pub returns-then-all_weights : goal.returns-then-all_weights
 returns-then-all_weights c = sym (every_first is_weight _ (every-all is_weight _ (sym c.all_weights.ensures ∙ c.if-all_weights.true)))
 
-pub loop-i-init : goal.loop-i-init
-loop-i-init c = (omega arith, refl)
+pub returns-in-Some : goal.returns-in-Some
+returns-in-Some c =
+    first_found (λ w. not (is_weight w)) _ _
+    (IsFirst-from_position _ _ _ (λ w. not (is_weight w) ≡ true) (λ w. not (is_weight w) ≡ false) c.in-Some.ensures.ran
+    (YieldsList-from_slice _ c.iter.ensures.rest) (λ x q k. search (rules, tests)) (λ x q k. search (rules, tests)))
 
-pub returns-then-not-is_weight : goal.returns-then-not-is_weight
-returns-then-not-is_weight c =
-    sym (c.loop-i.invariant.1
-    ∙ first_here (λ w. not (is_weight w)) _ _ 0 c.loop-i-test.true
-    (ap not (sym c.is_weight.ensures) ∙ (path.ap bool.not c.if-not-is_weight.true)))
-
-pub loop-i-preserved : goal.loop-i-preserved
-loop-i-preserved c = (
-  omega arith,
-  c.loop-i.invariant.1
-      ∙ first_next (λ w. not (is_weight w)) _ _ 0 c.loop-i-test.true (ap not (sym c.is_weight.ensures) ∙ (path.ap bool.not c.if-not-is_weight.false)),
-)
-
-pub returns : goal.returns
-returns c = sym (c.loop-i.invariant.1 ∙ first_end (λ w. not (is_weight w)) _ _ c.loop-i-test.false)
+pub returns-in-None : goal.returns-in-None
+returns-in-None c =
+    first_missing (λ w. not (is_weight w)) _
+    (IsFirst-from_position _ _ _ (λ w. not (is_weight w) ≡ true) (λ w. not (is_weight w) ≡ false) c.in-None.ensures.ran
+    (YieldsList-from_slice _ c.iter.ensures.rest) (λ x q k. search (rules, tests)) (λ x q k. search (rules, tests)))

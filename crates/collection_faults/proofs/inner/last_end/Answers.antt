@@ -1,15 +1,11 @@
--- `last_end` meets its contract. Assumes nothing.
-use Prim.Native.Nat.{◌-◌}
+-- `last_end` meets its contract: `last` gives the element at the last place. Assumes nothing.
+use mathlib.Core.Path.{◌∙◌}
 use native.Mathlib.Omega.{arith}
-use lib.ListN.{length}
 use Rattle.collection_faults.proofs.Finding.{last_is, last_none}
 use Rattle.collection_faults.proofs.inner.last_end.Goals as goal
 
-pub returns-then-m-eq0 : goal.returns-then-m-eq0
-returns-then-m-eq0 c = last_none c.args.ends.now c.if-m-eq0.true
+pub returns-in-Some : goal.returns-in-Some
+returns-in-Some c = let h = c.in-Some.ensures.item.3 in h.1 0 ∙ last_is c.args.ends.now (λ q. omega arith)
 
-pub overflow_cast-result : goal.overflow_cast-result
-overflow_cast-result c = omega (arith, c.shared_slice_known-1.given (length c.args.ends.now - 1))
-
-pub returns : goal.returns
-returns c = last_is c.args.ends.now c.if-m-eq0.false
+pub returns-in-None : goal.returns-in-None
+returns-in-None c = let h = c.in-None.ensures.item.3 in last_none c.args.ends.now (omega arith)

@@ -1,6 +1,6 @@
 -- `cover_strings` meets its contract: the table laid out, the walks, the places, and zeros (proofs/Covered).
 use native.Mathlib.Omega.{arith}
-use Rattle.cover.proofs.Covered.{start_low, paths_low, covering}
+use Rattle.cover.proofs.Covers.{start_low, paths_low, covering}
 use Rattle.cover.proofs.covering.cover_strings.Goals as goal
 
 pub overflow_sub-result : goal.overflow_sub-result

@@ -11,46 +11,18 @@ use Rattle.cover_tours.proofs.Regions.{used_at, row_at, used_size}
 use Rattle.cover_tours.proofs.Rows.{present, absent, own_spoke}
 use Rattle.cover_tours.proofs.inner.found_at.Goals as goal
 use Rattle.cover_tours.proofs.inner.found_at.Goals.{then-e-m+else-x-v, else-e-m, then-v-m+else-work-m-eq0, else-v-m}
-use Rattle.cover_tours.proofs.inner.found_at.Lts as lts
-use Rattle.cover_tours.proofs.inner.found_at.Tie as tie
-use Rattle.cover_tours.proofs.inner.found_at.Reads as reads
-
-abbrev Place-Joined1 : Type 0
-Place-Joined1 = lts.Joined1 tie.the-claims reads.Pre reads.Post tie.handed_clauses
-
-abbrev Place-Joined3 : Type 0
-Place-Joined3 = lts.Joined3 tie.the-claims reads.Pre reads.Post tie.handed_clauses
 
 -- the flag of v's own spoke
 own-flag : (m : ℕ) (w : List ℕ) (v : ℕ) → v < 2 * m → get_or w (3 * m + v) 0 ≡ get_or (tables m w).used (m + v) 0
 own-flag m w v l = let e : 3 * m + v ≡ 2 * m + (m + v) = omega arith in rw e (used_at m w (m + v) (omega arith))
 
--- the search did not stop at a half of v
-not-here : (c : Place-Joined1)
-    → let a = c.args in
-    a.e < 4 * a.m → near a.m (tables a.m a.work.now).verts (get_or (tables a.m a.work.now).rows a.e 0) ≡ a.v → ⊥
-not-here c l q =
-    elim c.if-e-m.branch [
-      | then-e-m+else-x-v w ↦ w.if-x-v.false (w.near-x.ensures ∙ (ap (near _ _) (w.wide-c.ensures ∙ row_at _ _ _ l) ∙ q))
-      | else-e-m w ↦ omega arith
-    ]
-
--- its own spoke is used
-not_own : (c : Place-Joined3) → let a = c.args in a.v < 2 * a.m → get_or (tables a.m a.work.now).used (a.m + a.v) 0 ≡ 0 → ⊥
-not_own c l z =
-    elim c.if-v-m.branch [
-      | then-v-m+else-work-m-eq0 w ↦ w.if-work-m-eq0.false (own-flag _ _ _ l ∙ z)
-      | else-v-m w ↦ omega arith
-    ]
-
 pub returns-then-x-v : goal.returns-then-x-v
 returns-then-x-v c =
-    let t = c.before in
-    let p = t.requires in
-    let h = c.wide-c.ensures ∙ row_at _ _ _ t.if-e-m.true in
-    let a = t.args in
+    let p = c.requires in
+    let h = row_at _ _ _ c.if-e-m.true in
+    let a = c.args in
     subst (Answer a.m (tables a.m a.work.now) a.v) (sym h)
-    (present p.cursor p.sought p.graph t.if-e-m.true (sym (ap (near _ _) h) ∙ (sym c.near-x.ensures ∙ c.if-x-v.true)))
+    (present p.cursor p.sought p.graph c.if-e-m.true (sym (ap (near _ _) h) ∙ (sym c.near-x.ensures ∙ c.if-x-v.true)))
 
 pub returns-then-work-m-eq0 : goal.returns-then-work-m-eq0
 returns-then-work-m-eq0 c =
@@ -59,4 +31,8 @@ returns-then-work-m-eq0 c =
     (sym (own-flag _ _ _ c.if-v-m.true) ∙ c.if-work-m-eq0.true)
 
 pub returns : goal.returns
-returns c = let p = c.requires in absent p.cursor p.sought p.graph (used_size p.fits.0) (not-here c.before.before) (not_own c.before)
+returns c =
+    let p = c.requires in
+    absent p.cursor p.sought p.graph (used_size p.fits.0)
+    (λ l q. elim c.if-e-m.branch [ then-e-m+else-x-v w ↦ w.if-x-v.false (w.near-x.ensures ∙ (ap (near _ _) (row_at _ _ _ l) ∙ q)) | else-e-m w ↦ omega arith ])
+    (λ l z. elim c.if-v-m.branch [ then-v-m+else-work-m-eq0 w ↦ w.if-work-m-eq0.false (own-flag _ _ _ l ∙ z) | else-v-m w ↦ omega arith ])

@@ -10,27 +10,27 @@ walk-start-requires c = record { fits = (c.requires.0, omega arith); ready = c.r
 
 pub loop-i-init : goal.loop-i-init
 loop-i-init c =
-    let p = c.requires in (
-      fits-same p.0 (omega arith),
-      omega arith,
-      omega arith,
-      record { verts = refl; rows = refl },
-      touring_first p.1 c.walk-start.ensures,
-      λ e l. absurd (omega arith),
-    )
-
-pub visit-tour-requires : goal.visit-tour-requires
-visit-tour-requires c =
-    let l = c.loop-i in
-    record { fits = (l.invariant.0, c.loop-i-test.true); walks_le_i = (l.invariant.2, l.invariant.4) }
+    record {
+      fits = fits-same c.requires.0 (omega arith);
+      few = omega arith;
+      same = record { verts = refl; rows = refl };
+      touring = touring_first c.requires.1 c.walk-start.ensures;
+      visited = λ e l. absurd (omega arith);
+    }
 
 pub loop-i-preserved : goal.loop-i-preserved
 loop-i-preserved c =
     let v = c.visit-tour.ensures.1 in
     let h = c.loop-i.invariant in
-    (fits-same h.0 (omega arith), omega arith, c.visit-tour.ensures.0, same_trans h.3 v.same, v.touring, visits_more v h.5)
+    record {
+      fits = fits-same h.fits (omega arith);
+      few = c.visit-tour.ensures.0;
+      same = same_trans h.same v.same;
+      touring = v.touring;
+      visited = visits_more v h.visited;
+    }
 
 pub returns : goal.returns
 returns c =
-    tour_done (same_trans c.walk-start.ensures.same c.loop-i.invariant.3) c.loop-i.invariant.4
-    (λ e l. c.loop-i.invariant.5 e (omega arith))
+    let h = c.loop-i.invariant in
+    tour_done (same_trans c.walk-start.ensures.same h.same) h.touring (λ e l. h.visited e (omega arith))

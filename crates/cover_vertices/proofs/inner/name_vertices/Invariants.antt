@@ -1,10 +1,6 @@
 -- `name_vertices` meets its contract: each turn names one end (proofs/Naming).
-use Prim.Native.Nat.{◌-◌, ◌*◌}
 use Rattle.cover_vertices.proofs.Naming.{Naming}
 use Rattle.cover_vertices.proofs.inner.name_vertices.Given as goal
 
 abbrev pub invariant-loop-q : goal.invariant-loop-q
 invariant-loop-q l = Naming l.m l.initial.work l.work l.v l.before l.q
-
-abbrev pub decreases-loop-q : goal.decreases-loop-q
-decreases-loop-q l = 2 * l.m - l.q

@@ -1,12 +1,8 @@
 -- `count_all` meets its contract. Invariant: the stretches of the strings that have passed are counted. Assumes nothing.
-use Prim.Native.Nat.{◌-◌}
 use lib.ListN.{length}
 use Rattle.index_minimizers.specs.Minimizer.{minimizer_at}
 use Rattle.index_cutting.proofs.Counting.{Tallied}
 use Rattle.index_cutting.proofs.inner.count_all.Given as goal
 
-abbrev pub invariant-loop-i : goal.invariant-loop-i
-invariant-loop-i l = Tallied (minimizer_at l.k l.p l.letters) l.k (length l.letters) l.ends l.i l.at l.count
-
-abbrev pub decreases-loop-i : goal.decreases-loop-i
-decreases-loop-i l = length l.ends - l.i
+abbrev pub invariant-loop-end : goal.invariant-loop-end
+invariant-loop-end l = Tallied (minimizer_at l.k l.p l.letters) l.k (length l.letters) l.ends l.end-index l.at l.count

@@ -1,14 +1,10 @@
 -- `cut_all` meets its contract. Invariant: the stretches of the strings that have passed are stored, and h is the handle of the next k-mer. Assumes nothing.
-use Prim.Native.Nat.{◌-◌}
 use lib.ListN.{length}
 use Rattle.index_minimizers.specs.Minimizer.{minimizer_at}
 use Rattle.index_cutting.proofs.Cutting.{Passed}
 use Rattle.index_cutting.proofs.inner.cut_all.Given as goal
 
-abbrev pub invariant-loop-i : goal.invariant-loop-i
-invariant-loop-i l =
+abbrev pub invariant-loop-end : goal.invariant-loop-end
+invariant-loop-end l =
     Passed (minimizer_at l.k l.p l.letters) l.k (length l.letters) l.ends l.initial.firsts l.firsts l.initial.positions l.positions l.initial.numbers
-    l.numbers l.initial.keys l.keys l.at l.h l.o l.i
-
-abbrev pub decreases-loop-i : goal.decreases-loop-i
-decreases-loop-i l = length l.ends - l.i
+    l.numbers l.initial.keys l.keys l.at l.h l.o l.end-index

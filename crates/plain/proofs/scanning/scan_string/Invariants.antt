@@ -1,7 +1,7 @@
 -- `scan_string` meets its contract. Invariant: c ends in the k - 1 letters before the next k-mer, and the pass over the k-mers that are left
 -- gives the answer. Assumes nothing.
 use mathlib.Core.Path.{◌≡◌}
-use Prim.Native.Nat.{◌+◌, ◌-◌, ◌≤◌}
+use Prim.Native.Nat.{◌+◌, ◌-◌}
 use lib.Dec.{eqb}
 use Rattle.lists.specs.Count.{count_from}
 use Rattle.words.specs.Word.{code, word_at}
@@ -11,12 +11,8 @@ use Rattle.plain.proofs.scanning.scan_string.Given as goal
 
 abbrev pub invariant-loop-i : goal.invariant-loop-i
 invariant-loop-i l =
-    (l.i ≤ l.number)
-    × Rolls l.k l.letters (l.at + l.i) l.c
+    Rolls l.k l.letters (l.at + l.i) l.c
     × (scan_from (λ a. eqb (code (word_at l.k l.letters a)) l.asked) (λ a. eqb (code (word_at l.k l.letters a)) l.turned) l.passed l.seen
     (count_from l.at l.number)
     ≡ scan_from (λ a. eqb (code (word_at l.k l.letters a)) l.asked) (λ a. eqb (code (word_at l.k l.letters a)) l.turned) (l.passed + l.i) l.first
     (count_from (l.at + l.i) (l.number - l.i)))
-
-abbrev pub decreases-loop-i : goal.decreases-loop-i
-decreases-loop-i l = l.number - l.i

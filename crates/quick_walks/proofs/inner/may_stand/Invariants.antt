@@ -1,10 +1,6 @@
 -- `may_stand` meets its contract. Invariant: the key's letters stand from none of the i positions passed. Assumes nothing.
-use Prim.Native.Nat.{◌+◌, ◌-◌, ◌≤◌}
 use Rattle.quick_walks.proofs.Keys.{Nowhere}
 use Rattle.quick_walks.proofs.inner.may_stand.Given as goal
 
 abbrev pub invariant-loop-i : goal.invariant-loop-i
-invariant-loop-i l = (l.i ≤ l.count + 15) × Nowhere l.places l.key l.letters l.at l.i
-
-abbrev pub decreases-loop-i : goal.decreases-loop-i
-decreases-loop-i l = l.count - l.i
+invariant-loop-i l = Nowhere l.places l.key l.letters l.at l.i

@@ -1,5 +1,5 @@
 -- `row_by_key` meets its contract. Invariant: the walk of the stretches that are left gives the answer. Assumes nothing.
-use Prim.Native.Nat.{◌+◌, ◌-◌}
+use Prim.Native.Nat.{◌+◌}
 use lib.ListN.{length, get_or}
 use Rattle.words.specs.Turned.{spelled}
 use Rattle.index_stretches.specs.Stretches.{walk}
@@ -13,6 +13,3 @@ invariant-loop-i l =
     Walking (is_word l.k l.letters (spelled l.k l.w)) l.k (length l.letters) (tables l.firsts l.positions l.numbers l.before)
     (seek (is_word l.k l.letters (spelled l.k l.w)) l.compared (walk (row_of (tables l.firsts l.positions l.numbers l.before) l.v)))
     (get_or l.before (l.v + 1) 0) l.count l.i
-
-abbrev pub decreases-loop-i : goal.decreases-loop-i
-decreases-loop-i l = get_or l.before (l.v + 1) 0 - l.i

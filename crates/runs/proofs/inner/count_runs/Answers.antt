@@ -1,44 +1,35 @@
 -- `count_runs` meets its contract. Invariant: the runs counted and those that start later are all. Assumes nothing.
-use mathlib.Core.Path.{sym, ap}
+use mathlib.Core.Path.{refl, sym, ap}
+use Prim.Native.Nat.{◌+◌}
 use native.Mathlib.Omega.{arith}
 use lib.ListN.{length}
 use Rattle.runs.proofs.Loops.{later_same, later_new, later_end, runs_first, runs_none}
 use Rattle.runs.proofs.inner.count_runs.Goals as goal
+use Rattle.runs.proofs.inner.count_runs.Goals.{then-v-w, else-v-w}
 
-pub returns-then-weights-eq0 : goal.returns-then-weights-eq0
-returns-then-weights-eq0 c = sym (ap length (runs_none _ c.if-weights-eq0.true))
+pub returns-in_default : goal.returns-in_default
+returns-in_default c = sym (ap length (runs_none _ c.in_default.ensures.cases))
 
-pub loop-i-init : goal.loop-i-init
-loop-i-init c =
-    (omega (arith, c.if-weights-eq0.false), omega arith, omega (arith, ap length (runs_first c.args.weights.now c.if-weights-eq0.false)))
+pub loop-v-init : goal.loop-v-init
+loop-v-init c = record { low = omega arith; counted = omega (arith, ap length (runs_first _ _ _ c.in-Some.ensures.cases.0)) }
 
-pub loop-i-preserved-then-v-w : goal.loop-i-preserved-then-v-w
-loop-i-preserved-then-v-w c =
-    let l = c.loop-i in (
-      omega arith,
-      omega arith,
-      omega (
-        arith,
-        l.invariant.2,
-        ap length (later_new l.w c.args.weights.now l.i c.loop-i-test.true
-            c.if-v-w.true),
-      ),
-    )
-
-pub loop-i-preserved : goal.loop-i-preserved
-loop-i-preserved c =
-    let l = c.loop-i in (
-      omega arith,
-      omega arith,
-      omega (
-        arith,
-        l.invariant.2,
-        ap length (later_same l.w c.args.weights.now l.i c.loop-i-test.true
-            c.if-v-w.false),
-      ),
-    )
+pub loop-v-preserved : goal.loop-v-preserved
+loop-v-preserved c =
+    let rest = c.in-Some.rest.now in
+    let l = c.loop-v in
+    let here = l.invariant.counted in
+    elim c.if-v-w.branch [
+      | then-v-w w ↦ rw (w.n-is, w.w-is) (record {
+        low = omega arith;
+        counted = omega (arith, here, ap length (later_new (l.v-index + 1) l.w rest l.v-index c.loop-v-test.true w.if-v-w.true _ refl));
+      })
+      | else-v-w w ↦ rw (w.n-is, w.w-is) (record {
+        low = omega arith;
+        counted = omega (arith, here, ap length (later_same (l.v-index + 1) l.w rest l.v-index c.loop-v-test.true w.if-v-w.false));
+      })
+    ]
 
 pub returns : goal.returns
 returns c =
-    let l = c.loop-i in
-    omega (arith, l.invariant.2, ap length (later_end l.w c.args.weights.now l.i c.loop-i-test.false))
+    let l = c.loop-v in
+    omega (arith, l.invariant.counted, ap length (later_end (l.v-index + 1) l.w c.in-Some.rest.now l.v-index c.loop-v-test.false))

@@ -1,89 +1,52 @@
--- `fill_weights` meets its contract. Invariant: the weights left, stored from here on, bring the table to its target. Assumes nothing.
-use Prim.Native.Nat.{ℕ}
-use mathlib.Core.Path.{◌≡◌, refl, sym, ap, ◌∙◌}
-use mathlib.Core.Bool.{true}
+-- `fill_weights` meets its contract. Invariant: the weights stored and those left are all, and the rest of the line with as many weights as are left answers
+-- for the whole. Assumes nothing.
+use Prim.Native.Nat.{ℕ, ◌+◌, ◌-◌, ◌<◌}
+use mathlib.Core.Path.{◌≡◌, sym, ap, ◌∙◌}
+use mathlib.Core.Bool.{not}
 use native.Mathlib.Omega.{arith}
-use Rattle.lists.proofs.Storing.{begin_at, inside, store, restated, stored}
 use Rattle.text.proofs.Tests.{told_no, told_yes}
 use Rattle.sheet_lines.specs.Cursor.{tail_at, fine}
-use Rattle.text.proofs.Bytes.{byte_here}
 use Rattle.sheet_lines.proofs.Tails.{tail_no_tab, tail_bad, tail_next}
-use Rattle.sheet_read.proofs.Weights.{weights_next, weights-none, not_fine, tail_fine}
+use Rattle.sheet_read.proofs.Weights.{weights_next, weights-none, fine_count, not_fine, tail_fine, store_weight, stored_weights}
 use Rattle.sheet_read.proofs.filling.fill_weights.Goals as goal
-use mathlib.Core.Path as path
-use mathlib.Core.Bool as bool
 
-pub loop-j-init : goal.loop-j-init
-loop-j-init c = (c.requires.0, begin_at _ _ _ c.requires.1, refl)
+pub overflow_add-t-items : goal.overflow_add-t-items
+overflow_add-t-items c = omega (arith, fine_count c.args.s.now c.args.at c.args.n c.requires.0)
 
-pub shape_of-out-then-not-byte_is : goal.shape_of-out-then-not-byte_is
-shape_of-out-then-not-byte_is c = c.loop-j.invariant.1.size_kept
+pub slice_bounds-t-items-end : goal.slice_bounds-t-items-end
+slice_bounds-t-items-end c = omega (arith, fine_count c.args.s.now c.args.at c.args.n c.requires.0)
 
 pub returns-then-not-byte_is : goal.returns-then-not-byte_is
 returns-then-not-byte_is c =
-    let at = c.before in
-    absurd (not_fine
-    (tail_no_tab at.args.s.now at.loop-j.i at.loop-j.j c.loop-j-test.true
-    (told_no c.byte_is.ensures (path.ap bool.not c.if-not-byte_is.true))) at.loop-j.invariant.0)
-
-pub overflow_add-i : goal.overflow_add-i
-overflow_add-i c =
-    let at = c.before in
-    let b = byte_here at.args.s.now at.loop-j.i 9 (told_yes c.byte_is.ensures (path.ap bool.not c.if-not-byte_is.false)) in
-    omega (arith, b.0)
-
-pub shape_of-out-in_default : goal.shape_of-out-in_default
-shape_of-out-in_default c = c.loop-j.invariant.1.size_kept
+    let left : 0 < c.args.n - c.loop-t.t-index = omega arith in
+    absurd (not_fine (tail_no_tab _ c.loop-t.i _ left (told_no c.byte_is.ensures (ap not c.if-not-byte_is.true))) c.loop-t.invariant.fine_rest)
 
 pub returns-in_default : goal.returns-in_default
 returns-in_default c =
-    let e = c.before in
-    let at = e in
-    absurd (not_fine
-    (tail_bad at.args.s.now at.loop-j.i at.loop-j.j e.loop-j-test.true
-    (told_yes e.byte_is.ensures (path.ap bool.not e.if-not-byte_is.false)) (sym c.weight_at-w.ensures ∙ c.in_default.is)) at.loop-j.invariant.0)
+    let left : 0 < c.args.n - c.loop-t.t-index = omega arith in
+    let h = told_yes c.byte_is.ensures (ap not c.if-not-byte_is.false) in
+    absurd (not_fine (tail_bad _ c.loop-t.i _ left h (sym c.weight_at.ensures ∙ c.in_default.is)) c.loop-t.invariant.fine_rest)
 
-pub bounds-out-p : goal.bounds-out-p
-bounds-out-p c =
-    let e = c.before in
-    let at = e in
-    let w = sym c.weight_at-w.ensures ∙ c.in-Good.is in
-    let st = restated
-    (weights_next at.args.s.now at.loop-j.i c.in-Good.value c.in-Good.next
-    (told_yes e.byte_is.ensures (path.ap bool.not e.if-not-byte_is.false)) w) at.loop-j.invariant.1 in
-    inside st
-
-pub overflow_add-p : goal.overflow_add-p
-overflow_add-p c =
-    let e = c.before in
-    let at = e in
-    let w = sym c.weight_at-w.ensures ∙ c.in-Good.is in
-    let st = restated
-    (weights_next at.args.s.now at.loop-j.i c.in-Good.value c.in-Good.next
-    (told_yes e.byte_is.ensures (path.ap bool.not e.if-not-byte_is.false)) w) at.loop-j.invariant.1 in
-    omega (arith, inside st)
-
-pub loop-j-preserved : goal.loop-j-preserved
-loop-j-preserved c =
-    let e = c.before in
-    let at = e in
-    let w = sym c.weight_at-w.ensures ∙ c.in-Good.is in
-    let st = restated
-    (weights_next at.args.s.now at.loop-j.i c.in-Good.value c.in-Good.next
-    (told_yes e.byte_is.ensures (path.ap bool.not e.if-not-byte_is.false)) w) at.loop-j.invariant.1 in
-    let tn = tail_next at.args.s.now at.loop-j.i at.loop-j.j e.loop-j-test.true _ _
-    (told_yes e.byte_is.ensures (path.ap bool.not e.if-not-byte_is.false)) w in
-    (sym (ap fine tn) ∙ at.loop-j.invariant.0, store st, at.loop-j.invariant.2 ∙ tn)
-
-pub shape_of-out : goal.shape_of-out
-shape_of-out c = c.loop-j.invariant.1.size_kept
+pub loop-t-preserved : goal.loop-t-preserved
+loop-t-preserved c =
+    let left : 0 < c.args.n - c.loop-t.t-index = omega arith in
+    let h = told_yes c.byte_is.ensures (ap not c.if-not-byte_is.false) in
+    let w = c.in-Some.w in
+    let e = sym c.weight_at.ensures ∙ c.in-Some.is in
+    let n : c.args.n - c.loop-t.t-index - 1 ≡ c.args.n - (c.loop-t.t-index + 1) = omega arith in
+    let t = tail_next _ c.loop-t.i _ left w.value w.next h e ∙ ap (tail_at _ w.next) n in
+    record {
+      size = c.loop-t.invariant.size;
+      fine_rest = sym (ap fine t) ∙ c.loop-t.invariant.fine_rest;
+      stores = store_weight c.loop-t.t-items c.loop-t.t-index (omega arith) (weights_next _ c.loop-t.i w.value w.next h e) c.loop-t.invariant.stores;
+      same_tail = c.loop-t.invariant.same_tail ∙ t;
+    }
 
 pub returns : goal.returns
 returns c =
-    let at = c.before in
-    let z : at.loop-j.j ≡ 0 = omega (arith, c.loop-j-test.false) in
-    let f = sym (ap (λ (x : ℕ). fine (tail_at at.args.s.now at.loop-j.i x)) z) ∙ at.loop-j.invariant.0 in (
-      stored (restated (weights-none at.args.s.now at.loop-j.i f) at.loop-j.invariant.1),
-      at.loop-j.invariant.2
-          ∙ (ap (tail_at at.args.s.now at.loop-j.i) z ∙ tail_fine at.args.s.now at.loop-j.i f),
+    let z : c.args.n - c.loop-t.t-index ≡ 0 = omega arith in
+    let f = sym (ap (λ (x : ℕ). fine (tail_at c.args.s.now c.loop-t.i x)) z) ∙ c.loop-t.invariant.fine_rest in (
+      stored_weights c.args.o c.args.n c.loop-t.t-index c.args.out.now c.loop-t.t-items (omega arith) (omega arith)
+          (weights-none c.args.s.now c.loop-t.i f) c.loop-t.invariant.stores,
+      c.loop-t.invariant.same_tail ∙ (ap (tail_at c.args.s.now c.loop-t.i) z ∙ tail_fine c.args.s.now c.loop-t.i f),
     )

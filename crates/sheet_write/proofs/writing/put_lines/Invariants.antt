@@ -1,5 +1,5 @@
 -- `put_lines` meets its contract. Invariant: the lines of the strings left, stored from here on, bring the table to its target. Assumes nothing.
-use Prim.Native.Nat.{◌+◌, ◌-◌}
+use Prim.Native.Nat.{◌+◌}
 use lib.ListN.{length}
 use Rattle.lists.specs.Fill.{put}
 use Rattle.collection.specs.Collection.{collection}
@@ -8,10 +8,7 @@ use Rattle.sheet.specs.Text.{lines_text}
 use Rattle.sheet_write.proofs.Lines.{Lining}
 use Rattle.sheet_write.proofs.writing.put_lines.Given as goal
 
-abbrev pub invariant-loop-i : goal.invariant-loop-i
-invariant-loop-i l =
+abbrev pub invariant-loop-end : goal.invariant-loop-end
+invariant-loop-end l =
     Lining (collection l.k l.letters l.ends l.weights) (length l.initial.out) (l.at + length (lines_text (strings (collection l.k l.letters l.ends l.weights))))
-    (put l.at (lines_text (strings (collection l.k l.letters l.ends l.weights))) l.initial.out) l.out l.before l.w l.p l.i
-
-abbrev pub decreases-loop-i : goal.decreases-loop-i
-decreases-loop-i l = length l.ends - l.i
+    (put l.at (lines_text (strings (collection l.k l.letters l.ends l.weights))) l.initial.out) l.out l.before l.w l.p l.end-index

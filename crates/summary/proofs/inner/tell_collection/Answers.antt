@@ -1,41 +1,30 @@
 -- `tell_collection` meets its contract, by what CHECK and COVER answer. Assumes nothing.
 use native.Mathlib.Omega.{arith}
+use Rattle.std.proofs.lemmas.Result.{err_from_is_err_and}
 use Rattle.summary.proofs.Checked.{weighed, check_refused, check_passed, strung, cover_refused, paths_low, numbers-told}
 use Rattle.summary.proofs.inner.tell_collection.Goals as goal
 
-pub returns-in-Refused : goal.returns-in-Refused
-returns-in-Refused c =
-    let h = c.before in
-    let g = h in
-    check_refused _ g.requires.passes _ g.requires.ends_in_bounds.2 h.check-a.ensures c.in-Refused.is
+pub returns-in_err-check : goal.returns-in_err-check
+returns-in_err-check c =
+    let p = err_from_is_err_and c.from_residual.result c.from_residual.ensures.1 in
+    rw (p.1, p.2) (check_refused _ c.requires.passes _ c.requires.ends_in_bounds.2 c.check.ensures c.in_err-check.was)
 
-pub count_all-numbers-requires : goal.count_all-numbers-requires
-count_all-numbers-requires c =
-    let b = c.before in
-    let v = b in
-    let g = v in record {
-      strung = (strung _ g.requires.passes, weighed _ g.requires.passes);
+pub returns-in_err-covered : goal.returns-in_err-covered
+returns-in_err-covered c =
+    cover_refused _ c.requires.passes c.cover.ensures c.requires.ends_in_bounds.0 (omega (arith, c.requires.ends_in_bounds.1)) c.in_err-covered.was
+
+pub count_all-requires : goal.count_all-requires
+count_all-requires c =
+    let q = c.requires in record {
+      strung = (strung _ q.passes, weighed _ q.passes);
       paths_in_bounds = (
-        paths_low _ g.requires.passes v.cover-b.ensures g.requires.ends_in_bounds.0
-            (omega (arith, g.requires.ends_in_bounds.1)) b.in-Covered.is,
-        omega (arith, g.requires.ends_in_bounds.2),
+        paths_low _ q.passes c.cover.ensures q.ends_in_bounds.0 (omega (arith, q.ends_in_bounds.1)) c.in_ok-covered.was,
+        omega (arith, q.ends_in_bounds.2),
       );
     }
 
-pub returns-in-Covered : goal.returns-in-Covered
-returns-in-Covered c =
-    let b = c.before in
-    let v = b in
-    let a = v in
-    let h = a in
-    let g = h in
-    check_passed _ g.requires.passes _ g.requires.ends_in_bounds.2 h.check-a.ensures a.in_default.is
-    (numbers-told _ g.requires.passes v.cover-b.ensures g.requires.ends_in_bounds.0 (omega (arith, g.requires.ends_in_bounds.1)) b.in-Covered.is
-    c.count_all-numbers.ensures)
-
-pub returns-in-Refused-b : goal.returns-in-Refused-b
-returns-in-Refused-b c =
-    let b = c.before in
-    let v = b in
-    let g = v in
-    cover_refused _ g.requires.passes v.cover-b.ensures g.requires.ends_in_bounds.0 (omega (arith, g.requires.ends_in_bounds.1)) b.in-Refused-b.is
+pub returns : goal.returns
+returns c =
+    let q = c.requires in
+    check_passed _ q.passes _ q.ends_in_bounds.2 c.check.ensures c.in_ok-check.was
+    (numbers-told _ q.passes c.cover.ensures q.ends_in_bounds.0 (omega (arith, q.ends_in_bounds.1)) c.in_ok-covered.was c.count_all.ensures)

@@ -1,33 +1,15 @@
--- `total` meets its contract. Invariant: the sum so far and the sum of the rest are the sum. Assumes nothing.
-use native.Mathlib.Omega.{arith}
-use Rattle.summary_counts.proofs.Sums.{sum_next, sum_end, weight_low}
+-- `total` meets its contract: `sum` folds over the weights. Assumes nothing.
+use mathlib.Core.Path.{◌∙◌}
+use borrow.Author.Tests.{tests}
+use Rattle.std.proofs.Common.{rules}
+use Rattle.std.proofs.lemmas.Iterator.{YieldsList-from_slice, YieldsList-from_map}
+use Rattle.std.proofs.lemmas.Iterator.Consumers.{YieldsList-at, sum_by_from_yields_List}
+use Rattle.summary_counts.proofs.Sums.{sum_folded}
 use Rattle.summary_counts.proofs.inner.total.Goals as goal
-
-pub loop-i-init : goal.loop-i-init
-loop-i-init c = (omega arith, omega arith)
-
-pub overflow_add-t : goal.overflow_add-t
-overflow_add-t c =
-    let l = c.loop-i in
-    let g = c.before in
-    omega (
-      arith,
-      l.invariant.1,
-      c.wide-t.ensures,
-      weight_low g.args.weights.now g.requires.within_range l.i c.loop-i-test.true,
-      g.requires.few,
-      c.loop-i-test.true,
-    )
-
-pub loop-i-preserved : goal.loop-i-preserved
-loop-i-preserved c =
-    let l = c.loop-i in
-    let g = c.before in (
-      omega (arith, l.invariant.0, c.wide-t.ensures, sum_next g.args.weights.now l.i c.loop-i-test.true),
-      omega (arith, l.invariant.1, c.wide-t.ensures, weight_low g.args.weights.now g.requires.within_range l.i c.loop-i-test.true),
-    )
 
 pub returns : goal.returns
 returns c =
-    let l = c.loop-i in
-    omega (arith, l.invariant.0, sum_end c.args.weights.now l.i c.loop-i-test.false)
+    sum_by_from_yields_List (λ x. x) c.args.weights.now c.map.result _ c.sum.ensures.ran
+    (YieldsList-from_map _ (λ x. x) (YieldsList-at c.map.ensures.source (YieldsList-from_slice c.args.weights.now c.iter.ensures.rest)) c.map.ensures.closure
+    (λ x r q k. search (rules, tests)))
+    ∙ sum_folded c.args.weights.now

@@ -1,7 +1,12 @@
 -- `is_run_list` meets its contract. Invariant: what was seen and the test of the runs that are left together are the test of all. Assumes nothing.
-use mathlib.Core.Path.{sym}
-use native.Mathlib.Omega.{arith}
-use Rattle.weight.proofs.Followed.{list_uneven, list_none, list_first, follow_next, follow_end}
+use mathlib.Core.Path.{sym, ap, ◌∙◌}
+use Prim.Native.Nat.{ℕ}
+use Rattle.std.proofs.Common.{Iter}
+use Rattle.std.proofs.lemmas.Iterator.{empty_from_Zip}
+use Rattle.std.specs.Iterator.Adapters.{zip_first, zip_second}
+use Rattle.std.specs.Slice.Iter.{iter_rest}
+use Rattle.std.specs.declared.iter.Zip.{Zip}
+use Rattle.weight.proofs.Followed.{list_uneven, list_none, judge_first, judge_next, judge_end}
 use Rattle.weight.proofs.judging.is_run_list.Goals as goal
 
 pub returns-then-run_weights-run_firsts : goal.returns-then-run_weights-run_firsts
@@ -10,24 +15,18 @@ returns-then-run_weights-run_firsts c = sym (list_uneven _ _ _ c.if-run_weights-
 pub returns-then-run_weights-eq0 : goal.returns-then-run_weights-eq0
 returns-then-run_weights-eq0 c = sym (list_none _ _ _ c.if-run_weights-run_firsts.false c.if-run_weights-eq0.true)
 
-pub loop-i-init : goal.loop-i-init
-loop-i-init c =
-    let same = c.if-run_weights-run_firsts.false in
-    let some = c.if-run_weights-eq0.false in
-    (omega (arith, some), same, list_first _ _ _ same some _ c.may_begin-good.ensures)
+pub loop-v-init : goal.loop-v-init
+loop-v-init c =
+    let it = c.into_iter-v-iterator in
+    let z = c.zip-v-items in
+    judge_first _ _ _ _ _ c.if-run_weights-run_firsts.false c.if-run_weights-eq0.false _ c.may_begin-good.ensures
+    (ap (λ (x : Zip (Iter ℕ) (Iter ℕ)). iter_rest (zip_first x)) it.ensures.into_iter_gives ∙ (ap iter_rest z.ensures.first ∙ c.iter.ensures.rest))
+    (ap (λ (x : Zip (Iter ℕ) (Iter ℕ)). iter_rest (zip_second x)) it.ensures.into_iter_gives ∙ (ap iter_rest z.ensures.second ∙ c.iter-2.ensures.rest))
 
-pub loop-i-preserved : goal.loop-i-preserved
-loop-i-preserved c =
-    let loop-test = c.loop-i-test in
-    let l = c.loop-i in
-    let a = c.args in (
-      omega (arith, loop-test.true),
-      l.invariant.1,
-      follow_next _ a.run_weights.now a.run_firsts.now l.w l.f l.i l.good _ loop-test.true
-          (omega (arith, loop-test.true, l.invariant.1)) _ c.may_follow-good.ensures l.invariant.2,
-    )
+pub loop-v-preserved : goal.loop-v-preserved
+loop-v-preserved c = let h = c.in-Some.ensures.steps in judge_next c.loop-v.invariant h.0 h.1 c.may_follow-good.ensures
 
 pub returns : goal.returns
 returns c =
-    let l = c.loop-i in
-    follow_end _ _ _ l.w l.f l.i l.good _ c.loop-i-test.false (omega (arith, c.loop-i-test.false, l.invariant.1)) l.invariant.2
+    let e = empty_from_Zip c.loop-v.v-iterator c.next.new.self _ c.in-None.is c.next.ensures.steps c.loop-v.invariant.even in
+    judge_end c.loop-v.invariant e.0 e.1

@@ -4,37 +4,36 @@ use native.Mathlib.Omega.{arith}
 use Rattle.lists.specs.Every.{every_from}
 use Rattle.words.specs.Word.{code_from, turn}
 use Rattle.words.specs.Turned.{spelled, turned_code, turns_four}
-use Rattle.words.proofs.Turning.{turning_begins, four_fit, four_turned, one_fits, one_turned, turning_ends}
+use Rattle.words.proofs.Turning.{turning_begins, turning_left, four_fit, four_turned, one_fits, one_turned, turning_ends}
 use Rattle.words.proofs.inner.turned_code.Goals as goal
 
-pub loop-left-init : goal.loop-left-init
+pub loop-init : goal.loop-init
 unfolding turns_four turned_code every_from spelled turn code_from
-loop-left-init c = (turning_begins _ _ c.requires, refl)
+loop-init c = record { table = refl; state = turning_left (omega arith) (turning_begins _ _ c.requires) }
 
 pub overflow_mul-turned : goal.overflow_mul-turned
-overflow_mul-turned c = omega (arith, four_fit _ _ _ _ _ c.loop-left.invariant.0 c.loop-left-test.true _ refl)
-
-pub looked_up-requires : goal.looked_up-requires
-looked_up-requires c = c.loop-left.invariant.1
+overflow_mul-turned c = omega (arith, four_fit _ _ _ _ _ c.loop.invariant.state (omega arith) _ refl)
 
 pub overflow_add-turned : goal.overflow_add-turned
-overflow_add-turned c = record { fits = four_fit _ _ _ _ _ c.loop-left.invariant.0 c.loop-left-test.true _ c.looked_up.ensures }
+overflow_add-turned c = record { fits = four_fit _ _ _ _ _ c.loop.invariant.state (omega arith) _ c.looked_up.ensures }
 
-pub loop-left-preserved : goal.loop-left-preserved
-loop-left-preserved c =
-    (four_turned _ _ _ _ _ c.loop-left.invariant.0 c.loop-left-test.true _ c.looked_up.ensures, c.loop-left.invariant.1)
+pub loop-preserved : goal.loop-preserved
+loop-preserved c = record {
+  table = c.loop.invariant.table;
+  state = turning_left (omega arith) (four_turned _ _ _ _ _ c.loop.invariant.state (omega arith) _ c.looked_up.ensures);
+}
 
-pub loop-left-2-init : goal.loop-left-2-init
-loop-left-2-init c = c.loop-left.invariant.0
+pub loop-2-init : goal.loop-2-init
+loop-2-init c = turning_left (omega arith) c.loop.invariant.state
 
-pub overflow_mul-turned-in-loop-left-2 : goal.overflow_mul-turned-in-loop-left-2
-overflow_mul-turned-in-loop-left-2 c = omega (arith, one_fits _ _ _ _ _ c.loop-left-2.invariant c.loop-left-2-test.true)
+pub overflow_mul-turned-in-loop-2 : goal.overflow_mul-turned-in-loop-2
+overflow_mul-turned-in-loop-2 c = omega (arith, one_fits _ _ _ _ _ c.loop-2.invariant (omega arith))
 
-pub overflow_add-turned-in-loop-left-2 : goal.overflow_add-turned-in-loop-left-2
-overflow_add-turned-in-loop-left-2 c = record { fits = one_fits _ _ _ _ _ c.loop-left-2.invariant c.loop-left-2-test.true }
+pub overflow_add-turned-in-loop-2 : goal.overflow_add-turned-in-loop-2
+overflow_add-turned-in-loop-2 c = record { fits = one_fits _ _ _ _ _ c.loop-2.invariant (omega arith) }
 
-pub loop-left-2-preserved : goal.loop-left-2-preserved
-loop-left-2-preserved c = one_turned _ _ _ _ _ c.loop-left-2.invariant c.loop-left-2-test.true
+pub loop-2-preserved : goal.loop-2-preserved
+loop-2-preserved c = turning_left (omega arith) (one_turned _ _ _ _ _ c.loop-2.invariant (omega arith))
 
 pub returns : goal.returns
-returns c = turning_ends _ _ _ _ _ c.loop-left-2.invariant c.loop-left-2-test.false
+returns c = turning_ends _ _ _ _ _ c.loop-2.invariant (omega arith)
