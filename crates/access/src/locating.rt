@@ -1,25 +1,20 @@
 // Where the k-mer of a handle stands.
 ghost use Rattle.std.specs.Prelude.{◌≡◌, ◌+◌, ◌<◌, ◌≤◌, length, take};
 ghost use Rattle.access.specs.Access.{access_verdict};
-ghost use Rattle.collection.specs.Collection.{spelling};
+ghost use Rattle.collection.specs.Lent.{spelling_in};
 ghost use Rattle.collection.specs.Kmers.{kmers, position_of};
 ghost use Rattle.collection.specs.Ready.{Long};
 ghost use Rattle.access.specs.Located.{Holds};
 
-use collection::Refusal;
+use collection::{Refusal, Spelling};
 
 // The verdict of ACCESS: 2, 3, 4, then 9.
 #[tactic(auto, unfolding(crate::specs::Access::access_verdict, collection::specs::Verdict::and_then))]
-pub(crate) fn judge_access(
-    k: usize,
-    letters: &[u8],
-    ends: &[u32],
-    handle: usize,
-) -> Result<(), Refusal>
-    ensures { result ≡ access_verdict (spelling k letters.now ends.now) handle }
+pub(crate) fn judge_access(given: Spelling, handle: usize) -> Result<(), Refusal>
+    ensures { result ≡ access_verdict (spelling_in given.entry) handle }
 {
-    collection::judge_shape(k, letters, ends)?;
-    let n = collection::inner::kmer_count(k, letters.len(), ends.len());
+    given.judge()?;
+    let n = collection::inner::kmer_count(given.k, given.letters.len(), given.ends.len());
     collection::judge_handle(n, handle)
 }
 

@@ -1,5 +1,5 @@
 -- Where each string of a judged collection stands in its tables, by induction over the ends. Assumes nothing.
-use mathlib.Core.Path.{◌≡◌, sym, ap, ◌∙◌}
+use mathlib.Core.Path.{◌≡◌, ap, ◌∙◌}
 use mathlib.Core.List.{List, [], ◌∷◌}
 use Prim.Native.Nat.{ℕ, zero, suc, ◌+◌, ◌-◌, ◌*◌, ◌<◌, ◌≤◌}
 use native.Mathlib.Nat.{zero-mul, suc-mul}
@@ -12,21 +12,9 @@ use Rattle.collection.specs.Kmers.{within}
 use Rattle.collection.specs.Ready.{Long}
 use Rattle.collection.specs.Strings.{Str, strings_from, strings}
 use Rattle.collection.proofs.Judged.{long_cons, ends_room}
-use Rattle.collection.proofs.Kmers.{last_take}
 use Rattle.apply_strings.specs.Parts.{start_of, first_of}
 
 -- ─── starts and ends ─────────────────────────────────────────────────────────
-
--- a later string starts where the one before ends
-pub start-later : (ends : List ℕ) (i : ℕ) → (i ≡ 0 → ⊥) → i < length ends → get_or ends (i - 1) 0 ≡ start_of ends i
-start-later ends i n l =
-    let q : suc (i - 1) ≡ i = omega arith in
-    sym (last_take 0 (i - 1) ends (omega arith)) ∙ ap (λ (j : ℕ). last_end 0 (take j ends)) q
-
--- the first starts at 0
-pub start_first : (ends : List ℕ) (i : ℕ) → i ≡ 0 → 0 ≡ start_of ends i
-unfolding last_end
-start_first ends i e = sym (ap (λ (j : ℕ). last_end 0 (take j ends)) e)
 
 less_mul : (n k : ℕ) → n * (k - 1) ≤ n * k
 less_mul zero k = omega (arith, zero-mul k, zero-mul (k - 1))
@@ -67,8 +55,8 @@ module _ {k : ℕ} {ends : List ℕ} (g : Long k ends) (i : ℕ) (l : i < length
   pub string_long : start_of ends i + k ≤ get_or ends i 0
   string_long = (standing k 0 0 i ends g.long l).long
 
-  pub weights-before : i * (k - 1) ≤ start_of ends i
-  weights-before = omega (arith, (standing k 0 0 i ends g.long l).room)
+  pub weights_before : i * (k - 1) ≤ start_of ends i
+  weights_before = omega (arith, (standing k 0 0 i ends g.long l).room)
 
   -- the string lies within the letters, its weights within the weights
   pub end_inside : get_or ends i 0 ≤ last_end 0 ends
@@ -76,7 +64,7 @@ module _ {k : ℕ} {ends : List ℕ} (g : Long k ends) (i : ℕ) (l : i < length
 
   -- its weights lie within the weights
   pub last_inside : first_of k ends i + within k (start_of ends i) (get_or ends i 0) ≤ last_end 0 ends - length ends * (k - 1)
-  last_inside = omega (arith, (standing k 0 0 i ends g.long l).after, string_long, weights-before, suc-mul i (k - 1), g.k_low)
+  last_inside = omega (arith, (standing k 0 0 i ends g.long l).after, string_long, weights_before, suc-mul i (k - 1), g.k_low)
 
 -- ─── what a string is cut from ───────────────────────────────────────────────
 

@@ -1,14 +1,12 @@
 // The index of the collection, with p = 2, and questions to it: one line each, what was asked and the answer.
-use crate::{ENDS, LETTERS, WEIGHTS, side_shown};
-use collection::Refusal;
+use crate::{LETTERS, sheet, side_shown};
+use collection::{Collection, Refusal};
 use index::Indexed;
+use index_stretches::Index;
 use quick::QuickAnswer;
 use std::io;
 use std::io::Write;
-
-const RUN_WEIGHTS: [u32; 5] = [2, 5, 3, 7, 2];
-
-const RUN_FIRSTS: [u32; 5] = [1, 3, 5, 7, 10];
+use weight::RunList;
 
 fn show(rt: &impl Print, asked: &[u8], a: u64, b: u64, c: u64) -> io::Result<()> {
     io::writer(rt).write_all(asked)?;
@@ -16,13 +14,8 @@ fn show(rt: &impl Print, asked: &[u8], a: u64, b: u64, c: u64) -> io::Result<()>
 }
 
 // Each stretch in a line of its own: first handle, position, number of k-mers.
-fn show_stretches(
-    rt: &impl Print,
-    firsts: &[u32],
-    positions: &[u32],
-    numbers: &[u32],
-) -> io::Result<()> {
-    for ((first, at), number) in firsts.iter().zip(positions).zip(numbers) {
+fn show_stretches(rt: &impl Print, index: Index) -> io::Result<()> {
+    for ((first, at), number) in index.firsts.iter().zip(index.positions).zip(index.numbers) {
         show(
             rt,
             b"stretch",
@@ -91,133 +84,53 @@ fn show_weight(
 }
 
 // Asks a word, with p = 2.
-fn ask_word(
-    rt: &impl Print,
-    word: &[u8],
-    firsts: &[u32],
-    positions: &[u32],
-    numbers: &[u32],
-    before: &[u32],
-) -> io::Result<()> {
-    let answer = quick::quick(3, 2, word, &LETTERS, firsts, positions, numbers, before);
+fn ask_word(rt: &impl Print, word: &[u8], index: Index) -> io::Result<()> {
+    let answer = quick::quick(3, 2, word, &LETTERS, index);
     show_quick(rt, word, answer)
 }
 
 // Asks CAG with another p: the index does not fit.
-fn ask_with(
-    rt: &impl Print,
-    asked: &[u8],
-    p: usize,
-    firsts: &[u32],
-    positions: &[u32],
-    numbers: &[u32],
-    before: &[u32],
-) -> io::Result<()> {
-    let answer = quick::quick(3, p, b"CAG", &LETTERS, firsts, positions, numbers, before);
+fn ask_with(rt: &impl Print, asked: &[u8], p: usize, index: Index) -> io::Result<()> {
+    let answer = quick::quick(3, p, b"CAG", &LETTERS, index);
     show_quick(rt, asked, answer)
 }
 
-fn ask_words(
-    rt: &impl Print,
-    firsts: &[u32],
-    positions: &[u32],
-    numbers: &[u32],
-    before: &[u32],
-) -> io::Result<()> {
-    ask_word(rt, b"CAG", firsts, positions, numbers, before)?;
-    ask_word(rt, b"TTT", firsts, positions, numbers, before)?;
-    ask_word(rt, b"CCC", firsts, positions, numbers, before)?;
-    ask_word(rt, b"GGC", firsts, positions, numbers, before)?;
-    ask_word(rt, b"GGCT", firsts, positions, numbers, before)?;
-    ask_with(rt, b"p = 9", 9, firsts, positions, numbers, before)?;
-    ask_with(rt, b"p = 1", 1, firsts, positions, numbers, before)
+fn ask_words(rt: &impl Print, index: Index) -> io::Result<()> {
+    ask_word(rt, b"CAG", index)?;
+    ask_word(rt, b"TTT", index)?;
+    ask_word(rt, b"CCC", index)?;
+    ask_word(rt, b"GGC", index)?;
+    ask_word(rt, b"GGCT", index)?;
+    ask_with(rt, b"p = 9", 9, index)?;
+    ask_with(rt, b"p = 1", 1, index)
 }
 
 // The weight of a word, by the run list of n k-mers.
-fn weigh(
-    rt: &impl Print,
-    asked: &[u8],
-    word: &[u8],
-    n: usize,
-    firsts: &[u32],
-    positions: &[u32],
-    numbers: &[u32],
-    before: &[u32],
-) -> io::Result<()> {
-    let answer = quick::weigh(
-        3,
-        2,
-        word,
-        &LETTERS,
-        firsts,
-        positions,
-        numbers,
-        before,
-        &RUN_WEIGHTS,
-        &RUN_FIRSTS,
-        n,
-    );
+fn weigh(rt: &impl Print, asked: &[u8], word: &[u8], n: usize, index: Index) -> io::Result<()> {
+    let list = RunList {
+        weights: &[2, 5, 3, 7, 2],
+        firsts: &[1, 3, 5, 7, 10],
+    };
+    let answer = quick::weigh(3, 2, word, &LETTERS, index, list, n);
     show_weight(rt, asked, answer)
 }
 
-fn weigh_all(
-    rt: &impl Print,
-    firsts: &[u32],
-    positions: &[u32],
-    numbers: &[u32],
-    before: &[u32],
-) -> io::Result<()> {
-    weigh(
-        rt,
-        b"weight of CAG",
-        b"CAG",
-        10,
-        firsts,
-        positions,
-        numbers,
-        before,
-    )?;
-    weigh(
-        rt,
-        b"weight of CCC",
-        b"CCC",
-        10,
-        firsts,
-        positions,
-        numbers,
-        before,
-    )?;
-    weigh(
-        rt,
-        b"weight of CAG, n = 7",
-        b"CAG",
-        7,
-        firsts,
-        positions,
-        numbers,
-        before,
-    )
+fn weigh_all(rt: &impl Print, index: Index) -> io::Result<()> {
+    weigh(rt, b"weight of CAG", b"CAG", 10, index)?;
+    weigh(rt, b"weight of CCC", b"CCC", 10, index)?;
+    weigh(rt, b"weight of CAG, n = 7", b"CAG", 7, index)
 }
 
 // Indexes a collection into tables that have room for seven stretches, but for the numbers of k-mers.
-fn index_short(
-    rt: &impl Print,
-    asked: &[u8],
-    letters: &[u8],
-    ends: &[u32],
-    weights: &[u32],
-) -> io::Result<()> {
+fn index_short(rt: &impl Print, asked: &[u8], given: Collection) -> io::Result<()> {
     let mut firsts = [0u32; 7];
     let mut positions = [0u32; 7];
     let mut numbers = [0u32; 6];
     let mut before = [0u32; 17];
     let mut work = [0u32; 40];
     let answer = index::index(
-        3,
+        given,
         2,
-        letters,
-        ends,
-        weights,
         &mut firsts,
         &mut positions,
         &mut numbers,
@@ -229,21 +142,21 @@ fn index_short(
 
 // A table that is too short, and a word that repeats.
 fn refused(rt: &impl Print) -> io::Result<()> {
-    index_short(rt, b"numbers too short", &LETTERS, &ENDS, &WEIGHTS)?;
-    index_short(rt, b"ACG and CGT", b"ACGCGT", &[3, 6], &[1, 1])
+    index_short(rt, b"numbers too short", sheet(3))?;
+    let twice = Collection {
+        k: 3,
+        letters: b"ACGCGT",
+        ends: &[3, 6],
+        weights: &[1, 1],
+    };
+    index_short(rt, b"ACG and CGT", twice)
 }
 
 // The seven stretches, and the questions.
-fn after(
-    rt: &impl Print,
-    firsts: &[u32],
-    positions: &[u32],
-    numbers: &[u32],
-    before: &[u32],
-) -> io::Result<()> {
-    show_stretches(rt, firsts, positions, numbers)?;
-    ask_words(rt, firsts, positions, numbers, before)?;
-    weigh_all(rt, firsts, positions, numbers, before)
+fn after(rt: &impl Print, index: Index) -> io::Result<()> {
+    show_stretches(rt, index)?;
+    ask_words(rt, index)?;
+    weigh_all(rt, index)
 }
 
 // INDEX, the stretches, the questions, and what INDEX refuses.
@@ -254,11 +167,8 @@ pub(crate) fn ask_all(rt: &impl Print) -> io::Result<()> {
     let mut before = [0u32; 17];
     let mut work = [0u32; 40];
     let a = index::index(
-        3,
+        sheet(3),
         2,
-        &LETTERS,
-        &ENDS,
-        &WEIGHTS,
         &mut firsts,
         &mut positions,
         &mut numbers,
@@ -266,6 +176,12 @@ pub(crate) fn ask_all(rt: &impl Print) -> io::Result<()> {
         &mut work,
     );
     show_index(rt, b"index", a)?;
-    after(rt, &firsts, &positions, &numbers, &before)?;
+    let index = Index {
+        firsts: &firsts,
+        positions: &positions,
+        numbers: &numbers,
+        before: &before,
+    };
+    after(rt, index)?;
     refused(rt)
 }

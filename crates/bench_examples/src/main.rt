@@ -5,9 +5,10 @@
 mod asking;
 mod reordering;
 
-use collection::{Refusal, Side};
+use collection::{Collection, Refusal, Side};
 use std::io;
 use std::io::Write;
+use weight::RunList;
 
 // The sheet of the examples after the places +1 +4 -3 -2.
 pub(crate) const LETTERS: [u8; 18] = *b"AAACCTGTAGGCTGAGAT";
@@ -15,6 +16,15 @@ pub(crate) const LETTERS: [u8; 18] = *b"AAACCTGTAGGCTGAGAT";
 pub(crate) const ENDS: [u32; 4] = [5, 9, 14, 18];
 
 pub(crate) const WEIGHTS: [u32; 10] = [2, 2, 5, 5, 3, 3, 7, 7, 7, 2];
+
+pub(crate) fn sheet(k: usize) -> Collection<'static> {
+    Collection {
+        k,
+        letters: &LETTERS,
+        ends: &ENDS,
+        weights: &WEIGHTS,
+    }
+}
 
 pub(crate) fn show(rt: &impl Print, asked: &[u8], a: u64, b: u64) -> io::Result<()> {
     io::writer(rt).write_all(asked)?;
@@ -54,8 +64,9 @@ pub(crate) fn side_shown(side: Side) -> u64 {
 
 // The letters that ACCESS hands back, and its number and place.
 fn show_access(rt: &impl Print, asked: &[u8], k: usize, handle: usize) -> io::Result<()> {
-    let told = access::access_told(k, &LETTERS, &ENDS, handle);
-    let part = access::access(k, &LETTERS, &ENDS, handle);
+    let given = sheet(k).spelling();
+    let told = access::access_told(given, handle);
+    let part = access::access(given, handle);
     io::writer(rt).write_all(part)?;
     io::writer(rt).write_all(b" ")?;
     show(rt, asked, u64::from(told.number), told.place as u64)
@@ -63,7 +74,7 @@ fn show_access(rt: &impl Print, asked: &[u8], k: usize, handle: usize) -> io::Re
 
 // The handle of a word and 1 for side +, 2 for side -; 0 and 0 if absent; 100 + number and the place if refused.
 fn show_plain(rt: &impl Print, word: &[u8]) -> io::Result<()> {
-    match plain::plain(3, &LETTERS, &ENDS, &WEIGHTS, word) {
+    match plain::plain(sheet(3), word) {
         Ok(Some(standing)) => show(rt, word, standing.handle as u64, side_shown(standing.side)),
         Ok(None) => show(rt, word, 0, 0),
         Err(refusal) => show_refusal(rt, word, refusal),
@@ -71,8 +82,8 @@ fn show_plain(rt: &impl Print, word: &[u8]) -> io::Result<()> {
 }
 
 // Each run's weight and first handle, in a line of its own.
-fn show_list(rt: &impl Print, weights: &[u32], firsts: &[u32]) -> io::Result<()> {
-    for (weight, first) in weights.iter().zip(firsts) {
+fn show_list(rt: &impl Print, list: RunList) -> io::Result<()> {
+    for (weight, first) in list.weights.iter().zip(list.firsts) {
         show(rt, b"run", u64::from(*weight), u64::from(*first))?;
     }
     Ok(())
@@ -94,50 +105,55 @@ pub(crate) fn show_count(
 fn runs_all(rt: &impl Print) -> io::Result<()> {
     let mut weights = [0u32; 5];
     let mut firsts = [0u32; 5];
-    let answer = runs::runs(3, &LETTERS, &ENDS, &WEIGHTS, &mut weights, &mut firsts);
+    let answer = runs::runs(sheet(3), &mut weights, &mut firsts);
     show_count(rt, b"runs", answer)?;
-    show_list(rt, &weights, &firsts)
+    let list = RunList {
+        weights: &weights,
+        firsts: &firsts,
+    };
+    show_list(rt, list)
 }
 
 // The weight of a handle in the run list of the sheet, or 100 + number and the place if refused.
 fn show_weight(rt: &impl Print, asked: &[u8], n: usize, handle: usize) -> io::Result<()> {
-    match weight::weight(&[2, 5, 3, 7, 2], &[1, 3, 5, 7, 10], n, handle) {
+    let list = RunList {
+        weights: &[2, 5, 3, 7, 2],
+        firsts: &[1, 3, 5, 7, 10],
+    };
+    match weight::weight(list, n, handle) {
         Ok(weight) => show(rt, asked, u64::from(weight), 0),
         Err(refusal) => show_refusal(rt, asked, refusal),
     }
 }
 
-fn judge(
-    rt: &impl Print,
-    asked: &[u8],
-    k: usize,
-    letters: &[u8],
-    ends: &[u32],
-    weights: &[u32],
-) -> io::Result<()> {
-    show_verdict(
-        rt,
-        asked,
-        collection::judge_collection(k, letters, ends, weights),
-    )
-}
-
-fn judge_sheet(rt: &impl Print, asked: &[u8], k: usize) -> io::Result<()> {
-    judge(rt, asked, k, &LETTERS, &ENDS, &WEIGHTS)
+fn judge(rt: &impl Print, asked: &[u8], given: Collection) -> io::Result<()> {
+    show_verdict(rt, asked, given.judge())
 }
 
 fn judge_none(rt: &impl Print) -> io::Result<()> {
-    judge(rt, b"no strings", 3, b"", &[], &[])
+    let none = Collection {
+        k: 3,
+        letters: b"",
+        ends: &[],
+        weights: &[],
+    };
+    judge(rt, b"no strings", none)
 }
 
 // One string of 31 letters, with one weight.
 fn judge_long(rt: &impl Print, asked: &[u8], k: usize, weight: u32) -> io::Result<()> {
-    judge(rt, asked, k, &[b'A'; 31], &[31], &[weight])
+    let long = Collection {
+        k,
+        letters: &[b'A'; 31],
+        ends: &[31],
+        weights: &[weight],
+    };
+    judge(rt, asked, long)
 }
 
 fn judge_all(rt: &impl Print) -> io::Result<()> {
-    judge_sheet(rt, b"the sheet of the examples", 3)?;
-    judge_sheet(rt, b"k = 2", 2)?;
+    judge(rt, b"the sheet of the examples", sheet(3))?;
+    judge(rt, b"k = 2", sheet(2))?;
     judge_long(rt, b"k = 31, weight 1", 31, 1)?;
     judge_long(rt, b"k = 32", 32, 1)?;
     judge_long(rt, b"weight 0", 31, 0)?;
@@ -175,35 +191,36 @@ fn weigh_all(rt: &impl Print) -> io::Result<()> {
 }
 
 // How many k-mers CHECK looked at, or 100 + number and the place if it refuses.
-fn show_check(
-    rt: &impl Print,
-    asked: &[u8],
-    k: usize,
-    letters: &[u8],
-    ends: &[u32],
-    weights: &[u32],
-) -> io::Result<()> {
+fn show_check(rt: &impl Print, asked: &[u8], given: Collection) -> io::Result<()> {
     let mut work = [0u32; 64];
-    let answer = repeats::check(k, letters, ends, weights, &mut work);
+    let answer = repeats::check(given, &mut work);
     show_count(rt, asked, answer)
 }
 
 // Two strings of three letters.
 fn check_two(rt: &impl Print, asked: &[u8], letters: &[u8]) -> io::Result<()> {
-    show_check(rt, asked, 3, letters, &[3, 6], &[1, 1])
-}
-
-fn check_sheet(rt: &impl Print) -> io::Result<()> {
-    show_check(rt, b"the sheet checked", 3, &LETTERS, &ENDS, &WEIGHTS)
+    let two = Collection {
+        k: 3,
+        letters,
+        ends: &[3, 6],
+        weights: &[1, 1],
+    };
+    show_check(rt, asked, two)
 }
 
 // A word that is its own reverse complement, once.
 fn check_own(rt: &impl Print) -> io::Result<()> {
-    show_check(rt, b"ACGT is its own pair", 4, b"ACGT", &[4], &[1])
+    let own = Collection {
+        k: 4,
+        letters: b"ACGT",
+        ends: &[4],
+        weights: &[1],
+    };
+    show_check(rt, b"ACGT is its own pair", own)
 }
 
 fn check_all(rt: &impl Print) -> io::Result<()> {
-    check_sheet(rt)?;
+    show_check(rt, b"the sheet checked", sheet(3))?;
     check_two(rt, b"ACG and CGT", b"ACGCGT")?;
     check_two(rt, b"ACG and GTC", b"ACGGTC")?;
     check_own(rt)

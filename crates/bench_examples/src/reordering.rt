@@ -1,6 +1,6 @@
 // The sheet of the examples as it was given: COVER finds places, APPLY writes the new collection, RUNS counts its runs.
 use crate::{show, show_count, show_refusal};
-use collection::Refusal;
+use collection::{Collection, Refusal};
 use cover::Covered;
 use std::io;
 
@@ -10,17 +10,20 @@ const ENDS: [u32; 4] = [5, 9, 14, 18];
 
 const WEIGHTS: [u32; 10] = [2, 2, 5, 7, 2, 7, 7, 3, 3, 5];
 
+fn sheet() -> Collection<'static> {
+    Collection {
+        k: 3,
+        letters: &LETTERS,
+        ends: &ENDS,
+        weights: &WEIGHTS,
+    }
+}
+
 // How many runs a collection has.
-fn show_runs(
-    rt: &impl Print,
-    asked: &[u8],
-    letters: &[u8],
-    ends: &[u32],
-    weights: &[u32],
-) -> io::Result<()> {
+fn show_runs(rt: &impl Print, asked: &[u8], given: Collection) -> io::Result<()> {
     let mut run_weights = [0u32; 10];
     let mut run_firsts = [0u32; 10];
-    let answer = runs::runs(3, letters, ends, weights, &mut run_weights, &mut run_firsts);
+    let answer = runs::runs(given, &mut run_weights, &mut run_firsts);
     show_count(rt, asked, answer)
 }
 
@@ -31,20 +34,23 @@ fn show_applied(rt: &impl Print, asked: &[u8], places: &[i32]) -> io::Result<()>
     let mut weights = [0u32; 10];
     let mut work = [0u32; 4];
     let answer = apply::apply(
-        3,
-        &LETTERS,
-        &ENDS,
-        &WEIGHTS,
+        sheet(),
         places,
         &mut letters,
         &mut ends,
         &mut weights,
         &mut work,
     );
-    match answer {
-        Ok(_) => show_runs(rt, asked, &letters, &ends, &weights),
-        Err(refusal) => show_refusal(rt, asked, refusal),
+    if let Err(refusal) = answer {
+        return show_refusal(rt, asked, refusal);
     }
+    let reordered = Collection {
+        k: 3,
+        letters: &letters,
+        ends: &ends,
+        weights: &weights,
+    };
+    show_runs(rt, asked, reordered)
 }
 
 fn show_cover(rt: &impl Print, answer: Result<Covered, Refusal>) -> io::Result<()> {
@@ -61,10 +67,10 @@ fn show_cover(rt: &impl Print, answer: Result<Covered, Refusal>) -> io::Result<(
 
 // The number of places that COVER fills and its paths, and the runs with these places.
 pub(crate) fn cover_sheet(rt: &impl Print) -> io::Result<()> {
-    show_runs(rt, b"runs as given", &LETTERS, &ENDS, &WEIGHTS)?;
+    show_runs(rt, b"runs as given", sheet())?;
     let mut places = [0i32; 4];
     let mut work = [0u32; 64];
-    let answer = cover::cover(3, &LETTERS, &ENDS, &WEIGHTS, &mut places, &mut work);
+    let answer = cover::cover(sheet(), &mut places, &mut work);
     show_cover(rt, answer)?;
     show_applied(rt, b"runs as covered", &places)
 }

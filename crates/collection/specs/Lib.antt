@@ -7,3 +7,4 @@ pub mod Strings
 pub mod EndWeights
 pub mod Tables
 pub mod Ready
+pub mod Lent

@@ -5,14 +5,15 @@
 pub mod inner;
 mod judging;
 mod refusal;
+mod tables;
 
 ghost use Rattle.std.specs.Prelude.{◌≡◌};
-ghost use Rattle.collection.specs.Collection.{spelling, collection};
 ghost use Rattle.collection.specs.Tables.{rooms, rooms_verdict};
 ghost use Rattle.collection.specs.Verdict.{room_verdict};
-ghost use Rattle.collection.specs.Judge.{k_verdict, size_verdict, shape_verdict, collection_verdict, handle_verdict, word_verdict};
+ghost use Rattle.collection.specs.Judge.{k_verdict, size_verdict, handle_verdict, word_verdict};
 
 pub use refusal::{Refusal, Told};
+pub use tables::{Collection, Spelling};
 
 // As it was asked (+), or as its reverse complement (-).
 #[derive(Clone, Copy, Debug, PartialEq, Eq)]
@@ -41,32 +42,6 @@ pub fn judge_size(letters: usize, strings: usize) -> Result<(), Refusal>
         return Ok(());
     }
     Err(Refusal::Limits)
-}
-
-// 2, 3, 4: the strings have their places.
-#[tactic(auto, unfolding(crate::specs::Judge::shape_verdict, crate::specs::Verdict::and_then), using(crate::proofs::Judged::k_good))]
-pub fn judge_shape(k: usize, letters: &[u8], ends: &[u32]) -> Result<(), Refusal>
-    ensures { result ≡ shape_verdict (spelling k letters.now ends.now) }
-{
-    judge_k(k)?;
-    judge_size(letters.len(), ends.len())?;
-    judging::judge_ends(k, letters.len(), ends)
-}
-
-// 2 to 6, in order.
-#[tactic(auto, unfolding(crate::specs::Judge::collection_verdict, crate::specs::Verdict::and_then))]
-pub fn judge_collection(
-    k: usize,
-    letters: &[u8],
-    ends: &[u32],
-    weights: &[u32],
-) -> Result<(), Refusal>
-    ensures { result ≡ collection_verdict (collection k letters.now ends.now weights.now) }
-{
-    judge_shape(k, letters, ends)?;
-    judging::judge_letters(letters)?;
-    let n = inner::kmer_count(k, letters.len(), ends.len());
-    judging::judge_weights(n, weights)
 }
 
 // 1: a lent table of `have` entries where `need` are needed.

@@ -5,9 +5,9 @@ mod covering;
 
 ghost use Rattle.std.specs.Prelude.{◌≡◌};
 ghost use Rattle.cover.specs.Cover.{cover_verdict, Promise};
-ghost use Rattle.collection.specs.Collection.{collection};
+ghost use Rattle.collection.specs.Lent.{collection_in};
 
-use collection::Refusal;
+use collection::{Collection, Refusal};
 
 // What COVER answers: how many places it filled, and how many paths they make.
 #[derive(Clone, Copy, Debug, PartialEq, Eq)]
@@ -18,36 +18,22 @@ pub struct Covered {
 
 // Judges the collection (2 to 6), then the room for the places and the work (1).
 #[tactic(auto, unfolding(crate::specs::Cover::cover_verdict, collection::specs::Verdict::and_then))]
-fn judge_cover(
-    k: usize,
-    letters: &[u8],
-    ends: &[u32],
-    weights: &[u32],
-    places: &[i32],
-    work: &[u32],
-) -> Result<(), Refusal>
-    ensures { result ≡ cover_verdict (collection k letters.now ends.now weights.now) places.now work.now }
+fn judge_cover(given: Collection, places: &[i32], work: &[u32]) -> Result<(), Refusal>
+    ensures { result ≡ cover_verdict (collection_in given.entry) places.now work.now }
 {
-    collection::judge_collection(k, letters, ends, weights)?;
-    let m = ends.len();
+    given.judge()?;
+    let m = given.ends.len();
     collection::judge_room(places.len(), m)?;
     collection::judge_room(work.len(), 16 * m)
 }
 
 // COVER: fills one signed place for each string, so that the strings in their new order, turned where the place is negative, have the fewest paths.
-pub fn cover(
-    k: usize,
-    letters: &[u8],
-    ends: &[u32],
-    weights: &[u32],
-    places: &mut [i32],
-    work: &mut [u32],
-) -> Result<Covered, Refusal>
-    ensures { Promise (collection k letters.now ends.now weights.now) places.old work.old result
-        places.new work.new }
+#[tactic(auto, using(crate::proofs::Promised::cover_good))]
+pub fn cover(given: Collection, places: &mut [i32], work: &mut [u32]) -> Result<Covered, Refusal>
+    ensures { Promise (collection_in given.entry) places.old work.old result places.new work.new }
 {
-    judge_cover(k, letters, ends, weights, places, work)?;
-    let m = ends.len();
+    judge_cover(given, places, work)?;
+    let m = given.ends.len();
     if m == 0 {
         return Ok(Covered {
             places: 0,
@@ -55,6 +41,12 @@ pub fn cover(
         });
     }
     let need = 16 * m;
-    let paths = covering::cover_strings(k, ends, weights, &mut places[..m], &mut work[..need]);
+    let paths = covering::cover_strings(
+        given.k,
+        given.ends,
+        given.weights,
+        &mut places[..m],
+        &mut work[..need],
+    );
     Ok(Covered { places: m, paths })
 }

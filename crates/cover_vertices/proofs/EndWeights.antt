@@ -1,5 +1,5 @@
 -- The end weights of strings, one string after the other as a loop meets them.
-use mathlib.Core.Path.{◌≡◌, refl, ap, ap₂, ◌∙◌}
+use mathlib.Core.Path.{◌≡◌, refl, sym, ap, ap₂, ◌∙◌}
 use mathlib.Core.List.{List, [], ◌∷◌, map}
 use Prim.Native.Nat.{ℕ, suc, ◌+◌, ◌-◌, ◌*◌, ◌<◌, ◌≤◌}
 use native.Mathlib.Omega.{arith}
@@ -7,8 +7,8 @@ use lib.ListN.{length, get_or, set, take, drop, length-append, length-drop, drop
 use lib.Seq.{length-take-le, get_or-take, get_or-drop, drop-drop}
 use Rattle.lists.specs.Count.{count_from}
 use Rattle.lists.proofs.Count.{length_count}
-use Rattle.lists.specs.Fill.{put}
-use Rattle.lists.proofs.Storing.{drop_next, Storing, begin_at, store, restated, stored}
+use Rattle.cover_vertices.proofs.Ladder.{fill_whole}
+use Rattle.lists.proofs.Storing.{drop_next, Storing, begin, store, restated, stored}
 use Rattle.collection_faults.specs.Faults.{first_short}
 use Rattle.collection.specs.Collection.{Spelling, collection}
 use Rattle.collection.specs.Kmers.{within, kmers_from, kmers}
@@ -86,41 +86,44 @@ ends_end k before ends ws i l = ap (λ (L : List ℕ). weights (ends_from k befo
 
 -- ─── a loop that stores them ─────────────────────────────────────────────────
 
--- the end weights of i strings are stored from entry `at` on; the last of these strings ends at `before`, and they have `passed` weights
-pub record Writing (k at : ℕ) (ends ws w₀ w : List ℕ) (before passed i : ℕ) : Type 0 where
+-- the end weights of i strings are stored; the last of these strings ends at `before`, and they have `passed` weights
+pub record Writing (k : ℕ) (ends ws keys : List ℕ) (before passed i : ℕ) : Type 0 where
   pub walk : WeightsLeft k ends ws i before passed
-  pub storing : Storing (length w₀) w (put at (weights (ends_from k 0 ends ws)) w₀) (weights (ends_from k before (drop i ends) (drop passed ws))) (at + 2 * i)
+  pub storing :
+      Storing (2 * length ends) keys (weights (ends_from k 0 ends ws)) (weights (ends_from k before (drop i ends) (drop passed ws))) (2 * i)
 
 -- nothing is stored yet
-pub writing_start : (k at : ℕ) (ends ws w : List ℕ) → Strung k ends ws → at + 2 * length ends ≤ length w → Writing k at ends ws w w 0 0 0
-writing_start k at ends ws w s h =
-    let e : at + 2 * 0 ≡ at = omega arith in
+pub writing_start : (k : ℕ) (ends ws keys : List ℕ) → Strung k ends ws → length keys ≡ 2 * length ends → Writing k ends ws keys 0 0 0
+writing_start k ends ws keys s h =
+    let xs : List ℕ = weights (ends_from k 0 ends ws) in
+    let l : length xs ≡ length keys = length_keys k ends ws ∙ sym h in
+    let b = begin keys xs (omega arith) in
     record {
       walk = weights_begin s;
-      storing = rw e (begin_at at w (weights (ends_from k 0 ends ws)) (omega (arith, length-weights (ends_from k 0 ends ws), length-ends k 0 ends ws)));
+      storing = record { size_kept = h; room = b.room; ends = b.ends ∙ fill_whole xs keys l };
     }
 
-module _ {k at : ℕ} {ends ws w₀ w : List ℕ} {before passed i : ℕ} (g : Writing k at ends ws w₀ w before passed i) where
+module _ {k : ℕ} {ends ws keys : List ℕ} {before passed i : ℕ} (g : Writing k ends ws keys before passed i) where
   module _ (l : i < length ends) {e : ℕ} (is : e ≡ get_or ends i 0) where
-    next_two : Storing (length w₀) w (put at (weights (ends_from k 0 ends ws)) w₀)
+    next_two : Storing (2 * length ends) keys (weights (ends_from k 0 ends ws))
         (get_or ws passed 0 ∷ (get_or ws (passed + within k before e - 1) 0 ∷ weights
         (ends_from k e (drop (i + 1) ends) (drop (passed + within k before e) ws))))
-        (at + 2 * i)
+        (2 * i)
     next_two =
         let q : passed + within k before e - 1 ≡ passed + (within k before e - 1) = omega (arith, (string_here g.walk l is).long) in
         rw (q, is) (restated (ends_next k before ends ws i passed l) g.storing)
 
     -- its end weights are stored
     pub writing_on : 1 ≤ k
-        → Writing k at ends ws w₀ (set (set w (at + 2 * i) (get_or ws passed 0)) (at + 2 * i + 1) (get_or ws (passed + within k before e - 1) 0)) e
+        → Writing k ends ws (set (set keys (2 * i) (get_or ws passed 0)) (2 * i + 1) (get_or ws (passed + within k before e - 1) 0)) e
         (passed + within k before e) (i + 1)
     writing_on k1 =
-        let q : at + 2 * (i + 1) ≡ at + 2 * i + 1 + 1 = omega arith in
+        let q : 2 * (i + 1) ≡ 2 * i + 1 + 1 = omega arith in
         record {
           walk = weights_on g.walk l is k1;
           storing = rw q (store (store next_two));
         }
 
   -- behind the last string all end weights are stored
-  pub writing_end : length ends ≤ i → w ≡ put at (weights (ends_from k 0 ends ws)) w₀
+  pub writing_end : length ends ≤ i → keys ≡ weights (ends_from k 0 ends ws)
   writing_end h = stored (restated (ends_end k before ends (drop passed ws) i h) g.storing)

@@ -1,14 +1,11 @@
 -- Laws of numbers at equal steps.
-use mathlib.Core.Path.{◌≡◌, refl, ap, sym, subst, ◌∙◌}
+use mathlib.Core.Path.{◌≡◌, refl, ap, ◌∙◌}
 use mathlib.Core.List.{List, [], ◌∷◌, ◌++◌, append-nil}
 use Prim.Native.Nat.{ℕ, zero, suc, ◌+◌, ◌-◌, ◌*◌, ◌^◌, ◌<◌, ◌≤◌}
 use native.Mathlib.Nat.{suc-mul, zero-mul}
 use native.Mathlib.Omega.{arith}
-use lib.ListN.{length, get_or, set, take, drop, replicate, drop_of_length-le, length-take, length-drop}
-use lib.Seq.{drop-drop}
-use Rattle.lists.specs.Fill.{put, fill}
-use Rattle.lists.specs.Regions.{part, Apart}
-use Rattle.lists.proofs.Puts.{put_part, put_other}
+use lib.ListN.{length, get_or, set, replicate, drop_of_length-le}
+use Rattle.lists.specs.Fill.{fill}
 use Rattle.lists.proofs.Storing.{Storing, begin, store, restated, stored}
 use Rattle.cover_vertices.specs.Ladder.{ladder}
 
@@ -39,82 +36,52 @@ pub ladder_end : (x step n i : ℕ) → n ≤ i → ladder x step (n - i) ≡ []
 unfolding ladder
 ladder_end x step n i h = let e : n - i ≡ 0 = omega arith in ap (ladder x step) e
 
+-- as many entries as a table has are all of it
+pub fill_whole : (xs p : List ℕ) → length xs ≡ length p → fill xs p ≡ xs
+fill_whole xs p l = ap (λ (t : List ℕ). xs ++ t) (drop_of_length-le p (omega arith)) ∙ append-nil xs
+
 -- ─── a loop that stores them ─────────────────────────────────────────────────
 
 -- in a part of n entries i of n numbers are stored, the next is x
-pub record Climbing (n first step : ℕ) (p₀ p : List ℕ) (x i : ℕ) : Type 0 where
-  pub whole : length p₀ ≡ n
+pub record Climbing (n first step : ℕ) (p : List ℕ) (x i : ℕ) : Type 0 where
   pub inside : i ≤ n
   pub bound : x + (n - i) * step < 2 ^ 32
   pub storing : Storing n p (ladder first step n) (ladder x step (n - i)) i
 
 -- nothing is stored yet
-pub climb_start : (n first step : ℕ) (p : List ℕ) → length p ≡ n → first + n * step < 2 ^ 32 → Climbing n first step p p first 0
+pub climb_start : (n first step : ℕ) (p : List ℕ) → length p ≡ n → first + n * step < 2 ^ 32 → Climbing n first step p first 0
 climb_start n first step p w b =
     let e : n - 0 ≡ n = omega arith in
     let xs : List ℕ = ladder first step n in
     let l : length xs ≡ n = length-ladder first step n in
     let s = begin p xs (omega arith) in
-    let full : fill xs p ≡ xs = ap (λ (t : List ℕ). xs ++ t) (drop_of_length-le p (omega arith)) ∙ append-nil xs in
-    record { whole = w; inside = omega arith; bound = rw e b; storing = rw e (record { size_kept = w; room = s.room; ends = s.ends ∙ full }) }
+    record {
+      inside = omega arith;
+      bound = rw e b;
+      storing = rw e (record { size_kept = w; room = s.room; ends = s.ends ∙ fill_whole xs p (omega arith) });
+    }
 
-module _ {n first step : ℕ} {p₀ p : List ℕ} {x i : ℕ} (c : Climbing n first step p₀ p x i) where
-  module _ (h : i < length p₀) where
-    low : i < n
-    low = omega (arith, c.whole)
-
+module _ {n first step : ℕ} {p : List ℕ} {x i : ℕ} (c : Climbing n first step p x i) where
+  module _ (low : i < n) where
     -- the number after the next fits
     pub climb_fits : x + step < 2 ^ 32
     climb_fits = omega (arith, c.bound, step_next x step n i low)
 
     -- the next is stored
-    pub climb_on : Climbing n first step p₀ (set p i x) (x + step) (i + 1)
+    pub climb_on : Climbing n first step (set p i x) (x + step) (i + 1)
     climb_on =
         record {
-          whole = c.whole;
-          inside = omega (arith, low);
+          inside = omega arith;
           bound = omega (arith, c.bound, step_next x step n i low);
           storing = store (restated (ladder_next x step n i low) c.storing);
         }
 
   -- all numbers are stored
-  pub climb_end : length p₀ ≤ i → p ≡ ladder first step n
-  climb_end h = stored (restated (ladder_end x step n i (omega (arith, c.whole))) c.storing)
-
--- ─── a part that holds a ladder ──────────────────────────────────────────────
-
--- the part of the table from entry `at` on holds the ladder: what that makes of the table
-pub ladder_put : (at k n x step : ℕ) (w : List ℕ) {p : List ℕ} → p ≡ ladder x step n → k ≡ n
-    → take at w ++ (p ++ drop k (drop at w)) ≡ put at (ladder x step n) w
-ladder_put at k n x step w e q =
-    let l : at + k ≡ at + length (ladder x step n) = omega (arith, length-ladder x step n) in
-    rw e (ap (λ (t : List ℕ). take at w ++ (ladder x step n ++ t)) (drop-drop k at w ∙ ap (λ (j : ℕ). drop j w) l))
+  pub climb_end : n ≤ i → p ≡ ladder first step n
+  climb_end h = stored (restated (ladder_end x step n i h) c.storing)
 
 -- steps of 0
-ladder_same : (x n : ℕ) → ladder x 0 n ≡ replicate n x
+pub ladder_same : (x n : ℕ) → ladder x 0 n ≡ replicate n x
 unfolding ladder
 ladder_same x zero = refl
 ladder_same x (suc n) = let e : x + 0 ≡ x = omega arith in rw e (ap (λ (t : List ℕ). x ∷ t) (ladder_same x n))
-
--- a part that was filled
-pub filled_put : (at k n x : ℕ) (w : List ℕ) {p : List ℕ} → p ≡ replicate (length (take k (drop at w))) x → k ≡ n → at + n ≤ length w
-    → take at w ++ (p ++ drop k (drop at w)) ≡ put at (ladder x 0 n) w
-filled_put at k n x w e q h =
-    let l : length (take k (drop at w)) ≡ n = omega (arith, length-take k (drop at w), length-drop at w) in
-    ladder_put at k n x 0 w (e ∙ (ap (λ (j : ℕ). replicate j x) l ∙ sym (ladder_same x n))) q
-
--- ─── the table with a ladder in it ───────────────────────────────────────────
-
-module _ (at n x step : ℕ) (w : List ℕ) {v : List ℕ} (e : v ≡ put at (ladder x step n) w) (h : at + n ≤ length w) where
-  -- its region holds the ladder
-  pub ladder-part : part at n v ≡ ladder x step n
-  ladder-part =
-      subst (λ (k : ℕ). part at k v ≡ ladder x step n) (length-ladder x step n)
-      (subst (λ (u : List ℕ). part at (length (ladder x step n)) u ≡ ladder x step n) (sym e)
-      (put_part at (ladder x step n) w (omega (arith, length-ladder x step n))))
-
-  -- other regions are as they were
-  pub ladder-other : (b k : ℕ) → Apart b k at n → b + k ≤ length w → part b k v ≡ part b k w
-  ladder-other b k d l =
-      subst (λ (u : List ℕ). part b k u ≡ part b k w) (sym e)
-      (put_other at (ladder x step n) w (omega (arith, length-ladder x step n)) b k (subst (Apart b k at) (sym (length-ladder x step n)) d) l)

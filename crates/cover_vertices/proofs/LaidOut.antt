@@ -1,16 +1,18 @@
 -- The table that the stages leave is ready for the walks.
 use mathlib.Core.Path.{◌≡◌, ap, ap₂, sym, ◌∙◌, subst}
-use mathlib.Core.Logic.{inl, inr}
 use mathlib.Core.List.{List, [], ◌++◌}
 use Prim.Native.Nat.{ℕ, ◌+◌, ◌-◌, ◌*◌, ◌%◌, ◌<◌, ◌≤◌}
 use native.Mathlib.Omega.{arith}
 use native.Mathlib.Decide.{dec_lt}
-use lib.ListN.{length, get_or, drop, length-append, drop_of_length-le, get_or-append, get_or-eq_default}
-use lib.Seq.{get_or-append-add}
+use lib.ListN.{length, get_or, take, drop, length-append, drop_of_length-le, get_or-append, get_or-eq_default}
+use lib.Seq.{get_or-append-add, drop-drop, take_at, drop_at}
+use Rattle.lists.specs.Count.{count_from}
 use Rattle.lists.specs.Every.{All}
-use Rattle.lists.specs.Regions.{part, Apart}
+use Rattle.lists.specs.Pick.{sort_by}
+use Rattle.lists.specs.Regions.{part}
 use Rattle.lists.proofs.Every.{at_all}
-use Rattle.lists.proofs.Regions.{part_length, part-add, only_part}
+use Rattle.lists.proofs.Regions.{part_length}
+use Rattle.sorting.specs.Keys.{key_at}
 use Rattle.cover_trails.specs.Counting.{occurs, oddly}
 use Rattle.cover_trails.specs.Strings.{Ends, weights}
 use Rattle.cover_trails.specs.Renamed.{Renamed}
@@ -19,7 +21,7 @@ use Rattle.cover_trails.specs.Walks.{Reordered, both, AllEven}
 use Rattle.cover_trails.proofs.Counting.{AllBelow, occurs_beyond}
 use Rattle.cover_trails.proofs.Hub.{spokes_to, spoked_even, spoked_listed}
 use Rattle.cover_trails.proofs.Orders.{occurs-reordered, swapped}
-use Rattle.cover_tours.specs.Layout.{Fits, Tables, tables}
+use Rattle.cover_tours.specs.Layout.{Tables, tables}
 use Rattle.cover_tours.specs.Halves.{near, unused, numbered}
 use Rattle.cover_tours.specs.Rows.{Graph, Cursors}
 use Rattle.cover_tours.specs.States.{left, strings, Begun}
@@ -27,11 +29,11 @@ use Rattle.cover_tours.proofs.Halves.{near-string}
 use Rattle.cover_tours.proofs.Tours.{hub_fresh}
 use Rattle.cover_vertices.specs.Firsts.{first_of, keyed}
 use Rattle.cover_vertices.specs.Ladder.{ladder}
-use Rattle.cover_vertices.specs.Promises.{ends_from, keys_in, order_in, verts_in, flags_in, Rising, Ordered, Named, Blank, Marked, LaidOut}
+use Rattle.cover_vertices.specs.Promises.{ends_from, Named, Marked, LaidOut}
 use Rattle.cover_vertices.proofs.LaidRows.{vert_low, laid_graph}
 use Rattle.cover_vertices.proofs.Names.{weights-numbered, laid_renamed}
 use Rattle.cover_vertices.proofs.Ladder.{length-ladder, ladder_at}
-use Rattle.cover_vertices.proofs.Ordering.{in_order, order_rising}
+use Rattle.cover_vertices.proofs.Ordering.{in_order, order_length}
 use Rattle.cover_vertices.proofs.Spokes.{unused-append, unused-none, unused_few, zeros, unused-spokes, zeros_odd}
 
 -- ─── the table ───────────────────────────────────────────────────────────────
@@ -133,83 +135,71 @@ module _ (m : ℕ) (keys verts flags stack : List ℕ) (some : 1 ≤ m)
 
 -- ─── from the stages ─────────────────────────────────────────────────────────
 
--- the vertices are named by the order
-named_verts : {m : ℕ} {keys w₁ w₂ : List ℕ} → Ordered m keys w₁ → Named m (keys_in m w₁) (order_in m w₁) w₁ w₂
-    → (q : ℕ) → q < 2 * m → get_or (verts_in m w₂) (get_or (in_order m keys) q 0) 0 ≡ first_of (keyed keys (in_order m keys)) q
-named_verts {m} {keys} {w₁} {w₂} o n =
-    subst (λ (K : List ℕ). (q : ℕ) → q < 2 * m → get_or (verts_in m w₂) (get_or (in_order m keys) q 0) 0 ≡ first_of (keyed K (in_order m keys)) q) o.keys_are
-    (subst (λ (R : List ℕ). (q : ℕ) → q < 2 * m → get_or (verts_in m w₂) (get_or R q 0) 0 ≡ first_of (keyed (keys_in m w₁) R) q) o.order_is n.vertex)
+-- behind a list stands what follows it
+past : (a b n : ℕ) (xs ys : List ℕ) → length xs ≡ a → part (a + b) n (xs ++ ys) ≡ part b n ys
+unfolding part
+past a b n xs ys l = ap (take n) (sym (drop-drop b a (xs ++ ys)) ∙ ap (drop b) (drop_at xs ys a l))
 
--- what `name_vertices` asks
-pub order_rises : {m : ℕ} {keys w : List ℕ} → Ordered m keys w → Rising m (keys_in m w) (order_in m w)
-order_rises {m} {keys} {w} o = rw (o.keys_are, o.order_is) (order_rising m keys)
+front : {n : ℕ} (xs ys : List ℕ) → length xs ≡ n → part 0 n (xs ++ ys) ≡ xs
+unfolding part
+front {n} xs ys l = take_at xs ys n l
 
--- what `mark_odd` asks
-pub blank_low : {m : ℕ} {keys w₁ w₂ w₃ : List ℕ} → length w₂ ≡ 16 * m → Ordered m keys w₁ → Named m (keys_in m w₁) (order_in m w₁) w₁ w₂ → Blank m w₂ w₃
-    → All (λ x. x < 2 * m) (verts_in m w₃)
-blank_low {m} {keys} {w₁} {w₂} s o n b =
-    subst (All (λ x. x < 2 * m)) (sym b.verts)
-    (at_all (λ v. v < 2 * m) 0 (verts_in m w₂)
-    (λ c l. vert_low m keys (verts_in m w₂) (named_verts o n) c (omega (arith, part_length 0 (2 * m) w₂ (omega arith)))))
+-- the regions of a table that is put together from them
+module _ (m : ℕ) (verts used rows cursors rest : List ℕ) (lv : length verts ≡ 2 * m) (lu : length used ≡ 3 * m) (lr : length rows ≡ 4 * m)
+    (lc : length cursors ≡ 3 * m) where
+  abbrev joined : List ℕ
+  joined = verts ++ (used ++ (rows ++ (cursors ++ rest)))
 
-module _ {m : ℕ} {keys w₁ w₂ w₃ w₄ : List ℕ} (f : Fits m w₁) (lk : length keys ≡ 2 * m) (o : Ordered m keys w₁)
-    (n : Named m (keys_in m w₁) (order_in m w₁) w₁ w₂)
-    (s₃ : length w₃ ≡ length w₁) (b : Blank m w₂ w₃) (d : Marked m w₃ w₄) where
-  kept : (a k : ℕ) → Apart a k (3 * m) (2 * m) → a + k ≤ 16 * m → part a k w₄ ≡ part a k w₃
-  kept a k c l = only_part (3 * m) (2 * m) w₃ w₄ d.rest a k c (omega (arith, f.size))
+  -- past the first regions
+  past_one : (b c n : ℕ) → c ≡ 2 * m + b → part c n joined ≡ part b n (used ++ (rows ++ (cursors ++ rest)))
+  past_one b c n e = rw e (past (2 * m) b n verts _ lv)
 
-  verts_are : verts_in m w₄ ≡ verts_in m w₂
-  verts_are = kept 0 (2 * m) (inl (omega arith)) (omega arith) ∙ b.verts
+  past_two : (b c n : ℕ) → c ≡ 2 * m + (3 * m + b) → part c n joined ≡ part b n (rows ++ (cursors ++ rest))
+  past_two b c n e = past_one (3 * m + b) c n e ∙ past (3 * m) b n used _ lu
 
-  used_are : part (2 * m) (3 * m) w₄ ≡ ladder 0 0 m ++ flags_in m w₄
-  used_are =
-      let q : 3 * m ≡ m + 2 * m = omega arith in
-      let r : 2 * m + m ≡ 3 * m = omega arith in
-      ap (λ (k : ℕ). part (2 * m) k w₄) q
-      ∙ (part-add (2 * m) m (2 * m) w₄
-      ∙ ap₂ (λ (A B : List ℕ). A ++ B) (kept (2 * m) m (inl (omega arith)) (omega arith) ∙ b.unused) (ap (λ (k : ℕ). part k (2 * m) w₄) r))
+  past_three : (b c n : ℕ) → c ≡ 2 * m + (3 * m + (4 * m + b)) → part c n joined ≡ part b n (cursors ++ rest)
+  past_three b c n e = past_two (4 * m + b) c n e ∙ past (4 * m) b n rows _ lr
 
-  rows_are : part (5 * m) (4 * m) w₄ ≡ in_order m keys ++ ladder (2 * m) 2 (2 * m)
-  rows_are =
-      let q : 4 * m ≡ 2 * m + 2 * m = omega arith in
-      let r : 5 * m + 2 * m ≡ 7 * m = omega arith in
-      ap (λ (k : ℕ). part (5 * m) k w₄) q
-      ∙ (part-add (5 * m) (2 * m) (2 * m) w₄
-      ∙ ap₂ (λ (A B : List ℕ). A ++ B)
-      (kept (5 * m) (2 * m) (inr (omega arith)) (omega arith)
-      ∙ (b.order ∙ (only_part 0 (2 * m) w₁ w₂ n.rest (5 * m) (2 * m) (inr (omega arith)) (omega (arith, f.size)) ∙ o.order_is)))
-      (ap (λ (k : ℕ). part k (2 * m) w₄) r ∙ (kept (7 * m) (2 * m) (inr (omega arith)) (omega arith) ∙ b.hub)))
-
-  cursors_are : part (9 * m) (3 * m) w₄ ≡ ladder 0 1 (3 * m)
-  cursors_are = kept (9 * m) (3 * m) (inr (omega arith)) (omega arith) ∙ b.cursors
-
-  tables_are : laid_tables m keys (verts_in m w₂) (flags_in m w₄) (part (12 * m) (3 * m) w₄) ≡ tables m w₄
-  tables_are = λ j. record {
-    verts = sym verts_are j;
-    used = sym used_are j;
-    rows = sym rows_are j;
-    cursors = sym cursors_are j;
-    stack = part (12 * m) (3 * m) w₄;
+  tables_joined : tables m joined ≡ record { verts = verts; used = used; rows = rows; cursors = cursors; stack = part 0 (3 * m) rest }
+  tables_joined = λ j. record {
+    verts = front verts (used ++ (rows ++ (cursors ++ rest))) lv j;
+    used = (past_one 0 (2 * m) (3 * m) (omega arith) ∙ front used (rows ++ (cursors ++ rest)) lu) j;
+    rows = (past_two 0 (5 * m) (4 * m) (omega arith) ∙ front rows (cursors ++ rest) lr) j;
+    cursors = (past_three 0 (9 * m) (3 * m) (omega arith) ∙ front cursors rest lc) j;
+    stack = (past_three (3 * m + 0) (12 * m) (3 * m) (omega arith) ∙ past (3 * m) 0 (3 * m) cursors rest lc) j;
   }
 
-  size₄ : length w₄ ≡ 16 * m
-  size₄ = d.rest.size ∙ (s₃ ∙ f.size)
+-- what the stages leave
+module _ (m : ℕ) (keys order verts : List ℕ) (o : order ≡ sort_by (key_at keys) (count_from 0 (2 * m))) (n : Named keys order verts)
+    (lv : length verts ≡ 2 * m) where
+  named : (q : ℕ) → q < 2 * m → get_or verts (get_or (in_order m keys) q 0) 0 ≡ first_of (keyed keys (in_order m keys)) q
+  named q l = rw o at (n q (rw o (omega (arith, order_length m keys))))
 
-  size₂ : length (verts_in m w₂) ≡ 2 * m
-  size₂ = part_length 0 (2 * m) w₂ (omega (arith, n.rest.size, f.size))
+  -- vertices are below 2m
+  pub named_low : All (λ x. x < 2 * m) verts
+  named_low = at_all (λ v. v < 2 * m) 0 verts (λ c l. vert_low m keys verts named c (omega arith))
 
-  stages_begun : Begun m (tables m w₄)
-  stages_begun =
-      subst (Begun m) tables_are
-      (laid_begun m keys (verts_in m w₂) (flags_in m w₄) (part (12 * m) (3 * m) w₄) f.some (named_verts o n) size₂
-      (part_length (3 * m) (2 * m) w₄ (omega (arith, size₄))) (part_length (12 * m) (3 * m) w₄ (omega (arith, size₄)))
-      (subst (λ (vs : List ℕ). (x : ℕ) → x < 2 * m → (get_or (flags_in m w₄) x 0 + occurs x vs) % 2 ≡ 1) b.verts d.odd) d.flags)
+  module _ (strings spokes hub cursors rest : List ℕ) (some : 1 ≤ m) (a : strings ≡ ladder 0 0 m) (h : hub ≡ ladder (2 * m) 2 (2 * m))
+      (c : cursors ≡ ladder 0 1 (3 * m)) (lk : length keys ≡ 2 * m) (ls : length spokes ≡ 2 * m) (d : Marked verts spokes) (lr : 3 * m ≤ length rest) where
+    abbrev table : List ℕ
+    table = verts ++ ((strings ++ spokes) ++ ((order ++ hub) ++ (cursors ++ rest)))
 
-  -- what the four stages leave
-  pub stages_laid : (k : ℕ) (ends ws : List ℕ) → weights (ends_from k 0 ends ws) ≡ keys → LaidOut k m ends ws w₄
-  stages_laid k ends ws e = record {
-    begun = stages_begun;
-    renamed =
-        subst (λ (vs : List ℕ). Renamed (ends_from k 0 ends ws) (numbered (near m vs) 0 m)) (sym verts_are)
-        (laid_renamed m keys (verts_in m w₂) (named_verts o n) lk size₂ (ends_from k 0 ends ws) e);
-  }
+    tables_are : laid_tables m keys verts spokes (part 0 (3 * m) rest) ≡ tables m table
+    tables_are =
+        rw (← a, ← h, ← c, ← o)
+        (sym (tables_joined m verts (strings ++ spokes) (order ++ hub) cursors rest lv
+        (omega (arith, length-append strings spokes, ap length a, length-ladder 0 0 m))
+        (omega (arith, length-append order hub, ap length o, order_length m keys, ap length h, length-ladder (2 * m) 2 (2 * m)))
+        (ap length c ∙ length-ladder 0 1 (3 * m))))
+
+    -- is ready for the walks
+    pub stages_laid : (k : ℕ) (ends ws : List ℕ) → weights (ends_from k 0 ends ws) ≡ keys → LaidOut k m ends ws table
+    stages_laid k ends ws e = record {
+      begun =
+          subst (Begun m) tables_are
+          (laid_begun m keys verts spokes (part 0 (3 * m) rest) some named lv ls (part_length 0 (3 * m) rest (omega arith))
+          (λ x l. d.odd x (omega arith)) (λ x l. d.flags x (omega arith)));
+      renamed =
+          subst (λ (t : Tables). Renamed (ends_from k 0 ends ws) (numbered (near m t.verts) 0 m)) tables_are
+          (laid_renamed m keys verts named lk lv (ends_from k 0 ends ws) e);
+    }

@@ -5,7 +5,6 @@ pub mod Ordering
 pub mod Firsts
 pub mod Naming
 pub mod Marking
-pub mod Blanks
 pub mod Spokes
 pub mod LaidRows
 pub mod Names

@@ -1,52 +1,64 @@
-// The stages of laying out the work table for m strings. The weights stand at 12m until the vertices are named, and the sort's buffer at 9m.
+// The stages of laying out the work table for m strings: each writes its own regions of it, which `lay_out` lends. The weights stand where the walks' stack
+// will be until the vertices are named, and the sort's buffer is where the cursors will be.
 ghost use Rattle.std.specs.Prelude.{◌≡◌, ◌+◌, ◌*◌, ◌^◌, ◌≤◌, ◌<◌, eqb, length};
 ghost use Rattle.lists.specs.Choose.{choose};
+ghost use Rattle.lists.specs.Count.{count_from};
 ghost use Rattle.lists.specs.Every.{All};
-ghost use Rattle.lists.specs.Fill.{put};
+ghost use Rattle.lists.specs.Limits.{most_strings};
+ghost use Rattle.lists.specs.Pick.{sort_by};
 ghost use Rattle.collection.specs.Ready.{Strung};
+ghost use Rattle.sorting.specs.Keys.{key_at};
 ghost use Rattle.cover_trails.specs.Strings.{weights as all_end_weights};
 ghost use Rattle.cover_tours.specs.Layout.{Fits};
 ghost use Rattle.cover_vertices.specs.Ladder.{ladder};
-ghost use Rattle.cover_vertices.specs.Promises.{ends_from, keys_in, order_in, verts_in, flags_in, Ordered, Rising, Named, Blank, Marked, LaidOut};
+ghost use Rattle.cover_vertices.specs.Promises.{ends_from, Rising, Named, Marked, LaidOut};
 
-// Writes n numbers at equal steps, from entry `at` on.
-fn write_ladder(work: &mut [u32], at: usize, n: usize, first: u32, step: u32)
-    requires { (at + n ≤ length work.old) × (first + n * step < 2 ^ 32) }
-    ensures { work.new ≡ put at (ladder first step n) work.old }
+// Writes numbers at equal steps.
+fn write_ladder(entries: &mut [u32], first: u32, step: u32)
+    requires { first + length entries.old * step < 2 ^ 32 }
+    ensures { entries.new ≡ ladder first step (length entries.old) }
 {
     let mut x = first;
-    for entry in work[at..at + n].iter_mut() {
+    for entry in entries.iter_mut() {
         *entry = x;
         x += step;
     }
 }
 
-// Writes the end weights of all strings, two of each, from entry `at` on.
-fn write_weights(k: usize, ends: &[u32], weights: &[u32], work: &mut [u32], at: usize)
-    requires { Strung k ends.now weights.now × (at + 2 * length ends.now ≤ length work.old) }
-    ensures { work.new ≡ put at (all_end_weights (ends_from k 0 ends.now weights.now)) work.old }
+// Writes the end weights of all strings, two of each.
+fn write_weights(k: usize, ends: &[u32], weights: &[u32], keys: &mut [u32])
+    requires { Strung k ends.now weights.now × (length keys.old ≡ 2 * length ends.now) }
+    ensures { keys.new ≡ all_end_weights (ends_from k 0 ends.now weights.now) }
 {
     let mut before: usize = 0;
     let mut passed: usize = 0;
     for (i, end) in ends.iter().enumerate() {
         let e = *end as usize;
         let n = e + 1 - (before + k);
-        work[at + 2 * i] = weights[passed];
+        keys[2 * i] = weights[passed];
         passed += n;
-        work[at + 2 * i + 1] = weights[passed - 1];
+        keys[2 * i + 1] = weights[passed - 1];
         before = e;
     }
 }
 
-// The end weights at 12m, and their numbers at 5m in the order of the weights.
-fn order_ends(k: usize, ends: &[u32], weights: &[u32], work: &mut [u32])
-    requires { Strung k ends.now weights.now × Fits (length ends.now) work.old }
-    ensures { Ordered (length ends.now) (all_end_weights (ends_from k 0 ends.now weights.now)) work.new }
+// The end weights, and their numbers in the order of the weights.
+fn order_ends(
+    k: usize,
+    ends: &[u32],
+    weights: &[u32],
+    keys: &mut [u32],
+    order: &mut [u32],
+    buf: &mut [u32],
+)
+    requires strung { Strung k ends.now weights.now × (length ends.now ≤ most_strings) }
+    requires sizes { (length keys.old ≡ 2 * length ends.now) × (length order.old ≡ 2 * length ends.now) × (length buf.old ≡ 2 * length ends.now) }
+    ensures keys { keys.new ≡ all_end_weights (ends_from k 0 ends.now weights.now) }
+    ensures order { order.new ≡ sort_by (key_at keys.new) (count_from 0 (2 * length ends.now)) }
 {
-    let m = ends.len();
-    write_weights(k, ends, weights, work, 12 * m);
-    write_ladder(work, 5 * m, 2 * m, 0, 1);
-    sorting::inner::sort_by_weight(work, 12 * m, 5 * m, 9 * m, 2 * m);
+    write_weights(k, ends, weights, keys);
+    sorting::inner::number_ids(order);
+    sorting::inner::sort_by_weight(keys, order, buf);
 }
 
 // The vertex of place q, whose weight is x: that of the place before, v, if the weight there is the same.
@@ -60,43 +72,46 @@ fn vertex_of(x: u32, before: u32, v: usize, q: usize) -> usize
 }
 
 // Gives each end its vertex: the first place in the order with its weight.
-fn name_vertices(work: &mut [u32], m: usize)
-    requires fits { Fits m work.old }
-    requires rising { Rising m (keys_in m work.old) (order_in m work.old) }
-    ensures { Named m (keys_in m work.old) (order_in m work.old) work.old work.new }
+fn name_vertices(keys: &[u32], order: &[u32], verts: &mut [u32])
+    requires sizes { (length keys.now ≡ length verts.old) × (length order.now ≡ length verts.old) × (length verts.old < 2 ^ 32) }
+    requires rising { Rising (length verts.old) keys.now order.now }
+    ensures { Named keys.now order.now verts.new }
 {
     let mut v: usize = 0;
     let mut before: u32 = 0;
-    for q in 0..2 * m {
-        let c = work[5 * m + q] as usize;
-        let x = work[12 * m + c];
+    for (q, end) in order.iter().enumerate() {
+        let c = *end as usize;
+        let x = keys[c];
         v = vertex_of(x, before, v, q);
         before = x;
-        work[c] = v as u32;
+        verts[c] = v as u32;
     }
 }
 
 // The hub's row, all cursors, and the flags: strings unused, spokes used.
-fn blank(work: &mut [u32], m: usize)
-    requires { Fits m work.old }
-    ensures { Blank m work.old work.new }
+fn blank(strings: &mut [u32], spokes: &mut [u32], hub: &mut [u32], cursors: &mut [u32])
+    requires few { length strings.old ≤ most_strings }
+    requires sizes { (length spokes.old ≡ 2 * length strings.old) × (length hub.old ≡ 2 * length strings.old) × (length cursors.old ≡ 3 * length strings.old) }
+    ensures strings { strings.new ≡ ladder 0 0 (length strings.old) }
+    ensures spokes { spokes.new ≡ ladder 1 0 (2 * length strings.old) }
+    ensures hub { hub.new ≡ ladder (2 * length strings.old) 2 (2 * length strings.old) }
+    ensures cursors { cursors.new ≡ ladder 0 1 (3 * length strings.old) }
 {
-    write_ladder(work, 7 * m, 2 * m, (2 * m) as u32, 2);
-    write_ladder(work, 9 * m, 3 * m, 0, 1);
-    work[2 * m..3 * m].fill(0);
-    work[3 * m..5 * m].fill(1);
+    write_ladder(hub, (2 * strings.len()) as u32, 2);
+    write_ladder(cursors, 0, 1);
+    strings.fill(0);
+    spokes.fill(1);
 }
 
 // Turns the flag of a vertex's spoke for each end at it, so that the spokes to odd vertices are unused.
-fn mark_odd(work: &mut [u32], m: usize)
-    requires fits { Fits m work.old }
-    requires all { All (λ x. x < 2 * m) (verts_in m work.old) }
-    requires work_value { flags_in m work.old ≡ ladder 1 0 (2 * m) }
-    ensures { Marked m work.old work.new }
+fn mark_odd(verts: &[u32], spokes: &mut [u32])
+    requires all { All (λ x. x < length spokes.old) verts.now }
+    requires used { spokes.old ≡ ladder 1 0 (length spokes.old) }
+    ensures { Marked verts.now spokes.new }
 {
-    for c in 0..2 * m {
-        let at = 3 * m + work[c] as usize;
-        work[at] = 1 - work[at];
+    for vert in verts {
+        let v = *vert as usize;
+        spokes[v] = 1 - spokes[v];
     }
 }
 
@@ -106,8 +121,15 @@ pub fn lay_out(k: usize, ends: &[u32], weights: &[u32], work: &mut [u32])
     ensures { LaidOut k (length ends.now) ends.now weights.now work.new }
 {
     let m = ends.len();
-    order_ends(k, ends, weights, work);
-    name_vertices(work, m);
-    blank(work, m);
-    mark_odd(work, m);
+    let (verts, rest) = work.split_at_mut(2 * m);
+    let (used, rest) = rest.split_at_mut(3 * m);
+    let (rows, rest) = rest.split_at_mut(4 * m);
+    let (cursors, stack) = rest.split_at_mut(3 * m);
+    let (strings, spokes) = used.split_at_mut(m);
+    let (order, hub) = rows.split_at_mut(2 * m);
+    let keys = &mut stack[..2 * m];
+    order_ends(k, ends, weights, keys, order, &mut cursors[..2 * m]);
+    name_vertices(keys, order, verts);
+    blank(strings, spokes, hub, cursors);
+    mark_odd(verts, spokes);
 }

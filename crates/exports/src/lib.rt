@@ -21,6 +21,10 @@ ghost use Rattle.exports.specs.Calls.{read_exported, write_exported, check_expor
 ghost use Rattle.collection.specs.Collection.{spelling, collection};
 ghost use Rattle.collection.specs.Tables.{tables as collection_tables};
 
+use collection::{Collection, Spelling};
+use index_stretches::Index;
+use weight::RunList;
+
 // How many entries the answer table needs, for every call.
 const ANSWER: usize = 4;
 
@@ -60,7 +64,13 @@ pub fn corrivume_write(
     if answer.len() < ANSWER {
         return 1;
     }
-    let a = sheet_write::write(k, letters, ends, weights, sheet);
+    let given = Collection {
+        k,
+        letters,
+        ends,
+        weights,
+    };
+    let a = sheet_write::write(given, sheet);
     let reply = exports_replies::inner::count_reply(a);
     exports_replies::inner::tell(answer, reply)
 }
@@ -81,7 +91,13 @@ pub fn corrivume_check(
     if answer.len() < ANSWER {
         return 1;
     }
-    let a = repeats::check(k, letters, ends, weights, work);
+    let given = Collection {
+        k,
+        letters,
+        ends,
+        weights,
+    };
+    let a = repeats::check(given, work);
     let reply = exports_replies::inner::count_reply(a);
     exports_replies::inner::tell(answer, reply)
 }
@@ -102,7 +118,13 @@ pub fn corrivume_cover(
     if answer.len() < ANSWER {
         return 1;
     }
-    let a = cover::cover(k, letters, ends, weights, places, work);
+    let given = Collection {
+        k,
+        letters,
+        ends,
+        weights,
+    };
+    let a = cover::cover(given, places, work);
     let reply = exports_replies::inner::cover_reply(a);
     exports_replies::inner::tell(answer, reply)
 }
@@ -130,17 +152,13 @@ pub fn corrivume_apply(
     if answer.len() < ANSWER {
         return 1;
     }
-    let a = apply::apply(
+    let given = Collection {
         k,
         letters,
         ends,
         weights,
-        signed,
-        new_letters,
-        new_ends,
-        new_weights,
-        work,
-    );
+    };
+    let a = apply::apply(given, signed, new_letters, new_ends, new_weights, work);
     let reply = exports_replies::inner::apply_reply(a);
     exports_replies::inner::tell(answer, reply)
 }
@@ -162,7 +180,13 @@ pub fn corrivume_runs(
     if answer.len() < ANSWER {
         return 1;
     }
-    let a = runs::runs(k, letters, ends, weights, run_weights, run_firsts);
+    let given = Collection {
+        k,
+        letters,
+        ends,
+        weights,
+    };
+    let a = runs::runs(given, run_weights, run_firsts);
     let reply = exports_replies::inner::count_reply(a);
     exports_replies::inner::tell(answer, reply)
 }
@@ -181,7 +205,11 @@ pub fn corrivume_weight(
     if answer.len() < ANSWER {
         return 1;
     }
-    let a = weight::weight(run_weights, run_firsts, n, handle);
+    let list = RunList {
+        weights: run_weights,
+        firsts: run_firsts,
+    };
+    let a = weight::weight(list, n, handle);
     let reply = exports_replies::inner::weight_reply(a);
     exports_replies::inner::tell(answer, reply)
 }
@@ -200,7 +228,8 @@ pub fn corrivume_access(
     if answer.len() < ANSWER {
         return 1;
     }
-    let a = access::access_at(k, letters, ends, handle);
+    let given = Spelling { k, letters, ends };
+    let a = access::access_at(given, handle);
     let reply = exports_replies::inner::access_reply(k, a);
     exports_replies::inner::tell(answer, reply)
 }
@@ -221,7 +250,13 @@ pub fn corrivume_plain(
     if answer.len() < ANSWER {
         return 1;
     }
-    let a = plain::plain(k, letters, ends, weights, word);
+    let given = Collection {
+        k,
+        letters,
+        ends,
+        weights,
+    };
+    let a = plain::plain(given, word);
     let reply = exports_replies::inner::plain_reply(a);
     exports_replies::inner::tell(answer, reply)
 }
@@ -249,9 +284,13 @@ pub fn corrivume_index(
     if answer.len() < ANSWER {
         return 1;
     }
-    let a = index::index(
-        k, p, letters, ends, weights, firsts, positions, numbers, before, work,
-    );
+    let given = Collection {
+        k,
+        letters,
+        ends,
+        weights,
+    };
+    let a = index::index(given, p, firsts, positions, numbers, before, work);
     let reply = exports_replies::inner::index_reply(a);
     exports_replies::inner::tell(answer, reply)
 }
@@ -276,7 +315,13 @@ pub fn corrivume_quick(
     if answer.len() < ANSWER {
         return 1;
     }
-    let a = quick::quick(k, p, word, letters, firsts, positions, numbers, before);
+    let index = Index {
+        firsts,
+        positions,
+        numbers,
+        before,
+    };
+    let a = quick::quick(k, p, word, letters, index);
     let reply = exports_replies::inner::quick_reply(a);
     exports_replies::inner::tell(answer, reply)
 }
@@ -306,19 +351,17 @@ pub fn corrivume_weigh(
     if answer.len() < ANSWER {
         return 1;
     }
-    let a = quick::weigh(
-        k,
-        p,
-        word,
-        letters,
+    let index = Index {
         firsts,
         positions,
         numbers,
         before,
-        run_weights,
-        run_firsts,
-        n,
-    );
+    };
+    let list = RunList {
+        weights: run_weights,
+        firsts: run_firsts,
+    };
+    let a = quick::weigh(k, p, word, letters, index, list, n);
     let reply = exports_replies::inner::weigh_reply(a);
     exports_replies::inner::tell(answer, reply)
 }

@@ -27,7 +27,7 @@ use Rattle.collection.proofs.Ready.{judged_ready}
 use Rattle.collection.proofs.Strung.{each_weighed}
 use Rattle.repeats.specs.Check.{first_repeat}
 use Rattle.index_minimizers.specs.Minimizer.{sizes_verdict}
-use Rattle.index_minimizers.proofs.Sizes.{sizes_good}
+use Rattle.index_minimizers.proofs.Sizes.{sizes_good, words_few}
 use Rattle.index.specs.Indexing.{Lent, lent, stretch_count, rooms_verdict, index_verdict, Outcome, outcome, cleared, index_with, index_of, filled}
 use Rattle.index.specs.Judged.{Sized, foreseen, Judged, Held, judged_of}
 
@@ -208,3 +208,6 @@ module _ (c : Collection) (p : ℕ) (t : Lent) {answer : Result Indexed Refusal}
     pub index_goes_on : {done : Outcome} → done ≡ judged_of (spelling_of c) p (length c.weights) t → done ≡ index_of c p t
     unfolding judged_of index_of
     index_goes_on d = settled _ (d ∙ ap (λ (n : ℕ). judged_of (spelling_of c) p n t) (weights-counted c p t fit.0)) fit.0
+
+-- what `foresee` needs of its steps
+pub ruleset foreseeing = (collection_refused, sizes_good, words_few)

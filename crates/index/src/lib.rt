@@ -4,9 +4,9 @@
 ghost use Rattle.std.specs.Prelude.{◌≡◌};
 ghost use Rattle.index.specs.Indexing.{Lent, lent, outcome, index_with, index_of};
 ghost use Rattle.index.specs.Judged.{Sized, foreseen, Judged, Held, judged_of};
-ghost use Rattle.collection.specs.Collection.{spelling, collection};
+ghost use Rattle.collection.specs.Lent.{spelling_in, collection_in};
 
-use collection::Refusal;
+use collection::{Collection, Refusal, Spelling};
 
 // What INDEX answers: how many stretches it filled into each of three tables, and how many entries into the fourth.
 #[derive(Clone, Copy, Debug, PartialEq, Eq)]
@@ -16,12 +16,10 @@ pub struct Indexed {
 }
 
 // 2 to 6, then 1; five tables of these sizes are lent. The answer is that of a collection in which no word repeats.
+#[tactic(auto, using(crate::proofs::Ways::foreseeing))]
 fn foresee(
-    k: usize,
+    given: Collection,
     p: usize,
-    letters: &[u8],
-    ends: &[u32],
-    weights: &[u32],
     firsts: usize,
     positions: usize,
     numbers: usize,
@@ -29,15 +27,15 @@ fn foresee(
     work: usize,
 ) -> Result<Indexed, Refusal>
     ensures { (t : Lent) → Sized t firsts positions numbers before work
-        → result ≡ foreseen (collection k letters.now ends.now weights.now) p t }
+        → result ≡ foreseen (collection_in given.entry) p t }
 {
-    index_minimizers::judge_sizes(k, p)?;
-    collection::judge_collection(k, letters, ends, weights)?;
-    let stretches = index_cutting::inner::count_all(k, p, letters, ends);
+    index_minimizers::judge_sizes(given.k, p)?;
+    given.judge()?;
+    let stretches = index_cutting::inner::count_all(given.spelling(), p);
     let starts = words::inner::word_count(p) + 1;
     if (stretches <= firsts)
         & ((stretches <= positions)
-            & ((stretches <= numbers) & ((starts <= before) & (4 * weights.len() <= work))))
+            & ((stretches <= numbers) & ((starts <= before) & (4 * given.weights.len() <= work))))
     {
         return Ok(Indexed { stretches, starts });
     }
@@ -46,10 +44,8 @@ fn foresee(
 
 // The index of n k-mers in m stretches. The stretches are stored in the order of their handles first, and their minimizers in work.
 fn build(
-    k: usize,
+    given: Spelling,
     p: usize,
-    letters: &[u8],
-    ends: &[u32],
     n: usize,
     m: usize,
     firsts: &mut [u32],
@@ -58,30 +54,20 @@ fn build(
     before: &mut [u32],
     work: &mut [u32],
 )
-    requires { Judged (spelling k letters.now ends.now) p n m (lent firsts.old positions.old numbers.old before.old work.old) }
-    ensures { Held (index_with (spelling k letters.now ends.now) p) n
+    requires { Judged (spelling_in given) p n m (lent firsts.old positions.old numbers.old before.old work.old) }
+    ensures { Held (index_with (spelling_in given.entry) p) n
         (lent firsts.old positions.old numbers.old before.old work.old)
         (lent firsts.new positions.new numbers.new before.new work.new) }
 {
-    index_cutting::inner::cut_all(
-        k,
-        p,
-        letters,
-        ends,
-        firsts,
-        positions,
-        numbers,
-        &mut work[..n],
-    );
+    index_cutting::inner::cut_all(given, p, firsts, positions, numbers, &mut work[..n]);
     index_arranging::inner::arrange(work, n, m, p, before, firsts, positions, numbers);
 }
 
 // 7, or the index of n k-mers in m stretches. Work is zero afterwards in both cases.
+#[tactic(auto, using(crate::proofs::Ways::judged_still, crate::proofs::Ways::work_still, repeats::proofs::Arranged::few_kmers))]
 fn index_judged(
-    k: usize,
+    given: Spelling,
     p: usize,
-    letters: &[u8],
-    ends: &[u32],
     n: usize,
     m: usize,
     firsts: &mut [u32],
@@ -90,20 +76,18 @@ fn index_judged(
     before: &mut [u32],
     work: &mut [u32],
 ) -> Result<Indexed, Refusal>
-    requires { Judged (spelling k letters.now ends.now) p n m (lent firsts.old positions.old numbers.old before.old work.old) }
+    requires { Judged (spelling_in given) p n m (lent firsts.old positions.old numbers.old before.old work.old) }
     ensures { outcome result (lent firsts.new positions.new numbers.new before.new work.new)
-        ≡ judged_of (spelling k letters.now ends.now) p n
+        ≡ judged_of (spelling_in given.entry) p n
         (lent firsts.old positions.old numbers.old before.old work.old) }
 {
-    let repeat = repeats::inner::first_repeat(k, letters, ends, n, work);
+    let repeat = repeats::inner::first_repeat(given, n, work);
     let repeated = repeat != 0;
     if repeated {
         collection::inner::zero_first(work, 4 * n);
         return Err(Refusal::Repeated { place: repeat });
     }
-    build(
-        k, p, letters, ends, n, m, firsts, positions, numbers, before, work,
-    );
+    build(given, p, n, m, firsts, positions, numbers, before, work);
     collection::inner::zero_first(work, 4 * n);
     let starts = words::inner::word_count(p) + 1;
     Ok(Indexed {
@@ -114,12 +98,10 @@ fn index_judged(
 
 // INDEX: 2 to 6, 1, then 7, at the lowest handle whose word or its reverse complement stands earlier. Else the stretches by their minimizers, and where each
 // minimizer starts. After 7 and after success the first 4n entries of work are 0.
+#[tactic(auto, using(crate::proofs::Ways::lent_sized, crate::proofs::Ways::index_refused))]
 pub fn index(
-    k: usize,
+    given: Collection,
     p: usize,
-    letters: &[u8],
-    ends: &[u32],
-    weights: &[u32],
     firsts: &mut [u32],
     positions: &mut [u32],
     numbers: &mut [u32],
@@ -127,15 +109,12 @@ pub fn index(
     work: &mut [u32],
 ) -> Result<Indexed, Refusal>
     ensures { outcome result (lent firsts.new positions.new numbers.new before.new work.new)
-        ≡ index_of (collection k letters.now ends.now weights.now) p
+        ≡ index_of (collection_in given.entry) p
         (lent firsts.old positions.old numbers.old before.old work.old) }
 {
     let counts = foresee(
-        k,
+        given,
         p,
-        letters,
-        ends,
-        weights,
         firsts.len(),
         positions.len(),
         numbers.len(),
@@ -143,11 +122,9 @@ pub fn index(
         work.len(),
     )?;
     index_judged(
-        k,
+        given.spelling(),
         p,
-        letters,
-        ends,
-        weights.len(),
+        given.weights.len(),
         counts.stretches,
         firsts,
         positions,

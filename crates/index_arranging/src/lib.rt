@@ -1,4 +1,4 @@
-// Tables in the order of their keys, over regions of one lent table.
+// Tables in the order of their keys, with a work table that the caller lends.
 #![tactic(auto)]
 
-pub mod inner; // for callers that show where the regions lie
+pub mod inner; // for callers that show that the tables have room

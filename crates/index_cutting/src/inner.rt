@@ -3,13 +3,16 @@ ghost use Rattle.std.specs.Prelude.{true, ◌≡◌, ℕ, ◌+◌, ◌^◌, ◌�
 ghost use Rattle.lists.specs.Every.{every};
 ghost use Rattle.lists.specs.Limits.{most_letters, most_k};
 ghost use Rattle.alphabet.specs.Letter.{is_letter};
-ghost use Rattle.collection.specs.Collection.{spelling};
+ghost use Rattle.collection.specs.Lent.{spelling_in};
 ghost use Rattle.collection.specs.Ready.{Ready};
 ghost use Rattle.index_minimizers.specs.Minimizer.{minimizer_at};
 ghost use Rattle.index_stretches.specs.Stretches.{of_string, stretches};
 ghost use Rattle.index_cutting.specs.Cut.{Room4, Cut};
 
+use collection::Spelling;
+
 // How many stretches the n k-mers from position a on have, which stand in one string.
+#[tactic(auto, using(crate::proofs::Carried::roll_fits, crate::proofs::Carried::slide_fits))]
 fn count_string(k: usize, p: usize, letters: &[u8], a: usize, n: usize) -> usize
     requires letters_value { every is_letter letters.now ≡ true }
     requires le_p { (1 ≤ p) × (p ≤ k) × (k ≤ most_k) × (1 ≤ n) × (a + n + k ≤ length letters.now + 1) × (length letters.now ≤ most_letters) }
@@ -32,11 +35,12 @@ fn count_string(k: usize, p: usize, letters: &[u8], a: usize, n: usize) -> usize
 }
 
 // How many stretches the collection has.
-pub fn count_all(k: usize, p: usize, letters: &[u8], ends: &[u32]) -> usize
-    requires ready { Ready (spelling k letters.now ends.now) }
-    requires le_p { (1 ≤ p) × (p ≤ 8) × (p ≤ k) }
-    ensures { result ≡ length (stretches (minimizer_at k p letters.now) k ends.now) }
+pub fn count_all(given: Spelling, p: usize) -> usize
+    requires ready { Ready (spelling_in given) }
+    requires le_p { (1 ≤ p) × (p ≤ 8) × (p ≤ given.k) }
+    ensures { result ≡ length (stretches (minimizer_at given.entry.k p given.entry.letters.now) given.entry.k given.entry.ends.now) }
 {
+    let Spelling { k, letters, ends } = given;
     let mut at: usize = 0;
     let mut count: usize = 0;
     for end in ends {
@@ -72,6 +76,7 @@ fn store(
 
 // Stores the stretches of the n k-mers from position a on, which stand in one string and the first of which has handle h, at the places from o on; the next
 // free place is given back.
+#[tactic(auto, using(crate::proofs::Carried::roll_fits, crate::proofs::Carried::slide_fits))]
 fn cut_string(
     k: usize,
     p: usize,
@@ -115,22 +120,22 @@ fn cut_string(
 
 // Stores all stretches of the collection, in the order of their handles, each with its minimizer.
 pub fn cut_all(
-    k: usize,
+    given: Spelling,
     p: usize,
-    letters: &[u8],
-    ends: &[u32],
     firsts: &mut [u32],
     positions: &mut [u32],
     numbers: &mut [u32],
     keys: &mut [u32],
 )
-    requires ready { Ready (spelling k letters.now ends.now) }
-    requires le_p { (1 ≤ p) × (p ≤ 8) × (p ≤ k) }
-    requires room4 { Room4 0 (length (stretches (minimizer_at k p letters.now) k ends.now)) firsts.old positions.old numbers.old keys.old }
-    ensures { Cut (minimizer_at k p letters.now) 0 (stretches (minimizer_at k p letters.now) k ends.now) firsts.old
-        firsts.new positions.old positions.new numbers.old numbers.new keys.old
-        keys.new }
+    requires ready { Ready (spelling_in given) }
+    requires le_p { (1 ≤ p) × (p ≤ 8) × (p ≤ given.k) }
+    requires room4 { Room4 0 (length (stretches (minimizer_at given.k p given.letters.now) given.k given.ends.now)) firsts.old positions.old
+        numbers.old keys.old }
+    ensures { Cut (minimizer_at given.entry.k p given.entry.letters.now) 0
+        (stretches (minimizer_at given.entry.k p given.entry.letters.now) given.entry.k given.entry.ends.now)
+        firsts.old firsts.new positions.old positions.new numbers.old numbers.new keys.old keys.new }
 {
+    let Spelling { k, letters, ends } = given;
     let mut at: usize = 0;
     let mut h: usize = 1;
     let mut o: usize = 0;

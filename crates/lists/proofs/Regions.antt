@@ -1,44 +1,16 @@
 -- Laws of the regions of a table: what a region holds, how a store acts on it, what stays outside of written regions, and what a lent part makes of the
 -- table. Entry by entry, or by the laws of `take` and `drop`. Assumes nothing.
-use mathlib.Core.Path.{◌≡◌, refl, sym, ap, subst, ◌∙◌}
+use mathlib.Core.Path.{◌≡◌, refl, sym, ap, ◌∙◌}
 use mathlib.Core.Logic.{◌⊎◌, inl, inr, ⊎_elim}
 use mathlib.Core.List.{List, [], ◌∷◌, ◌++◌}
-use Prim.Native.Nat.{ℕ, zero, suc, ◌+◌, ◌-◌, ◌<◌, ◌≤◌}
+use Prim.Native.Nat.{ℕ, suc, ◌+◌, ◌-◌, ◌<◌, ◌≤◌}
 use native.Mathlib.Omega.{arith}
-use lib.ListN.{length, get_or, take, drop, set, length-drop, length-set}
-use lib.Seq.{
-  take-suc-set,
-  length-take-le,
-  take_at,
-  drop_at,
-  take-take,
-  take_all,
-  take-add,
-  drop-drop,
-  get_or-take,
-  get_or-drop,
-  get_or-set_other,
-  drop-set-add,
-  drop-set-lt,
-  take-set-lt,
-  take-set-le,
-  ext_get_or,
-}
-use borrow.Rule.Slice.PartMut.{put_mid, post_of, same_len_mid, mid_len, take_put, drop_put}
+use lib.ListN.{length, get_or, take, drop, set, length-drop}
+use lib.Seq.{take-suc-set, length-take-le, get_or-take, get_or-drop, drop-set-add, drop-set-lt, take-set-lt, take-set-le, ext_get_or}
+use borrow.Rule.Slice.PartMut.{put_mid, same_len_mid, mid_len, take_put, drop_put}
 use Rattle.lists.specs.Regions.{part, Apart, Off, Clear, Among, Only}
 
 -- ─── regions that share no entry ─────────────────────────────────────────────
-
-pub apart_swap : (a n b m : ℕ) → Apart a n b m → Apart b m a n
-apart_swap a n b m d = ⊎_elim (λ (l : a + n ≤ b). inr l) (λ (l : b + m ≤ a). inl l) d
-
--- what lies apart from a region lies apart from each region within it
-pub apart_inner : (a n b m c k : ℕ) → Apart a n b m → b ≤ c → c + k ≤ b + m → Apart a n c k
-apart_inner a n b m c k d h g = ⊎_elim (λ (l : a + n ≤ b). inl (omega arith)) (λ (l : b + m ≤ a). inr (omega arith)) d
-
--- an entry of a region is not off it
-pub hit : (b n : ℕ) (rs : List (ℕ × ℕ)) (i : ℕ) → i < n → Off ((b, n) ∷ rs) (b + i) → ⊥
-hit b n rs i h o = ⊎_elim (λ (l : b + i < b). omega arith) (λ (l : b + n ≤ b + i). omega arith) o.0
 
 -- the entries of a region that is clear of some are off them
 pub clear_off : (rs : List (ℕ × ℕ)) (a n i : ℕ) → Clear rs a n → i < n → Off rs (a + i)
@@ -61,11 +33,6 @@ module _ {A : Type 0} where
   unfolding part
   part_is b n w = refl
 
-  -- the part that `&w[b..b + n]` lends
-  pub part-lent : (b n : ℕ) (w : List A) → take (b + n - b) (drop b w) ≡ part b n w
-  unfolding part
-  part-lent b n w = let q : b + n - b ≡ n = omega arith in rw q
-
   pub part_length : (b n : ℕ) (w : List A) → b + n ≤ length w → length (part b n w) ≡ n
   unfolding part
   part_length b n w h = length-take-le n (drop b w) (simp length-drop (omega arith))
@@ -74,47 +41,6 @@ module _ {A : Type 0} where
   pub part_at : (b n : ℕ) (w : List A) (i : ℕ) (d : A) → i < n → get_or (part b n w) i d ≡ get_or w (b + i) d
   unfolding part
   part_at b n w i d h = get_or-take n (drop b w) i d h ∙ get_or-drop b w i d
-
-  -- what holds of every entry of the table holds of a region's, and of d past its end
-  pub part-get_or : (P : A → Type 0) (b n : ℕ) (w : List A) (d : A) → P d → ((i : ℕ) → P (get_or w i d)) → (i : ℕ) → P (get_or (part b n w) i d)
-  unfolding part
-  part-get_or P b n w d z h i = front n (drop b w) (λ j. rw (get_or-drop b w j d) (h (b + j))) i
-    where
-      front : (m : ℕ) (l : List A) → ((j : ℕ) → P (get_or l j d)) → (j : ℕ) → P (get_or (take m l) j d)
-      front zero l g j = z
-      front (suc m) [] g j = z
-      front (suc m) (x ∷ l) g zero = g 0
-      front (suc m) (x ∷ l) g (suc j) = front m l (λ t. g (suc t)) j
-
-  -- ─── the parts of a region ─────────────────────────────────────────────────
-
-  -- two regions side by side
-  pub part-add : (b a n : ℕ) (w : List A) → part b (a + n) w ≡ part b a w ++ part (b + a) n w
-  unfolding part
-  part-add b a n w = take-add a n (drop b w) ∙ ap (λ (l : List A). take a (drop b w) ++ take n l) (drop-drop a b w)
-
-  pub part-take : (b n e : ℕ) (w : List A) → e ≤ n → take e (part b n w) ≡ part b e w
-  unfolding part
-  part-take b n e w h = take-take e n (drop b w) h
-
-  -- a region of a region
-  pub part_mid : (b n a k : ℕ) (w : List A) → a + k ≤ n → b + n ≤ length w → take k (drop a (part b n w)) ≡ part (b + a) k w
-  part_mid b n a k w h g =
-      ext (take k (drop a (part b n w))) (part (b + a) k w) (ll ∙ sym (part_length (b + a) k w (omega arith)))
-      (λ i d l.
-      let q : i < k = omega (arith, ll) in
-      let e : b + (a + i) ≡ b + a + i = omega arith in
-      get_or-take k (drop a (part b n w)) i d q
-      ∙ (get_or-drop a (part b n w) i d
-      ∙ (part_at b n w (a + i) d (omega arith) ∙ (ap (λ (j : ℕ). get_or w j d) e ∙ sym (part_at (b + a) k w i d q)))))
-    where
-      ll : length (take k (drop a (part b n w))) ≡ k
-      ll = length-take-le k (drop a (part b n w)) (simp length-drop (omega (arith, part_length b n w g)))
-
-  pub part-drop : (b n e : ℕ) (w : List A) → e ≤ n → b + n ≤ length w → drop e (part b n w) ≡ part (b + e) (n - e) w
-  part-drop b n e w h g =
-      sym (take_all (n - e) (drop e (part b n w)) (simp length-drop (omega (arith, part_length b n w g))))
-      ∙ part_mid b n e (n - e) w (omega arith) g
 
   -- ─── a store in a region, and outside of it ────────────────────────────────
 
@@ -144,19 +70,8 @@ module _ {A : Type 0} where
   -- ─── tables that differ in some regions only ───────────────────────────────
 
   module _ (rs : List (ℕ × ℕ)) where
-    pub among_refl : (w : List A) → Among rs w w
-    among_refl w = record { size = refl; rest = λ i d o. refl }
-
     pub among_trans : (u v w : List A) → Among rs u v → Among rs v w → Among rs u w
     among_trans u v w p q = record { size = q.size ∙ p.size; rest = λ i d o. q.rest i d o ∙ p.rest i d o }
-
-    -- one store more, in one of the regions
-    pub among_set : (w v : List A) (j : ℕ) (x : A) → Among rs w v → (Off rs j → ⊥) → Among rs w (set v j x)
-    among_set w v j x p h =
-        record {
-          size = length-set v j x ∙ p.size;
-          rest = λ i d o. get_or-set_other v j i x d (λ e. h (subst (λ (k : ℕ). Off rs k) e o)) ∙ p.rest i d o;
-        }
 
     -- more regions, or wider ones
     pub among_wider : (ts : List (ℕ × ℕ)) (w v : List A) → Among rs w v → ((i : ℕ) → Off ts i → Off rs i) → Among ts w v
@@ -176,26 +91,13 @@ module _ {A : Type 0} where
 
   -- one region
   module _ (b n : ℕ) (w v : List A) (p : Only b n w v) where
-    pub only_set : (i : ℕ) (x : A) → i < n → Only b n w (set v (b + i) x)
-    only_set i x h = among_set ((b, n) ∷ []) w v (b + i) x p (hit b n [] i h)
-
-    -- a region apart from the one that was written holds what it held, entry by entry
-    pub only_at : (a m : ℕ) → Apart a m b n → (i : ℕ) (d : A) → i < m → get_or v (a + i) d ≡ get_or (part a m w) i d
-    only_at a m c = among_at ((b, n) ∷ []) a m w v p (c, tt)
-
-    -- and as a whole
+    -- a region apart from the one that was written holds what it held
     pub only_part : (a m : ℕ) → Apart a m b n → a + m ≤ length w → part a m v ≡ part a m w
     only_part a m c = among_part ((b, n) ∷ []) a m w v p (c, tt)
 
   -- ─── a part that was lent, `&mut w[b..b + n]`, is back with the entries ys ──
 
   module _ (b n : ℕ) (w ys : List A) (e : length ys ≡ n) (h : b + n ≤ length w) where
-    pub lent-part : part b n (put_mid b (b + n - b) w ys) ≡ ys
-    unfolding part
-    lent-part =
-        ap (take n) (drop_at (take b w) (ys ++ post_of b (b + n - b) w) b (length-take-le b w (omega arith)))
-        ∙ take_at ys (post_of b (b + n - b) w) n e
-
     -- a part that was lent for writing is all that changes
     pub lent_only : Only b n w (put_mid b (b + n - b) w ys)
     lent_only =

@@ -5,9 +5,9 @@ mod scanning;
 
 ghost use Rattle.std.specs.Prelude.{◌≡◌};
 ghost use Rattle.plain.specs.Plain.{plain_of};
-ghost use Rattle.collection.specs.Collection.{collection};
+ghost use Rattle.collection.specs.Lent.{collection_in};
 
-use collection::{Refusal, Side};
+use collection::{Collection, Refusal, Side};
 
 // Where a word stands: the handle, and whether it stands there as asked.
 #[derive(Clone, Copy, Debug, PartialEq, Eq)]
@@ -26,16 +26,10 @@ pub enum Seen {
 
 // PLAIN: the lowest handle of a word as asked, else of its reverse complement, by a scan of the whole collection; `None` where neither stands there.
 #[tactic(auto, unfolding(crate::specs::Plain::plain_of, collection::specs::Verdict::settle, collection::specs::Verdict::and_then))]
-pub fn plain(
-    k: usize,
-    letters: &[u8],
-    ends: &[u32],
-    weights: &[u32],
-    word: &[u8],
-) -> Result<Option<Standing>, Refusal>
-    ensures { result ≡ plain_of (collection k letters.now ends.now weights.now) word.now }
+pub fn plain(given: Collection, word: &[u8]) -> Result<Option<Standing>, Refusal>
+    ensures { result ≡ plain_of (collection_in given.entry) word.now }
 {
-    collection::judge_collection(k, letters, ends, weights)?;
-    collection::judge_word(k, word)?;
-    Ok(scanning::found(k, letters, ends, word))
+    given.judge()?;
+    collection::judge_word(given.k, word)?;
+    Ok(scanning::found(given, word))
 }

@@ -6,14 +6,15 @@ ghost use Rattle.lists.specs.Every.{every};
 ghost use Rattle.lists.specs.Limits.{most_letters, most_k};
 ghost use Rattle.alphabet.specs.Letter.{is_letter};
 ghost use Rattle.words.specs.Word.{code, word_at, spell};
-ghost use Rattle.collection.specs.Collection.{spelling};
+ghost use Rattle.collection.specs.Collection.{spelling_of};
+ghost use Rattle.collection.specs.Lent.{collection_in};
 ghost use Rattle.collection.specs.Kmers.{kmers};
 ghost use Rattle.collection.specs.Ready.{Ready};
 ghost use Rattle.plain.specs.Scan.{scan_from};
 ghost use Rattle.plain.specs.Plain.{plain_found};
 
 use crate::{Seen, Standing};
-use collection::Side;
+use collection::{Collection, Side};
 
 // The handle at which the turned word was first seen, after one k-mer more.
 fn first_turned(before: usize, here: bool, handle: usize) -> usize
@@ -52,18 +53,28 @@ fn scan_string(
 }
 
 // The pass over the k-mers of all strings.
-fn scan(k: usize, letters: &[u8], ends: &[u32], asked: u64, turned: u64) -> Seen
-    requires { Ready (spelling k letters.now ends.now) }
-    ensures { result ≡ scan_from (λ a. eqb (code (word_at k letters.now a)) asked) (λ a. eqb (code (word_at k letters.now a)) turned) 0 0
-        (kmers k ends.now) }
+fn scan(given: Collection, asked: u64, turned: u64) -> Seen
+    requires { Ready (spelling_of (collection_in given)) }
+    ensures { result ≡ scan_from (λ a. eqb (code (word_at given.entry.k given.entry.letters.now a)) asked)
+        (λ a. eqb (code (word_at given.entry.k given.entry.letters.now a)) turned) 0 0
+        (kmers given.entry.k given.entry.ends.now) }
 {
     let mut at: usize = 0;
     let mut passed: usize = 0;
     let mut first: usize = 0;
-    for end in ends {
+    for end in given.ends {
         let e = *end as usize;
-        let number = e + 1 - (at + k);
-        let s = scan_string(k, letters, at, number, asked, turned, passed, first);
+        let number = e + 1 - (at + given.k);
+        let s = scan_string(
+            given.k,
+            given.letters,
+            at,
+            number,
+            asked,
+            turned,
+            passed,
+            first,
+        );
         let Seen::NotAsked(seen) = s else {
             return s;
         };
@@ -75,14 +86,14 @@ fn scan(k: usize, letters: &[u8], ends: &[u32], asked: u64, turned: u64) -> Seen
 }
 
 // What PLAIN answers of judged tables and a judged word.
-pub(crate) fn found(k: usize, letters: &[u8], ends: &[u32], word: &[u8]) -> Option<Standing>
-    requires ready { Ready (spelling k letters.now ends.now) }
-    requires word_len { (length word.now ≡ k) × (every is_letter word.now ≡ true) }
-    ensures { result ≡ plain_found (spelling k letters.now ends.now) (spell word.now) }
+pub(crate) fn found(given: Collection, word: &[u8]) -> Option<Standing>
+    requires ready { Ready (spelling_of (collection_in given)) }
+    requires word_len { (length word.now ≡ given.k) × (every is_letter word.now ≡ true) }
+    ensures { result ≡ plain_found (spelling_of (collection_in given.entry)) (spell word.now) }
 {
     let asked = words::inner::word_code(word);
-    let turned = words::inner::turned_code(k, asked);
-    match scan(k, letters, ends, asked, turned) {
+    let turned = words::inner::turned_code(given.k, asked);
+    match scan(given, asked, turned) {
         Seen::At(handle) => Some(Standing {
             handle,
             side: Side::Asked,

@@ -1,16 +1,14 @@
 -- What judging a question and an index gives, and that asking by codes is asking by words. Assumes nothing.
-use mathlib.Core.Path.{◌≡◌, sym, ap, ap₂, ◌∙◌, subst}
-use mathlib.Core.Bool.{Bool, true, false, ◌&&◌}
+use mathlib.Core.Path.{◌≡◌, refl, sym, ap, ap₂, ◌∙◌, subst}
+use mathlib.Core.Bool.{true, ◌&&◌}
 use mathlib.Core.List.{List, map}
 use Prim.Native.Nat.{ℕ, ◌+◌, ◌-◌, ◌^◌, ◌<◌, ◌≤◌}
 use native.Mathlib.Omega.{arith}
 use borrow.Author.Tests.{leb-true, eqb-true}
 use lib.Dec.{eqb}
 use lib.ListN.{length, length-map}
-use Rattle.std.specs.Prelude.{Err}
 use Rattle.collection.specs.Verdict.{good}
 use Rattle.collection.specs.declared.refusal.Refusal.TheVariants as refusal
-use Rattle.lists.specs.Choose.{choose}
 use Rattle.lists.specs.Every.{every}
 use Rattle.lists.specs.Limits.{most_letters}
 use Rattle.lists.proofs.Every.{and_left, and_right, every-all}
@@ -23,16 +21,19 @@ use Rattle.words.proofs.Turning.{length-turn, letters-turn, turned-code}
 use Rattle.collection.specs.declared.Side.TheVariants.{Asked, Turned}
 use Rattle.collection.specs.Judge.{size_verdict, word_verdict}
 use Rattle.collection.proofs.Judged.{size_good, word_good}
-use Rattle.collection.proofs.Verdicts.{both_good, test_good}
+use Rattle.collection.proofs.Verdicts.{both_good, test_good, then_bad, then_good, refused, settled}
 use Rattle.index_minimizers.specs.Least.{least}
 use Rattle.index_minimizers.specs.Minimizer.{minimizer, sizes_verdict}
-use Rattle.index_minimizers.proofs.Sizes.{Sizes, sizes_good}
+use Rattle.index_minimizers.proofs.Sizes.{Sizes, sizes_good, words_few}
 use Rattle.index_minimizers.proofs.Smallest.{least-minimizer, minimizer_lt}
 use Rattle.index_stretches.specs.Stretches.{walk}
 use Rattle.index_stretches.specs.Index.{Index, row_of, tables_fit, row_fits}
+use Rattle.quick.specs.declared.Question.{Question}
 use Rattle.quick.specs.declared.QuickAnswer.TheVariants.{Absent}
 use Rattle.quick_walks.specs.Walk.{is_word, seek}
 use Rattle.quick_walks.specs.Judged.{Alike, Row}
+use Rattle.quick_walks.proofs.RowWalks.{row_short}
+use Rattle.quick_walks.proofs.Walks.{miss_counts}
 use Rattle.quick.specs.Quick.{met_or, quick_found, rows_verdict, ask_verdict}
 use Rattle.quick.specs.Asking.{question, question_of, turned_of, asked_of}
 use Rattle.quick.specs.Judged.{Askable}
@@ -152,19 +153,27 @@ rows_good d k N t row other l m e =
       record { alike = g.1; inside = omega (arith, g.0); fits = and_right (row_fits k N t row) _ r },
     )
 
--- the tests in their order: the tables, the first row, and then the second decides
-module _ (d k N : ℕ) (t : Index) (row other : ℕ) where
-  pub tables_wrong : tables_fit d t ≡ false → Err refusal.Index ≡ rows_verdict d k N t row other
-  unfolding rows_verdict
-  tables_wrong e = sym (ap (λ (b : Bool). choose (b && (row_fits k N t row && row_fits k N t other)) good (Err refusal.Index)) e)
+-- ─── the question that is asked ──────────────────────────────────────────────
 
-  pub row_wrong : tables_fit d t ≡ true → row_fits k N t row ≡ false → Err refusal.Index ≡ rows_verdict d k N t row other
-  unfolding rows_verdict
-  row_wrong e f = sym (ap₂ (λ (a b : Bool). choose (a && (b && row_fits k N t other)) good (Err refusal.Index)) e f)
+-- what is known once 2, 3 and 9 are judged and the question q is made
+module _ (k p : ℕ) (word letters : List ℕ) (judged : ask_verdict k p word (length letters) ≡ good) (q : Question) (is : q ≡ question_of p (spell word)) where
+  pub row_small : q.row < 4 ^ p
+  row_small = subst (λ (x : Question). x.row < 4 ^ p) (sym is) (row_below (ask_good k p word (length letters) judged))
 
-  pub other_decides : (b : Bool) → tables_fit d t ≡ true → row_fits k N t row ≡ true → row_fits k N t other ≡ b
-      → choose b good (Err refusal.Index) ≡ rows_verdict d k N t row other
-  unfolding rows_verdict
-  other_decides b e f g =
-      sym (ap₂ (λ (x y : Bool). choose (x && (y && row_fits k N t other)) good (Err refusal.Index)) e f
-      ∙ ap (λ (x : Bool). choose x good (Err refusal.Index)) g)
+  pub other_small : q.other < 4 ^ p
+  other_small = subst (λ (x : Question). x.other < 4 ^ p) (sym is) (other_below (ask_good k p word (length letters) judged))
+
+  pub can_ask : Askable k letters q
+  can_ask = subst (Askable k letters) (sym is) (askable (ask_good k p word (length letters) judged) letters refl)
+
+  pub asked_is : (index : Index) → asked_of k letters index q ≡ quick_found (minimizer p) k letters index (spell word)
+  asked_is index = ap (asked_of k letters index) is ∙ asked_quick (ask_good k p word (length letters) judged) letters index
+
+-- ─── what the functions need of all this ─────────────────────────────────────
+
+-- no row is too long to count on behind it
+pub ruleset walked = (miss_counts, row_short)
+
+pub ruleset judging = (tables_good, words_few)
+
+pub ruleset asking = (ask_good, row_small, other_small, can_ask, asked_is, rows_good, then_bad, then_good, refused, settled)

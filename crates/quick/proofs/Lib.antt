@@ -1,3 +1,2 @@
 -- Laws of QUICK.
 pub mod Asked
-pub mod Answers

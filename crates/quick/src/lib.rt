@@ -4,11 +4,13 @@
 pub mod inner;
 
 ghost use Rattle.std.specs.Prelude.{◌≡◌};
-ghost use Rattle.index_stretches.specs.Index.{tables};
+ghost use Rattle.index_stretches.specs.Lent.{index_in};
 ghost use Rattle.quick.specs.Quick.{ask_verdict, quick_of};
 ghost use Rattle.quick.specs.Weighed.{weighed_of};
 
 use collection::{Refusal, Side};
+use index_stretches::Index;
+use weight::RunList;
 
 // What QUICK answers: where the word stands, or that it is absent, with the number of k-mers compared, which can pass 32 bits on a damaged index.
 // No Option: an absent word has that number too.
@@ -45,24 +47,20 @@ fn judge_asked(k: usize, p: usize, word: &[u8], letters: usize) -> Result<(), Re
 }
 
 // QUICK: 2, 3, 9, 10; then the handle and the side of the word, or that it is absent, with the number of k-mers compared.
-#[tactic(auto, unfolding(crate::specs::Quick::quick_of, crate::specs::Quick::quick_verdict, collection::specs::Verdict::settle, collection::specs::Verdict::and_then))]
+#[tactic(auto, unfolding(crate::specs::Quick::quick_of, crate::specs::Quick::quick_verdict), using(crate::proofs::Asked::asking))]
 pub fn quick(
     k: usize,
     p: usize,
     word: &[u8],
     letters: &[u8],
-    firsts: &[u32],
-    positions: &[u32],
-    numbers: &[u32],
-    before: &[u32],
+    index: Index,
 ) -> Result<QuickAnswer, Refusal>
-    ensures { result ≡ quick_of k p word.now letters.now
-        (tables firsts.now positions.now numbers.now before.now) }
+    ensures { result ≡ quick_of k p word.now letters.now (index_in index.entry) }
 {
     judge_asked(k, p, word, letters.len())?;
     let q = inner::question(k, p, word);
-    inner::judge_index(k, p, q, letters.len(), firsts, positions, numbers, before)?;
-    Ok(inner::ask(k, q, letters, firsts, positions, numbers, before))
+    inner::judge_index(k, p, q, letters.len(), index)?;
+    Ok(inner::ask(k, q, letters, index))
 }
 
 // The weight of an asked word: QUICK, and then WEIGHT of the handle found, by the run list of n k-mers; `None` where the word is absent.
@@ -72,23 +70,17 @@ pub fn weigh(
     p: usize,
     word: &[u8],
     letters: &[u8],
-    firsts: &[u32],
-    positions: &[u32],
-    numbers: &[u32],
-    before: &[u32],
-    run_weights: &[u32],
-    run_firsts: &[u32],
+    index: Index,
+    list: RunList,
     n: usize,
 ) -> Result<Option<u32>, Refusal>
-    ensures { result ≡ weighed_of
-        (quick_of k p word.now letters.now
-        (tables firsts.now positions.now numbers.now before.now)) run_weights.now
-        run_firsts.now n }
+    ensures { result ≡ weighed_of (quick_of k p word.now letters.now (index_in index.entry))
+        list.entry.weights.now list.entry.firsts.now n }
 {
-    let answer = quick(k, p, word, letters, firsts, positions, numbers, before)?;
+    let answer = quick(k, p, word, letters, index)?;
     let QuickAnswer::Found { handle, .. } = answer else {
         return Ok(None);
     };
-    let weight = weight::weight(run_weights, run_firsts, n, handle)?;
+    let weight = weight::weight(list, n, handle)?;
     Ok(Some(weight))
 }

@@ -3,7 +3,8 @@
 ghost use Rattle.std.specs.Prelude.{true, map, ◌≡◌, ◌+◌, ◌≤◌, ◌<◌, ◌^◌, length, get_or, take, drop};
 ghost use Rattle.lists.specs.Limits.{most_letters, most_k};
 ghost use Rattle.index_stretches.specs.Stretches.{stretch, kmers_of, walk};
-ghost use Rattle.index_stretches.specs.Index.{tables, stretch_fits, row_fits, tables_fit, row_of};
+ghost use Rattle.index_stretches.specs.Index.{stretch_fits, row_fits, tables_fit, row_of};
+ghost use Rattle.index_stretches.specs.Lent.{index_in};
 ghost use Rattle.quick_walks.specs.Judged.{Alike, Row};
 ghost use Rattle.quick_walks.specs.Keys.{Within, Inside, Meets, Finds, KeyOf};
 ghost use Rattle.alphabet.specs.Letter.{capital, two_bits};
@@ -12,24 +13,21 @@ ghost use Rattle.words.specs.Turned.{spelled};
 ghost use Rattle.quick_walks.specs.Walk.{is_word, seek};
 
 use crate::Met;
+use index_stretches::Index;
 
 // Whether the fourth table has d + 1 entries, and the other three equally many, 1,048,576 at most.
-pub fn tables_fit(
-    d: usize,
-    firsts: &[u32],
-    positions: &[u32],
-    numbers: &[u32],
-    before: &[u32],
-) -> bool
+#[tactic(auto, unfolding(index_stretches::specs::Index::tables_fit))]
+pub fn tables_fit(d: usize, index: Index) -> bool
     requires { d ≤ 65536 }
-    ensures { result ≡ tables_fit d (tables firsts.now positions.now numbers.now before.now) }
+    ensures { result ≡ tables_fit d (index_in index.entry) }
 {
-    (before.len() == d + 1)
-        & ((positions.len() == firsts.len())
-            & ((numbers.len() == firsts.len()) & (firsts.len() <= 1048576)))
+    let count = index.firsts.len();
+    (index.before.len() == d + 1)
+        & ((index.positions.len() == count) & ((index.numbers.len() == count) & (count <= 1048576)))
 }
 
 // Whether a stretch fits n letters.
+#[tactic(auto, unfolding(index_stretches::specs::Index::stretch_fits))]
 fn stretch_fits(k: usize, n: usize, first: u32, at: u32, number: u32) -> bool
     requires { (k ≤ most_k) × (n ≤ most_letters) }
     ensures { result ≡ stretch_fits k n (stretch first at number) }
@@ -41,30 +39,23 @@ fn stretch_fits(k: usize, n: usize, first: u32, at: u32, number: u32) -> bool
 }
 
 // Whether the row of minimizer v fits n letters. It looks at the whole row.
-pub fn row_fits(
-    k: usize,
-    n: usize,
-    firsts: &[u32],
-    positions: &[u32],
-    numbers: &[u32],
-    before: &[u32],
-    v: usize,
-) -> bool
-    requires k_le_most_k { (k ≤ most_k) × (n ≤ most_letters) × (v + 1 < length before.now) }
-    requires alike { Alike (tables firsts.now positions.now numbers.now before.now) }
-    ensures { result ≡ row_fits k n (tables firsts.now positions.now numbers.now before.now) v }
+#[tactic(auto, using(crate::proofs::Rows::row_wrong, crate::proofs::Rows::row_each, crate::proofs::Rows::fit_next))]
+pub fn row_fits(k: usize, n: usize, index: Index, v: usize) -> bool
+    requires k_le_most_k { (k ≤ most_k) × (n ≤ most_letters) × (v + 1 < length index.before.now) }
+    requires alike { Alike (index_in index) }
+    ensures { result ≡ row_fits k n (index_in index.entry) v }
 {
-    let start = before[v] as usize;
-    let end = before[v + 1] as usize;
+    let start = index.before[v] as usize;
+    let end = index.before[v + 1] as usize;
     if end < start {
         return false;
     }
-    if firsts.len() < end {
+    if index.firsts.len() < end {
         return false;
     }
     let mut good = true;
     for i in start..end {
-        good = good & stretch_fits(k, n, firsts[i], positions[i], numbers[i]);
+        good = good & stretch_fits(k, n, index.firsts[i], index.positions[i], index.numbers[i]);
     }
     good
 }
@@ -85,6 +76,7 @@ fn is_word(k: usize, letters: &[u8], a: usize, c: u64, w: u64) -> bool
 // ─── the gate: where eight letters of a word do not stand, the word does not ───
 
 // The places of eight letters spread over n: the first, the last, and six between.
+#[tactic(auto, using(crate::proofs::Keys::eight))]
 pub fn spread(n: usize) -> [usize; 8]
     requires { (1 ≤ n) × (n ≤ most_letters) }
     ensures { Within n result }
@@ -232,24 +224,20 @@ fn row_by_key(
     w: u64,
     places: &[usize; 8],
     key: &[u8; 8],
-    firsts: &[u32],
-    positions: &[u32],
-    numbers: &[u32],
-    before: &[u32],
+    index: Index,
     v: usize,
     compared: u64,
 ) -> Met
     requires le_k { (1 ≤ k) × (k ≤ most_k) × (w < 4 ^ k) × (length letters.now ≤ most_letters) × (compared ≤ 2 ^ 41) }
-    requires row { Row k (length letters.now) (tables firsts.now positions.now numbers.now before.now) v }
+    requires row { Row k (length letters.now) (index_in index) v }
     requires key_of { KeyOf (map capital (spelled k w)) places.now key.now }
-    ensures { result ≡ seek (is_word k letters.now (spelled k w)) compared
-        (walk (row_of (tables firsts.now positions.now numbers.now before.now) v)) }
+    ensures { result ≡ seek (is_word k letters.now (spelled k w)) compared (walk (row_of (index_in index.entry) v)) }
 {
     let mut count = compared;
-    for i in before[v] as usize..before[v + 1] as usize {
-        let first = firsts[i] as usize;
-        let at = positions[i] as usize;
-        let number = numbers[i] as usize;
+    for i in index.before[v] as usize..index.before[v + 1] as usize {
+        let first = index.firsts[i] as usize;
+        let at = index.positions[i] as usize;
+        let number = index.numbers[i] as usize;
         let met = stretch_by_key(k, letters, w, places, key, first, at, number, count);
         let Met::Miss { compared } = met else {
             return met;
@@ -260,25 +248,12 @@ fn row_by_key(
 }
 
 // Compares the k-mers of the row of minimizer v with the word of code w, `compared` k-mers having been compared before.
-pub fn walk_row(
-    k: usize,
-    letters: &[u8],
-    w: u64,
-    firsts: &[u32],
-    positions: &[u32],
-    numbers: &[u32],
-    before: &[u32],
-    v: usize,
-    compared: u64,
-) -> Met
+pub fn walk_row(k: usize, letters: &[u8], w: u64, index: Index, v: usize, compared: u64) -> Met
     requires le_k { (1 ≤ k) × (k ≤ most_k) × (w < 4 ^ k) × (length letters.now ≤ most_letters) × (compared ≤ 2 ^ 41) }
-    requires row { Row k (length letters.now) (tables firsts.now positions.now numbers.now before.now) v }
-    ensures { result ≡ seek (is_word k letters.now (spelled k w)) compared
-        (walk (row_of (tables firsts.now positions.now numbers.now before.now) v)) }
+    requires row { Row k (length letters.now) (index_in index) v }
+    ensures { result ≡ seek (is_word k letters.now (spelled k w)) compared (walk (row_of (index_in index.entry) v)) }
 {
     let places = spread(k);
     let key = key_of(k, w, &places);
-    row_by_key(
-        k, letters, w, &places, &key, firsts, positions, numbers, before, v, compared,
-    )
+    row_by_key(k, letters, w, &places, &key, index, v, compared)
 }

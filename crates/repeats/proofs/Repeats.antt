@@ -23,9 +23,10 @@ use Rattle.collection.proofs.Kmers.{kmers_fit}
 use Rattle.collection.specs.Ready.{Ready}
 use Rattle.collection.proofs.Ready.{word_length, word_letters}
 use Rattle.repeats.specs.Check.{any_that, alike, repeated, first_repeat}
-use Rattle.repeats_canonical.specs.Codes.{canonical, held_at}
-use Rattle.repeats_sieving.specs.Kept.{Twin}
-use Rattle.repeats.specs.Order.{id_at, Ordered, Least}
+use Rattle.sorting.specs.Keys.{code_at}
+use Rattle.repeats_canonical.specs.Codes.{canonical}
+use Rattle.repeats_sieving.specs.Kept.{Stands, Twin}
+use Rattle.repeats.specs.Order.{Ordered, Least}
 use Rattle.repeats_canonical.proofs.Alike.{Alike, alike-swap, alike-canonical, canonical-alike}
 use Rattle.repeats.proofs.Neighbours.{least_twin, twin_least}
 
@@ -144,13 +145,13 @@ module _ (t : Spelling) where
         )
 
     -- The least that stands behind a neighbour of its own code, in the order of codes, is the first repeat.
-    module _ (m : ℕ) (all : m ≡ n) (p : ℕ) (w v : List ℕ) (o : Ordered t.k t.letters (kmers t.k t.ends) m p w v) (least : ℕ)
-        (s : Least (held_at m v) (id_at m v) m p p least) where
-      held : (x : ℕ) → x < n → held_at m v x ≡ canonical (word x)
-      held x l = o.held x (omega arith)
+    module _ (m : ℕ) (all : m ≡ n) (hi lo ids : List ℕ) (o : Ordered t.k t.letters (kmers t.k t.ends) hi lo ids) (least : ℕ)
+        (s : Least (code_at hi lo) m ids (length ids) least) where
+      twins : (x y : ℕ) → y < x → x < m → code_at hi lo y ≡ code_at hi lo x → Stands x ids × Stands y ids
+      twins x y l h = o.twins x y l (omega arith)
 
       lowest : (x : ℕ) → x < n → Again x → least ≤ x
-      lowest x l a = twin_least (held_at m v) (id_at m v) m p least o.order o.rise o.place s x (omega arith) (again_twin (held_at m v) held x l a)
+      lowest x l a = twin_least (code_at hi lo) m ids least o.order o.rise twins s x (omega arith) (again_twin (code_at hi lo) o.held x l a)
 
       -- none stands behind such a neighbour
       pub repeat_none : least ≡ m → first_repeat t ≡ 0
@@ -158,13 +159,13 @@ module _ (t : Spelling) where
 
       -- else it is a k-mer
       pub repeat_inside : (least ≡ m → ⊥) → least < m
-      repeat_inside h = ⊎_elim (λ (e : least ≡ m). absurd (h e)) (λ f. omega (arith, f.3, o.inside (f.0 + 1) f.1)) s.found
+      repeat_inside h = ⊎_elim (λ (e : least ≡ m). absurd (h e)) (λ f. omega (arith, f.3, all_at (λ x. x < n) ids o.inside (f.0 + 1) 0 f.1)) s.found
 
       -- and its handle is the first repeat
       pub repeat_found : (least ≡ m → ⊥) → first_repeat t ≡ least + 1
       repeat_found h =
           let l : least < n = omega (arith, repeat_inside h) in
-          first_again least l (twin_again (held_at m v) held least l (least_twin (held_at m v) (id_at m v) m p least o.order o.rise o.place s h))
+          first_again least l (twin_again (code_at hi lo) o.held least l (least_twin (code_at hi lo) m ids least o.order o.rise twins s h))
           (λ y g a. let z : least ≤ y = lowest y (omega arith) a in omega arith)
           ∙ (omega arith)
 

@@ -1,36 +1,39 @@
-// The first repeated word, by sorting: words that are equal, turned or not, have one canonical code and come to stand side by side.
-ghost use Rattle.std.specs.Prelude.{◌≡◌, ℕ, ◌+◌, ◌*◌, ◌≤◌, ◌<◌, eqb, length};
+// The first repeated word, by sorting: words that are equal, turned or not, have one canonical code and come to stand side by side. The code of k-mer x is
+// entry x of `hi`, its upper half, and of `lo`, its lower half.
+ghost use Rattle.std.specs.Prelude.{◌≡◌, ◌*◌, ◌≤◌, ◌<◌, eqb, length, take};
+ghost use Rattle.lists.specs.Every.{All};
 ghost use Rattle.lists.specs.Regions.{Only};
-ghost use Rattle.collection.specs.Collection.{spelling};
+ghost use Rattle.collection.specs.Lent.{spelling_in};
 ghost use Rattle.collection.specs.Kmers.{kmers};
 ghost use Rattle.collection.specs.Ready.{Ready};
+ghost use Rattle.sorting.specs.Keys.{code_at};
 ghost use Rattle.repeats.specs.Check.{first_repeat};
-ghost use Rattle.repeats_canonical.specs.Codes.{held_at};
-ghost use Rattle.repeats.specs.Order.{id_at, Least, Ordered};
+ghost use Rattle.repeats.specs.Order.{Least, Ordered};
+
+use collection::Spelling;
 
 // Whether k-mers x and y have one code. Lower halves mostly differ, and then the upper ones, which lie elsewhere, are not read.
-fn same_code(work: &[u32], n: usize, x: usize, y: usize) -> bool
-    requires { (x < n) × (y < n) × (n + n ≤ length work.now) }
-    ensures { result ≡ eqb (held_at n work.now x) (held_at n work.now y) }
+fn same_code(hi: &[u32], lo: &[u32], x: usize, y: usize) -> bool
+    requires { (x < length hi.now) × (y < length hi.now) × (length lo.now ≡ length hi.now) }
+    ensures { result ≡ eqb (code_at hi.now lo.now x) (code_at hi.now lo.now y) }
 {
-    if work[n + x] != work[n + y] {
+    if lo[x] != lo[y] {
         return false;
     }
-    work[x] == work[y]
+    hi[x] == hi[y]
 }
 
-// The least of the m k-mers that stands behind one of the same code, n where none does.
-fn least_second(work: &[u32], n: usize, m: usize) -> usize
-    requires n_in_bounds { (n + n + n ≤ length work.now) × (m ≤ n) }
-    requires by_index { (i : ℕ) → i < m → id_at n work.now i < n }
-    ensures { Least (held_at n work.now) (id_at n work.now) n m m result }
+// The least of these k-mers that stands behind one of the same code, the number of all codes where none does.
+fn least_second(hi: &[u32], lo: &[u32], ids: &[u32]) -> usize
+    requires same_length { length lo.now ≡ length hi.now }
+    requires inside { All (λ x. x < length hi.now) ids.now }
+    ensures { Least (code_at hi.now lo.now) (length hi.now) ids.now (length ids.now) result }
 {
-    let ids = n + n;
-    let mut least = n;
-    for pair in work[ids..ids + m].windows(2) {
+    let mut least = hi.len();
+    for pair in ids.windows(2) {
         let x = pair[0] as usize;
         let y = pair[1] as usize;
-        let better = (y < least) & same_code(work, n, x, y);
+        let better = (y < least) & same_code(hi, lo, x, y);
         if better {
             least = y;
         }
@@ -39,27 +42,38 @@ fn least_second(work: &[u32], n: usize, m: usize) -> usize
 }
 
 // The canonical codes of all k-mers, and those k-mers that may have an equal in the order of these codes; how many they are.
-fn arrange(k: usize, letters: &[u8], ends: &[u32], n: usize, work: &mut [u32]) -> usize
-    requires ready { Ready (spelling k letters.now ends.now) }
-    requires n_value { (n ≡ length (kmers k ends.now)) × (4 * n ≤ length work.old) }
-    ensures { Ordered k letters.now (kmers k ends.now) n result work.old work.new }
+fn arrange(
+    given: Spelling,
+    hi: &mut [u32],
+    lo: &mut [u32],
+    ids: &mut [u32],
+    buf: &mut [u32],
+) -> usize
+    requires ready { Ready (spelling_in given) }
+    requires sizes { (length hi.old ≡ length (kmers given.k given.ends.now)) × (length lo.old ≡ length hi.old)
+        × (length ids.old ≡ length hi.old) × (length buf.old ≡ length hi.old) }
+    ensures few { result ≤ length ids.old }
+    ensures ordered { Ordered given.entry.k given.entry.letters.now (kmers given.entry.k given.entry.ends.now) hi.new lo.new (take result ids.new) }
 {
-    repeats_canonical::inner::code_all(k, letters, ends, n, work);
-    let ids = n + n;
-    let buf = ids + n;
-    sorting::inner::number_ids(&mut work[ids..buf]);
-    let m = repeats_sieving::inner::sieve(work, n);
-    sorting::inner::sort_by_code(work, n, 0, n, ids, buf, m);
+    repeats_canonical::inner::code_all(given, hi, lo);
+    sorting::inner::number_ids(ids);
+    let m = repeats_sieving::inner::sieve(hi, lo, ids, buf);
+    sorting::inner::sort_by_code(hi, lo, &mut ids[..m], &mut buf[..m]);
     m
 }
 
-// The lowest handle whose word or its reverse complement stands earlier; 0 where there is none.
-pub fn first_repeat(k: usize, letters: &[u8], ends: &[u32], n: usize, work: &mut [u32]) -> usize
-    requires ready { Ready (spelling k letters.now ends.now) }
-    requires n_value { (n ≡ length (kmers k ends.now)) × (4 * n ≤ length work.old) }
-    ensures { (result ≡ first_repeat (spelling k letters.now ends.now)) × Only 0 (4 * n) work.old work.new }
+// The lowest handle whose word or its reverse complement stands earlier; 0 where there is none. Of the first 4n entries of work, n each go to the upper halves
+// of the codes, the lower halves, the k-mers in their order, and counters and a buffer.
+pub fn first_repeat(given: Spelling, n: usize, work: &mut [u32]) -> usize
+    requires ready { Ready (spelling_in given) }
+    requires n_value { (n ≡ length (kmers given.k given.ends.now)) × (4 * n ≤ length work.old) }
+    ensures { (result ≡ first_repeat (spelling_in given.entry)) × Only 0 (4 * n) work.old work.new }
 {
-    let m = arrange(k, letters, ends, n, work);
-    let least = least_second(work, n, m);
+    let (used, _) = work.split_at_mut(4 * n);
+    let (codes, order) = used.split_at_mut(2 * n);
+    let (hi, lo) = codes.split_at_mut(n);
+    let (ids, buf) = order.split_at_mut(n);
+    let m = arrange(given, hi, lo, ids, buf);
+    let least = least_second(hi, lo, &ids[..m]);
     if least == n { 0 } else { least + 1 }
 }

@@ -14,7 +14,7 @@ use Rattle.lists.specs.Pick.{pick}
 use Rattle.lists.proofs.Compare.{lt_or_le, eq_or_ne}
 use Rattle.lists.proofs.Count.{count_at, length_count, all_count}
 use Rattle.lists.proofs.Pairs.{count_rises}
-use Rattle.lists.proofs.Picks.{pick_nil, pick_here, pick_other, all_pick, length_pick_le}
+use Rattle.lists.proofs.Picks.{pick_nil, pick_here, pick_other, all_pick}
 use Rattle.repeats_sieving.specs.Kept.{to_two, told_of, kept, Stands, Sieved}
 
 -- ─── up to 2 ─────────────────────────────────────────────────────────────────
@@ -104,15 +104,12 @@ module _ (f : ℕ → ℕ) (xs : List ℕ) where
         stands_pick (λ x. told_of f xs (f x)) 2 xs j l t,
       )
 
-  -- a sublist in the same order: what holds of each id, and from each to each later one, goes on to hold; there are no more of them
+  -- a sublist in the same order: what holds of each id, and from each to each later one, goes on to hold
   pub kept-all : (P : ℕ → Type 0) → All P xs → All P (kept f xs)
   kept-all P h = rw (kept_is f xs) (all_pick (λ x. told_of f xs (f x)) P 2 xs h)
 
   pub kept_pairs : (R : ℕ → ℕ → Type 0) → Pairs R xs → Pairs R (kept f xs)
   kept_pairs R h = rw (kept_is f xs) (pairs_pick (λ x. told_of f xs (f x)) 2 R xs h)
-
-  pub kept-length : length (kept f xs) ≤ length xs
-  kept-length = rw (kept_is f xs) (length_pick_le (λ x. told_of f xs (f x)) 2 xs)
 
 -- ─── sieves one after the other ──────────────────────────────────────────────
 

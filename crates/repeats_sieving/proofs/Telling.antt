@@ -5,17 +5,15 @@ use mathlib.Core.Logic.{◌⊎◌, inl, inr, ⊎_elim}
 use mathlib.Core.List.{List, [], ◌∷◌, ◌++◌}
 use Prim.Native.Nat.{ℕ, ◌+◌, ◌-◌, ◌*◌, ◌/◌, ◌%◌, ◌^◌, ◌<◌, ◌≤◌}
 use native.Mathlib.Nat.{zero-div, mul-le-mul_right, suc-mul, div-lt_iff_lt-mul}
-use native.Mathlib.Numerals.{add-one}
 use native.Mathlib.Omega.{arith}
 use lib.ListN.{length, get_or, take, set, length-append}
-use lib.Seq.{get_or-set_same, get_or-set_other, take-length}
+use lib.Seq.{get_or-set_same, get_or-set_other, take-length, length-take-le}
+use Rattle.std.proofs.lemmas.List.{take-set, take_more_set}
 use Rattle.lists.specs.Pick.{pick}
-use Rattle.lists.specs.Regions.{part, Only}
 use Rattle.lists.proofs.Compare.{lt_or_le, eq_or_ne}
 use Rattle.lists.proofs.Picks.{pick_nil, pick_take_here, pick_take-other}
-use Rattle.lists.proofs.Regions.{part_is, part_length, part-set_off, among_refl, only_set, part_grows}
 use Rattle.repeats_sieving.specs.Kept.{to_two, told_of, kept}
-use Rattle.repeats_sieving.specs.Slots.{two_bits, bit_of, counter_of, Told, Grown, slot_of}
+use Rattle.repeats_sieving.specs.Slots.{two_bits, bit_of, counter_of, Told, Grown, Kept, slot_of}
 use Rattle.repeats_sieving.proofs.Kept.{to_two_none, to_two_le, to_two_many, to_two_more, told_is, kept_is}
 use Rattle.repeats_sieving.proofs.TwoBits.{grow_here, grow_above, grow_below}
 
@@ -111,71 +109,55 @@ module _ (f : ℕ → ℕ) (entries : ℕ) (xs table : List ℕ) (i s r : ℕ) (
 
 -- ─── keeping ─────────────────────────────────────────────────────────────────
 
--- Of the m ids xs at b of the table w the first i were looked at, and o of them are kept, in front in the table v.
-pub record Keeping (f : ℕ → ℕ) (b m : ℕ) (xs w v : List ℕ) (i o : ℕ) : Type 0 where
+-- Of the ids xs before and ys after, the first i were looked at, and o of them are kept, in front.
+pub record Keeping (f : ℕ → ℕ) (xs ys : List ℕ) (i o : ℕ) : Type 0 where
   pub below : o ≤ i
-  pub inside : i ≤ m
-  pub front : part b o v ≡ pick (λ x. told_of f xs (f x)) 2 (take i xs)
-  pub behind : (j : ℕ) → i ≤ j → j < m → get_or v (b + j) 0 ≡ get_or w (b + j) 0
-  pub rest : Only b m w v
+  pub front : take o ys ≡ pick (λ x. told_of f xs (f x)) 2 (take i xs)
+  pub behind : (j : ℕ) → i ≤ j → get_or ys j 0 ≡ get_or xs j 0
 
-module _ (f : ℕ → ℕ) (b m : ℕ) (xs w : List ℕ) where
-  pub keeping_none : Keeping f b m xs w w 0 0
-  keeping_none =
-      record {
-        below = omega arith;
-        inside = omega arith;
-        front = part_is b 0 w ∙ sym (pick_nil (λ x. told_of f xs (f x)) 2);
-        behind = λ j l h. refl;
-        rest = among_refl ((b, m) ∷ []) w;
-      }
+module _ (f : ℕ → ℕ) (xs : List ℕ) where
+  pub keeping_none : Keeping f xs xs 0 0
+  keeping_none = record { below = omega arith; front = sym (pick_nil (λ x. told_of f xs (f x)) 2); behind = λ j l. refl }
 
-  module _ (v : List ℕ) (i o x q : ℕ) (k : Keeping f b m xs w v i o) (h : i < m) (size : length xs ≡ m) (room : b + m ≤ length v)
-      (e : get_or xs i 0 ≡ x) (t : q ≡ told_of f xs (f x) / 2)
+  module _ (ys : List ℕ) (i o q : ℕ) (k : Keeping f xs ys i o) (h : i < length xs) (size : length ys ≡ length xs)
+      (t : q ≡ told_of f xs (f (get_or ys i 0)) / 2)
     where
-      o_lt : o < m
-      o_lt = omega (arith, k.below)
+      abbrev x : ℕ
+      x = get_or ys i 0
 
-      test : ℕ → ℕ
-      test y = told_of f xs (f y)
+      e : get_or xs i 0 ≡ x
+      e = sym (k.behind i (omega arith))
 
-      take_it : told_of f xs (f x) ≡ 2 → part b (o + 1) (set v (b + o) x) ≡ pick (λ y. told_of f xs (f y)) 2 (take (i + 1) xs)
+      take_it : told_of f xs (f x) ≡ 2 → take (o + 1) (set ys o x) ≡ pick (λ y. told_of f xs (f y)) 2 (take (i + 1) xs)
       take_it a =
-          ap (λ (n : ℕ). part b n (set v (b + o) x)) (add-one o)
-          ∙ (part_grows v b o x (omega (arith, o_lt))
+          take_more_set ys o x (omega (arith, k.below))
           ∙ (ap₂ (λ (l : List ℕ) (y : ℕ). l ++ (y ∷ [])) k.front (sym e)
-          ∙ sym (pick_take_here (λ y. told_of f xs (f y)) i xs 0 (omega arith) 2 (ap (λ (y : ℕ). told_of f xs (f y)) e ∙ a))))
+          ∙ sym (pick_take_here (λ y. told_of f xs (f y)) i xs 0 h 2 (ap (λ (y : ℕ). told_of f xs (f y)) e ∙ a)))
 
-      leave_it : (told_of f xs (f x) ≡ 2 → ⊥) → part b o (set v (b + o) x) ≡ pick (λ y. told_of f xs (f y)) 2 (take (i + 1) xs)
+      leave_it : (told_of f xs (f x) ≡ 2 → ⊥) → take o (set ys o x) ≡ pick (λ y. told_of f xs (f y)) 2 (take (i + 1) xs)
       leave_it a =
-          part-set_off b o v (b + o) x (inr (omega arith))
-          ∙ (k.front ∙ sym (pick_take-other (λ y. told_of f xs (f y)) i xs 0 (omega arith) 2 (λ z. a (ap (λ (y : ℕ). told_of f xs (f y)) (sym e) ∙ z))))
+          take-set ys o x
+          ∙ (k.front ∙ sym (pick_take-other (λ y. told_of f xs (f y)) i xs 0 h 2 (λ z. a (ap (λ (y : ℕ). told_of f xs (f y)) (sym e) ∙ z))))
 
       told_low : told_of f xs (f x) ≤ 2
       told_low = rw (told_is f xs (f x)) (to_two_le (length (pick f (f x) xs)))
 
-      front_next : part b (o + q) (set v (b + o) x) ≡ pick (λ y. told_of f xs (f y)) 2 (take (i + 1) xs)
+      front_next : take (o + q) (set ys o x) ≡ pick (λ y. told_of f xs (f y)) 2 (take (i + 1) xs)
       front_next =
           ⊎_elim (λ (a : told_of f xs (f x) ≡ 2). let z : q ≡ 1 = omega (arith, told_low) in rw z (take_it a))
           (λ (a : told_of f xs (f x) ≡ 2 → ⊥). let z : o + q ≡ o = omega (arith, told_low) in rw z (leave_it a))
           (eq_or_ne (told_of f xs (f x)) 2)
 
-      pub keeping_next : Keeping f b m xs w (set v (b + o) x) (i + 1) (o + q)
+      pub keeping_next : Keeping f xs (set ys o x) (i + 1) (o + q)
       keeping_next =
           record {
             below = omega (arith, told_low, k.below);
-            inside = omega arith;
             front = front_next;
-            behind = λ j l r. get_or-set_other v (b + o) (b + j) x 0 (λ z. let y : ⊥ = omega (arith, k.below) in y) ∙ k.behind j (omega arith) r;
-            rest = only_set b m w v k.rest o x o_lt;
+            behind = λ j l. get_or-set_other ys o j x 0 (λ z. let y : ⊥ = omega (arith, k.below) in y) ∙ k.behind j (omega arith);
           }
 
   -- once all were looked at
-  pub keeping_all : (v : List ℕ) (i o : ℕ) → Keeping f b m xs w v i o → m ≤ i → length xs ≡ m → b + m ≤ length v
-      → (o ≡ length (kept f xs)) × (part b o v ≡ kept f xs)
-  keeping_all v i o k h size room =
-      let z : i ≡ length xs = omega (arith, k.inside) in
-      let p : part b o v ≡ kept f xs =
-      k.front ∙ (ap (λ (n : ℕ). pick (λ x. told_of f xs (f x)) 2 (take n xs)) z ∙ (ap (pick (λ x. told_of f xs (f x)) 2) (take-length xs) ∙ sym (kept_is f xs)))
-      in
-      (sym (part_length b o v (omega (arith, k.below, k.inside))) ∙ ap length p, p)
+  pub keeping_all : (ys : List ℕ) (o : ℕ) → Keeping f xs ys (length xs) o → length ys ≡ length xs → Kept f xs ys o
+  keeping_all ys o k size =
+      let p : take o ys ≡ kept f xs = k.front ∙ (ap (pick (λ x. told_of f xs (f x)) 2) (take-length xs) ∙ sym (kept_is f xs)) in
+      record { count = sym (length-take-le o ys (omega (arith, k.below))) ∙ ap length p; left = p }

@@ -1,9 +1,8 @@
 -- Inner: a table of counters of two bits, sixteen to an entry, and the slot of a code.
-use Rattle.std.specs.Prelude.{◌≡◌, ◌⊎◌, List, ℕ, ◌+◌, ◌*◌, ◌/◌, ◌%◌, ◌^◌, ◌<◌, ◌≤◌, length, get_or}
-use Rattle.lists.specs.Regions.{part, Among}
-use Rattle.sorting.specs.Keys.{key_at, code_at}
-use Rattle.sorting.specs.Layout.{both}
-use Rattle.repeats_sieving.specs.Kept.{to_two, told_of, kept, Sieved}
+use Rattle.std.specs.Prelude.{◌≡◌, ◌⊎◌, List, ℕ, ◌+◌, ◌*◌, ◌/◌, ◌%◌, ◌^◌, ◌<◌, ◌≤◌, length, get_or, take}
+use Rattle.lists.specs.Every.{All}
+use Rattle.sorting.specs.Keys.{key_at}
+use Rattle.repeats_sieving.specs.Kept.{to_two, told_of, kept}
 
 -- ─── counters ────────────────────────────────────────────────────────────────
 
@@ -38,30 +37,18 @@ slot_of slots a c hi lo = (lo * a + hi * c) / 65536 % 4294967296 * slots / 42949
 abbrev pub slot_at : List ℕ → List ℕ → ℕ → ℕ → ℕ → ℕ → ℕ
 slot_at hi lo slots a c x = slot_of slots a c (key_at hi x) (key_at lo x)
 
--- the same for tables that are the first two regions of n entries of one table
-abbrev pub slot_in : ℕ → List ℕ → ℕ → ℕ → ℕ → ℕ → ℕ
-slot_in n w slots a c = slot_at (part 0 n w) (part n n w) slots a c
+-- ─── a sieve ─────────────────────────────────────────────────────────────────
 
--- ─── the table of a sieve ────────────────────────────────────────────────────
-
--- Regions of n entries: upper halves, lower halves, m ids and `entries` entries of counters.
-pub record Sifting (size n m entries a c : ℕ) : Type 0 where
-  pub few : n < 2 ^ 24
-  pub room : n + n + n + n ≤ size
-  pub ids : m ≤ n
-  pub some : 0 < n → 0 < entries
-  pub counters : entries ≤ n
+-- What a sieve goes by: codes in halves, ids of them, so many entries of counters, and low constants.
+pub record Sifting (hi lo ids : List ℕ) (entries a c : ℕ) : Type 0 where
+  pub halves : length lo ≡ length hi
+  pub inside : All (λ x. x < length hi) ids
+  pub some : 0 < length hi → 0 < entries
+  pub few : entries ≤ 2 ^ 28
   pub a_low : a < 2 ^ 31
   pub c_low : c < 2 ^ 31
 
--- The table w before and v after, with the m ids at 2n: the first r of them are the kept ones, and of the rest only the written regions differ.
-pub record Kept (f : ℕ → ℕ) (n m : ℕ) (written : List (ℕ × ℕ)) (w v : List ℕ) (r : ℕ) : Type 0 where
-  pub count : r ≡ length (kept f (part (n + n) m w))
-  pub left : part (n + n) r v ≡ kept f (part (n + n) m w)
-  pub rest : Among written w v
-
--- Sieves over the ids 0 to n - 1: the first r ids of v are those that are left, and only ids and counters differ.
-pub record Left (n : ℕ) (w v : List ℕ) (r : ℕ) : Type 0 where
-  pub few : r ≤ n
-  pub sieved : Sieved (code_at (part 0 n w) (part n n w)) n (part (n + n) r v)
-  pub rest : Among (both (n + n) (n + n + n) n) w v
+-- Of the ids xs before and ys after: the first r of ys are those that are kept of xs.
+pub record Kept (f : ℕ → ℕ) (xs ys : List ℕ) (r : ℕ) : Type 0 where
+  pub count : r ≡ length (kept f xs)
+  pub left : take r ys ≡ kept f xs

@@ -1,9 +1,9 @@
-// The sieve. Codes, ids and counters are regions of n entries of one table `work`: upper halves, lower halves, ids, counters of two bits.
-ghost use Rattle.std.specs.Prelude.{◌≡◌, [], ◌∷◌, ℕ, ◌+◌, ◌*◌, ◌/◌, ◌^◌, ◌≤◌, ◌<◌, length, get_or};
+// The sieve, by counters of two bits, sixteen to an entry. The code of id x is entry x of `hi`, its upper half, and of `lo`, its lower half.
+ghost use Rattle.std.specs.Prelude.{◌≡◌, ℕ, ◌+◌, ◌*◌, ◌/◌, ◌^◌, ◌≤◌, ◌<◌, length, replicate, take};
 ghost use Rattle.lists.specs.Count.{count_from};
-ghost use Rattle.lists.specs.Every.{All};
-ghost use Rattle.lists.specs.Regions.{part, Only};
-ghost use Rattle.repeats_sieving.specs.Slots.{two_bits, bit_of, slot_of, slot_in, Told, Grown, Sifting, Kept, Left};
+ghost use Rattle.sorting.specs.Keys.{code_at};
+ghost use Rattle.repeats_sieving.specs.Kept.{Sieved};
+ghost use Rattle.repeats_sieving.specs.Slots.{two_bits, bit_of, slot_of, slot_at, Told, Grown, Sifting, Kept};
 
 // The slot of a code. Neither product nor sum passes 64 bits.
 fn slot(hi: u32, lo: u32, slots: usize, a: u64, c: u64) -> usize
@@ -35,80 +35,69 @@ fn full(v: u32, s: usize) -> usize
 }
 
 // The slot of id x.
-fn slot_of(work: &[u32], n: usize, x: usize, slots: usize, a: u64, c: u64) -> usize
-    requires x_lt_n { (x < n) × (n + n ≤ length work.now) }
+fn slot_of(hi: &[u32], lo: &[u32], x: usize, slots: usize, a: u64, c: u64) -> usize
+    requires x_inside { (x < length hi.now) × (length lo.now ≡ length hi.now) }
     requires slots_bound { (slots ≤ 2 ^ 32) × (a < 2 ^ 31) × (c < 2 ^ 31) }
-    ensures { result ≡ slot_in n work.now slots a c x }
+    ensures { result ≡ slot_at hi.now lo.now slots a c x }
 {
-    slot(work[x], work[n + x], slots, a, c)
+    slot(hi[x], lo[x], slots, a, c)
 }
 
-// Counts the m ids of each slot, up to 2, by counters that are 0.
-fn tell(work: &mut [u32], n: usize, m: usize, entries: usize, a: u64, c: u64)
-    requires sifting { Sifting (length work.old) n m entries a c }
-    requires all { All (λ x. x < n) (part (n + n) m work.old) }
-    requires by_index { (i : ℕ) → i < entries → get_or (part (n + n + n) entries work.old) i 0 ≡ 0 }
-    ensures counted { Told (slot_in n work.old (16 * entries) a c) (16 * entries) (part (n + n) m work.old)
-        (part (n + n + n) entries work.new) }
-    ensures counters_alone { Only (n + n + n) entries work.old work.new }
+// Counts the ids of each slot, up to 2, by counters that are 0.
+fn tell(hi: &[u32], lo: &[u32], ids: &[u32], table: &mut [u32], a: u64, c: u64)
+    requires sifting { Sifting hi.now lo.now ids.now (length table.old) a c }
+    requires zero { table.old ≡ replicate (length table.old) 0 }
+    ensures { Told (slot_at hi.now lo.now (16 * length table.old) a c) (16 * length table.old) ids.now table.new }
 {
-    let ids = n + n;
-    let tab = ids + n;
-    let slots = 16 * entries;
-    for i in 0..m {
-        let x = work[ids + i] as usize;
-        let s = slot_of(work, n, x, slots, a, c);
-        let t = tab + s / 16;
-        work[t] = count_up(work[t], s);
+    let slots = 16 * table.len();
+    for id in ids {
+        let s = slot_of(hi, lo, *id as usize, slots, a, c);
+        let t = s / 16;
+        table[t] = count_up(table[t], s);
     }
 }
 
 // Keeps, in front and in their order, the ids whose slot was told twice; how many they are.
-fn keep(work: &mut [u32], n: usize, m: usize, entries: usize, a: u64, c: u64) -> usize
-    requires sifting { Sifting (length work.old) n m entries a c }
-    requires all { All (λ x. x < n) (part (n + n) m work.old) }
-    requires told { Told (slot_in n work.old (16 * entries) a c) (16 * entries) (part (n + n) m work.old) (part (n + n + n) entries work.old) }
-    ensures { Kept (slot_in n work.old (16 * entries) a c) n m ((n + n, m) ∷ []) work.old work.new result }
+fn keep(hi: &[u32], lo: &[u32], ids: &mut [u32], table: &[u32], a: u64, c: u64) -> usize
+    requires sifting { Sifting hi.now lo.now ids.old (length table.now) a c }
+    requires told { Told (slot_at hi.now lo.now (16 * length table.now) a c) (16 * length table.now) ids.old table.now }
+    ensures { Kept (slot_at hi.now lo.now (16 * length table.now) a c) ids.old ids.new result }
 {
-    let ids = n + n;
-    let tab = ids + n;
-    let slots = 16 * entries;
+    let slots = 16 * table.len();
     let mut o = 0;
-    for i in 0..m {
-        let x = work[ids + i];
-        let s = slot_of(work, n, x as usize, slots, a, c);
-        let q = full(work[tab + s / 16], s);
-        work[ids + o] = x;
+    for i in 0..ids.len() {
+        let x = ids[i];
+        let s = slot_of(hi, lo, x as usize, slots, a, c);
+        let q = full(table[s / 16], s);
+        ids[o] = x;
         o += q;
     }
     o
 }
 
-// Of the m ids those stay, in front and in their order, whose slot another of them has; how many they are. Counters are written over what the fourth region
-// held.
-pub fn sift(work: &mut [u32], n: usize, m: usize, entries: usize, a: u64, c: u64) -> usize
-    requires sifting { Sifting (length work.old) n m entries a c }
-    requires all { All (λ x. x < n) (part (n + n) m work.old) }
-    ensures { Kept (slot_in n work.old (16 * entries) a c) n m ((n + n, m) ∷ (n + n + n, entries) ∷ []) work.old work.new result }
+// Of the ids those stay, in front and in their order, whose slot another of them has; how many they are. `table` is for counters, and what it held is lost.
+pub fn sift(hi: &[u32], lo: &[u32], ids: &mut [u32], table: &mut [u32], a: u64, c: u64) -> usize
+    requires { Sifting hi.now lo.now ids.old (length table.old) a c }
+    ensures { Kept (slot_at hi.now lo.now (16 * length table.old) a c) ids.old ids.new result }
 {
-    let tab = n + n + n;
-    let end = tab + entries;
-    sorting::inner::clear(&mut work[tab..end], entries);
-    tell(work, n, m, entries, a, c);
-    keep(work, n, m, entries, a, c)
+    table.fill(0);
+    tell(hi, lo, ids, table, a, c);
+    keep(hi, lo, ids, table, a, c)
 }
 
-// Two sieves over all n ids, with four slots an id and other constants the second time; how many ids are left. Where the first leaves most, the second would
-// drop few.
-pub fn sieve(work: &mut [u32], n: usize) -> usize
-    requires n_bound { (n < 2 ^ 24) × (n + n + n + n ≤ length work.old) }
-    requires work_value { part (n + n) n work.old ≡ count_from 0 n }
-    ensures { Left n work.old work.new result }
+// Two sieves over all n ids, with four slots an id and other constants the second time; how many ids are left, in front. Where the first leaves most, the
+// second would drop few. `buf` is for counters.
+pub fn sieve(hi: &[u32], lo: &[u32], ids: &mut [u32], buf: &mut [u32]) -> usize
+    requires sizes { (length hi.now < 2 ^ 24) × (length lo.now ≡ length hi.now) × (length buf.old ≡ length hi.now) }
+    requires numbered { ids.old ≡ count_from 0 (length hi.now) }
+    ensures few { result ≤ length hi.now }
+    ensures sieved { Sieved (code_at hi.now lo.now) (length hi.now) (take result ids.new) }
 {
-    let entries = (n + 3) / 4;
-    let m = sift(work, n, n, entries, 0x5e3779b1, 0x45ebca77);
+    let n = hi.len();
+    let table = &mut buf[..(n + 3) / 4];
+    let m = sift(hi, lo, ids, table, 0x5e3779b1, 0x45ebca77);
     if m > n / 2 {
         return m;
     }
-    sift(work, n, m, entries, 0x42b2ae3d, 0x27d4eb2f)
+    sift(hi, lo, &mut ids[..m], table, 0x42b2ae3d, 0x27d4eb2f)
 }

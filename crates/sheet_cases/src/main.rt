@@ -3,7 +3,7 @@
 // wrong line of that number, `k` for a k out of range, `r` for a sheet that the tables have no room for.
 #![tactic(auto)]
 
-use collection::Refusal;
+use collection::{Collection, Refusal};
 use std::io;
 use std::io::Write;
 
@@ -24,15 +24,8 @@ fn is_refused(sheet: &[u8], refusal: Refusal) -> bool {
 }
 
 // Whether WRITE of a collection is the sheet.
-fn written(
-    k: usize,
-    letters: &[u8],
-    ends: &[u32],
-    weights: &[u32],
-    sheet: &[u8],
-    out: &mut [u8],
-) -> bool {
-    let Ok(c) = sheet_write::write(k, letters, ends, weights, out) else {
+fn written(given: Collection, sheet: &[u8], out: &mut [u8]) -> bool {
+    let Ok(c) = sheet_write::write(given, out) else {
         return false;
     };
     out.get(..c) == Some(sheet)
@@ -56,7 +49,14 @@ fn back(
     ) else {
         return false;
     };
-    written(filled.k, letters, ends, weights, sheet, out)
+    let k = filled.k;
+    let given = Collection {
+        k,
+        letters,
+        ends,
+        weights,
+    };
+    written(given, sheet, out)
 }
 
 // The same with tables of its own.

@@ -7,36 +7,24 @@ mod writing;
 
 ghost use Rattle.std.specs.Prelude.{◌≡◌};
 ghost use Rattle.sheet.specs.Write.{write_verdict, write_outcome, write_of};
-ghost use Rattle.collection.specs.Collection.{collection};
+ghost use Rattle.collection.specs.Lent.{collection_in};
 
-use collection::Refusal;
+use collection::{Collection, Refusal};
 
 // 2 to 6, then 1: the sheet for a table of `have` bytes.
 #[tactic(auto, unfolding(sheet::specs::Write::write_verdict, collection::specs::Verdict::and_then))]
-fn judge_write(
-    k: usize,
-    letters: &[u8],
-    ends: &[u32],
-    weights: &[u32],
-    have: usize,
-) -> Result<(), Refusal>
-    ensures { result ≡ write_verdict (collection k letters.now ends.now weights.now) have }
+fn judge_write(given: Collection, have: usize) -> Result<(), Refusal>
+    ensures { result ≡ write_verdict (collection_in given.entry) have }
 {
-    collection::judge_collection(k, letters, ends, weights)?;
-    let n = writing::sheet_length(k, letters, ends, weights);
+    given.judge()?;
+    let n = writing::sheet_length(given);
     collection::judge_room(have, n)
 }
 
 // WRITE: a collection's sheet into the lent table; answers how many bytes it wrote.
-pub fn write(
-    k: usize,
-    letters: &[u8],
-    ends: &[u32],
-    weights: &[u32],
-    sheet: &mut [u8],
-) -> Result<usize, Refusal>
-    ensures { write_outcome result sheet.new ≡ write_of (collection k letters.now ends.now weights.now) sheet.old }
+pub fn write(given: Collection, sheet: &mut [u8]) -> Result<usize, Refusal>
+    ensures { write_outcome result sheet.new ≡ write_of (collection_in given.entry) sheet.old }
 {
-    judge_write(k, letters, ends, weights, sheet.len())?;
-    Ok(writing::put_sheet(k, letters, ends, weights, sheet))
+    judge_write(given, sheet.len())?;
+    Ok(writing::put_sheet(given, sheet))
 }

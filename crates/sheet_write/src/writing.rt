@@ -2,7 +2,7 @@
 ghost use Rattle.std.specs.Prelude.{◌≡◌, ◌+◌, ◌*◌, ◌≤◌, length};
 ghost use Rattle.lists.specs.Fill.{put, fill};
 ghost use Rattle.lists.specs.Limits.{most_letters};
-ghost use Rattle.collection.specs.Collection.{collection};
+ghost use Rattle.collection.specs.Lent.{collection_in};
 ghost use Rattle.collection.specs.Judge.{Passes};
 ghost use Rattle.collection.specs.Strings.{strings};
 ghost use Rattle.sheet.specs.Text.{weights_text, lines_text, write_text};
@@ -10,6 +10,7 @@ ghost use Rattle.text.specs.Stored.{Stores};
 ghost use Rattle.sheet_write.specs.Written.{head_line, cut_string, string_line};
 
 use crate::numbers;
+use collection::Collection;
 
 // How many bytes all weights take, each with its tab.
 fn weights_length(weights: &[u32]) -> usize
@@ -24,12 +25,12 @@ fn weights_length(weights: &[u32]) -> usize
 }
 
 // How long the sheet is: line 1, then three bytes a string, its letters, and the weights.
-pub(crate) fn sheet_length(k: usize, letters: &[u8], ends: &[u32], weights: &[u32]) -> usize
-    requires { Passes (collection k letters.now ends.now weights.now) }
-    ensures { result ≡ length (write_text (collection k letters.now ends.now weights.now)) }
+pub(crate) fn sheet_length(given: Collection) -> usize
+    requires { Passes (collection_in given) }
+    ensures { result ≡ length (write_text (collection_in given.entry)) }
 {
-    let head = 3 + text::inner::digit_count(k);
-    head + 3 * ends.len() + letters.len() + weights_length(weights)
+    let head = 3 + text::inner::digit_count(given.k);
+    head + 3 * given.ends.len() + given.letters.len() + weights_length(given.weights)
 }
 
 // Line 1; answers where it ends.
@@ -68,26 +69,18 @@ fn put_string(
 }
 
 // The lines of all strings, from a place on; answers where they end.
-fn put_lines(
-    k: usize,
-    letters: &[u8],
-    ends: &[u32],
-    weights: &[u32],
-    out: &mut [u8],
-    at: usize,
-) -> usize
-    requires passes { Passes (collection k letters.now ends.now weights.now) }
-    requires weights_in_bounds { at + length (lines_text (strings (collection k letters.now ends.now weights.now))) ≤ length out.old }
-    ensures { Stores at (lines_text (strings (collection k letters.now ends.now weights.now))) out.old result
-        out.new }
+fn put_lines(given: Collection, out: &mut [u8], at: usize) -> usize
+    requires passes { Passes (collection_in given) }
+    requires weights_in_bounds { at + length (lines_text (strings (collection_in given))) ≤ length out.old }
+    ensures { Stores at (lines_text (strings (collection_in given.entry))) out.old result out.new }
 {
     let mut before: usize = 0;
     let mut w: usize = 0;
     let mut p = at;
-    for end in ends {
+    for end in given.ends {
         let e = *end as usize;
-        let n = e + 1 - (before + k);
-        p = put_string(letters, before, e, weights, w, n, out, p);
+        let n = e + 1 - (before + given.k);
+        p = put_string(given.letters, before, e, given.weights, w, n, out, p);
         before = e;
         w += n;
     }
@@ -95,18 +88,12 @@ fn put_lines(
 }
 
 // The whole sheet; answers its length.
-pub(crate) fn put_sheet(
-    k: usize,
-    letters: &[u8],
-    ends: &[u32],
-    weights: &[u32],
-    out: &mut [u8],
-) -> usize
-    requires passes { Passes (collection k letters.now ends.now weights.now) }
-    requires weights_in_bounds { length (write_text (collection k letters.now ends.now weights.now)) ≤ length out.old }
-    ensures counted { result ≡ length (write_text (collection k letters.now ends.now weights.now)) }
-    ensures filled { out.new ≡ fill (write_text (collection k letters.now ends.now weights.now)) out.old }
+pub(crate) fn put_sheet(given: Collection, out: &mut [u8]) -> usize
+    requires passes { Passes (collection_in given) }
+    requires weights_in_bounds { length (write_text (collection_in given)) ≤ length out.old }
+    ensures counted { result ≡ length (write_text (collection_in given.entry)) }
+    ensures filled { out.new ≡ fill (write_text (collection_in given.entry)) out.old }
 {
-    let p = put_head(k, out);
-    put_lines(k, letters, ends, weights, out, p)
+    let p = put_head(given.k, out);
+    put_lines(given, out, p)
 }

@@ -1,13 +1,13 @@
 // The numbers of a judged collection: CHECK, COVER, and what there is to count. For callers that have judged it and have the tables.
 ghost use Rattle.std.specs.Prelude.{◌≡◌, ◌*◌, ◌≤◌, length};
-ghost use Rattle.collection.specs.Collection.{collection};
+ghost use Rattle.collection.specs.Lent.{collection_in};
 ghost use Rattle.collection.specs.Judge.{Passes};
 ghost use Rattle.collection.specs.Ready.{Strung};
 ghost use Rattle.summary_counts.specs.Inner.{Weighed};
 ghost use Rattle.summary.specs.Summary.{checked_of};
 ghost use Rattle.summary.specs.Inner.{numbers_from};
 
-use collection::Refusal;
+use collection::{Collection, Refusal};
 use summary_text::Numbers;
 
 // The numbers of a collection, of which the least number of paths is known.
@@ -34,18 +34,16 @@ fn count_all(k: usize, ends: &[u32], weights: &[u32], paths: usize, work: &mut [
 
 // What there is to say of a judged collection: its first repeated word, or its numbers. The places are COVER's.
 pub fn tell_collection(
-    k: usize,
-    letters: &[u8],
-    ends: &[u32],
-    weights: &[u32],
+    given: Collection,
     places: &mut [i32],
     work: &mut [u32],
 ) -> Result<Numbers, Refusal>
-    requires passes { Passes (collection k letters.now ends.now weights.now) }
-    requires ends_in_bounds { (length ends.now ≤ length places.old) × (16 * length ends.now ≤ length work.old) × (4 * length weights.now ≤ length work.old) }
-    ensures { result ≡ checked_of (collection k letters.now ends.now weights.now) }
+    requires passes { Passes (collection_in given) }
+    requires ends_in_bounds { (length given.ends.now ≤ length places.old) × (16 * length given.ends.now ≤ length work.old)
+        × (4 * length given.weights.now ≤ length work.old) }
+    ensures { result ≡ checked_of (collection_in given.entry) }
 {
-    repeats::check(k, letters, ends, weights, work)?;
-    let covered = cover::cover(k, letters, ends, weights, places, work)?;
-    Ok(count_all(k, ends, weights, covered.paths, work))
+    repeats::check(given, work)?;
+    let covered = cover::cover(given, places, work)?;
+    Ok(count_all(given.k, given.ends, given.weights, covered.paths, work))
 }

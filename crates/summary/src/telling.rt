@@ -4,7 +4,7 @@ ghost use Rattle.summary.specs.Summary.{summary_of};
 ghost use Rattle.summary.specs.Inner.{Ample};
 
 use crate::inner;
-use collection::Refusal;
+use collection::{Collection, Refusal};
 use summary_text::Numbers;
 
 // A sheet: its length, READ, then the collection.
@@ -23,12 +23,11 @@ pub(crate) fn tell(
         return Err(Refusal::Limits);
     }
     let filled = sheet_read::read(sheet, letters, ends, weights)?;
-    inner::tell_collection(
-        filled.k,
-        &letters[..filled.letters],
-        &ends[..filled.ends],
-        &weights[..filled.weights],
-        places,
-        work,
-    )
+    let given = Collection {
+        k: filled.k,
+        letters: &letters[..filled.letters],
+        ends: &ends[..filled.ends],
+        weights: &weights[..filled.weights],
+    };
+    inner::tell_collection(given, places, work)
 }

@@ -75,18 +75,18 @@ fn runs_by(weights: &[u32], ids: &mut [u32]) -> usize
     runs::inner::count_runs(ids)
 }
 
-// How many weights are different: in their order each is one run. The first 3n entries of work hold the weights, the ids that are
-// sorted by them, and a buffer; what is left there is not promised.
+// How many weights are different: in their order each is one run. The first 2n entries of work hold the ids that are sorted by them, and a buffer; what is left
+// there is not promised.
 pub fn distinct(weights: &[u32], work: &mut [u32]) -> usize
-    requires { Weighed weights.now × (3 * length weights.now ≤ length work.old) }
+    requires { Weighed weights.now × (2 * length weights.now ≤ length work.old) }
     ensures { (result ≡ distinct_in weights.now) × (result ≤ length weights.now) }
 {
     let n = weights.len();
-    let e = n + n;
-    work[..n].copy_from_slice(weights);
-    sorting::inner::number_ids(&mut work[n..e]);
-    sorting::inner::sort_by_weight(work, 0, n, e, n);
-    runs_by(weights, &mut work[n..e])
+    let (ids, rest) = work.split_at_mut(n);
+    let buf = &mut rest[..n];
+    sorting::inner::number_ids(ids);
+    sorting::inner::sort_by_weight(weights, ids, buf);
+    runs_by(weights, ids)
 }
 
 // The bits of so many distinct weights: each takes the logarithm of the largest.

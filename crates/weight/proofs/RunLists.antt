@@ -1,12 +1,18 @@
 -- What a judged run list keeps to, and the lookup in it. Assumes nothing.
-use mathlib.Core.Path.{◌≡◌, refl, sym, ap, subst}
-use mathlib.Core.Bool.{true, not, ◌&&◌}
+use denote.Param.Members.{Mut}
+use denote.Ref.{Bor}
+use mathlib.Core.Path.{◌≡◌, refl, sym, ap, ◌∙◌}
+use mathlib.Core.Bool.{Bool, true, false, not, ◌&&◌}
 use mathlib.Core.List.{List, [], ◌∷◌}
-use Prim.Native.Nat.{ℕ, zero, suc, ◌+◌, ◌-◌, ◌<◌, ◌≤◌}
+use Prim.Native.Nat.{ℕ, zero, suc, ◌-◌, ◌<◌, ◌≤◌}
 use native.Mathlib.Nat.{not-suc-le-zero}
 use native.Mathlib.Decide.{ℕ_discrete}
 use native.Mathlib.Omega.{arith}
 use borrow.Author.Tests.{leb-true, ltb-true, eqb-true, le-leb, lt-leb}
+use Rattle.std.specs.List.Sorted.{IsPartitionedBy, IsPartitionPoint}
+use Rattle.std.specs.Fn.{ComputesKey, Called}
+use Rattle.std.proofs.lemmas.Bool.{leb-false}
+use Rattle.std.proofs.lemmas.List.Sorted.{IsPartitionPoint-from_clause, IsPartitionedBy-leb}
 use lib.Dec.{leb, ltb, eqb}
 use lib.ListN.{length, get_or}
 use Rattle.collection.specs.Verdict.{good}
@@ -112,29 +118,35 @@ last_is handle so_far (w ∷ weights) (f ∷ firsts) (suc i) l m h k =
 
 -- ─── by halving ──────────────────────────────────────────────────────────────
 
--- run `low` starts at or before the handle, run `high` (if there is one) after it
-pub record Halving (firsts : List ℕ) (handle low high : ℕ) : Type 0 where
-  pub order : low < high
-  pub inside : high ≤ length firsts
-  pub before : get_or firsts low 0 ≤ handle
-  pub after : high < length firsts → handle < get_or firsts high 0
-
 module _ {n : ℕ} {weights firsts : List ℕ} {handle : ℕ} (s : Listed n weights firsts handle) where
-  pub halving_begins : Halving firsts handle 0 (length firsts)
-  halving_begins =
+  -- first handles rise, so those at or below the handle come first
+  pub rising : IsPartitionedBy (λ f. leb f handle) firsts
+  rising =
+      let r = (list_good n weights firsts s.list).rise in
+      IsPartitionedBy-leb (λ f. f) firsts handle (λ i j d l m. go i j d m (ℕ_discrete i j) (λ q. pairs_at (λ a b. a < b) firsts r i j d q m) l)
+    where
+      go : (i j d : ℕ) → j < length firsts → Dec (i ≡ j) → (i < j → get_or firsts i d < get_or firsts j d) → i ≤ j → get_or firsts i d ≤ get_or firsts j d
+      go i j d m (yes e) up l = let z = ap (λ (x : ℕ). get_or firsts x d) e in omega arith
+      go i j d m (no e) up l = let z = up (omega arith) in omega arith
+
+  -- `partition_point` finds the first run after the handle, and the one before it has the handle's weight
+  pub found_at : {F : Type 0} {g : Mut F (Bor ℕ × Unit {0}) Bool} {f : F} (after : ℕ) → after ≤ length firsts
+      → ((q : ℕ → Bool) → ComputesKey g q f → IsPartitionedBy q firsts → IsPartitionPoint (λ y. q y ≡ true) (λ y. q y ≡ false) firsts after)
+      → ((a : Bor ℕ × Unit {0}) (r : Bool) (f' : F) → Called g f a r f' → (r ≡ leb a.0.now handle) × (f' ≡ f))
+      → (1 ≤ after) × (after - 1 < length weights) × (get_or weights (after - 1) 0 ≡ weight_at handle weights firsts)
+  found_at after b clause test =
+      let p = IsPartitionPoint-from_clause (λ y. leb y handle) firsts after clause rising test in
       let g = list_good n weights firsts s.list in
       let m = g.some (omega (arith, s.low, s.high)) in
-      record { order = m; inside = omega arith; before = omega (arith, g.from_one m, s.low); after = λ l. absurd (omega arith) }
-
-  pub halving_ends : {low high : ℕ} → Halving firsts handle low high → high - low ≤ 1 → get_or weights low 0 ≡ weight_at handle weights firsts
-  halving_ends {low} {high} h e =
-      let g = list_good n weights firsts s.list in
-      let q : high ≡ low + 1 = omega (arith, h.order) in
-      sym
-      (last_is handle 0 weights firsts low (omega (arith, h.order, h.inside, g.same_length)) (omega (arith, h.order, h.inside)) h.before
-      (λ j l m. go j l m (ℕ_discrete j high) (pairs_at (λ a b. a < b) firsts g.rise high j 0)))
+      let l = some (ℕ_discrete after 0) (le-leb (get_or firsts 0 0) handle (omega (arith, g.from_one m, s.low))) (λ e. p.1 0 0 (omega arith) m) in (
+        l,
+        omega (arith, g.same_length),
+        sym
+            (last_is handle 0 weights firsts (after - 1) (omega (arith, g.same_length)) (omega arith)
+            (leb-true (get_or firsts (after - 1) 0) handle (p.0 (after - 1) 0 (omega arith) (omega arith)))
+            (λ j q r. leb-false (get_or firsts j 0) handle (p.1 j 0 (omega arith) r))),
+      )
     where
-      go : (j : ℕ) → low < j → j < length firsts → Dec (j ≡ high) → (high < j → j < length firsts → get_or firsts high 0 < get_or firsts j 0)
-          → handle < get_or firsts j 0
-      go j l m (yes r) up = subst (λ (x : ℕ). handle < get_or firsts x 0) (sym r) (h.after (omega arith))
-      go j l m (no r) up = omega (arith, up (omega (arith, h.order)) m, h.after (omega (arith, h.order)))
+      some : Dec (after ≡ 0) → leb (get_or firsts 0 0) handle ≡ true → (after ≡ 0 → leb (get_or firsts 0 0) handle ≡ false) → 1 ≤ after
+      some (yes e) t above = never (sym (above e) ∙ t)
+      some (no e) t above = omega (arith, e)

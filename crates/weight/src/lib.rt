@@ -10,13 +10,20 @@ ghost use Rattle.weight.specs.Weight.{weight_answer};
 
 use collection::Refusal;
 
+// A run list as a caller lends it: the weight and the first handle of each run, in two tables.
+#[derive(Clone, Copy)]
+pub struct RunList<'a> {
+    pub weights: &'a [u32],
+    pub firsts: &'a [u32],
+}
+
 // 12: a bad run list of n k-mers.
 #[tactic(auto, unfolding(crate::specs::RunList::run_list_verdict))]
-pub fn judge_run_list(run_weights: &[u32], run_firsts: &[u32], n: usize) -> Result<(), Refusal>
-    ensures { result ≡ run_list_verdict n run_weights.now run_firsts.now }
+pub fn judge_run_list(list: RunList, n: usize) -> Result<(), Refusal>
+    ensures { result ≡ run_list_verdict n list.entry.weights.now list.entry.firsts.now }
 {
     if n <= 1048576 {
-        if judging::is_run_list(run_weights, run_firsts, n) {
+        if judging::is_run_list(list, n) {
             return Ok(());
         }
     }
@@ -25,15 +32,10 @@ pub fn judge_run_list(run_weights: &[u32], run_firsts: &[u32], n: usize) -> Resu
 
 // WEIGHT: the weight of the last run that starts at or before the handle. The whole list is judged first.
 #[tactic(auto, unfolding(crate::specs::Weight::weight_answer, collection::specs::Verdict::settle, collection::specs::Verdict::and_then))]
-pub fn weight(
-    run_weights: &[u32],
-    run_firsts: &[u32],
-    n: usize,
-    handle: usize,
-) -> Result<u32, Refusal>
-    ensures { result ≡ weight_answer run_weights.now run_firsts.now n handle }
+pub fn weight(list: RunList, n: usize, handle: usize) -> Result<u32, Refusal>
+    ensures { result ≡ weight_answer list.entry.weights.now list.entry.firsts.now n handle }
 {
-    judge_run_list(run_weights, run_firsts, n)?;
+    judge_run_list(list, n)?;
     collection::judge_handle(n, handle)?;
-    Ok(inner::weight_at(run_weights, run_firsts, n, handle))
+    Ok(inner::weight_at(list, n, handle))
 }

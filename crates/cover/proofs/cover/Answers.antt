@@ -1,6 +1,5 @@
 -- `cover` meets its contract: the verdict, then the strings covered in parts of the lent tables (proofs/Promised).
 use mathlib.Core.Path.{sym, ◌∙◌}
-use native.Mathlib.Omega.{arith}
 use Rattle.std.proofs.lemmas.Result.{err_from_is_err_and}
 use Rattle.collection.proofs.Strung.{judged_strung}
 use Rattle.cover.proofs.Promised.{cover_good, work_fits, places_fit, cover_refused, cover_none, cover_all}
@@ -14,17 +13,8 @@ returns-in_err-judge_cover c =
 pub returns-then-m-eq0 : goal.returns-then-m-eq0
 returns-then-m-eq0 c = cover_none _ _ _ _ (sym c.judge_cover.ensures ∙ c.in_ok-judge_cover.was) c.if-m-eq0.true
 
-pub overflow_mul-need : goal.overflow_mul-need
-overflow_mul-need c = let r = cover_good _ _ _ (sym c.judge_cover.ensures ∙ c.in_ok-judge_cover.was) in omega (arith, r.judged.shape.m_high)
-
-pub slice_bounds-cover_strings-end : goal.slice_bounds-cover_strings-end
-slice_bounds-cover_strings-end c = (cover_good _ _ _ (sym c.judge_cover.ensures ∙ c.in_ok-judge_cover.was)).places_room
-
 pub slice_bounds-cover_strings-end-2 : goal.slice_bounds-cover_strings-end-2
 slice_bounds-cover_strings-end-2 c = sym (places_fit (cover_good _ _ _ (sym c.judge_cover.ensures ∙ c.in_ok-judge_cover.was)))
-
-pub slice_bounds-cover_strings-end-3 : goal.slice_bounds-cover_strings-end-3
-slice_bounds-cover_strings-end-3 c = (cover_good _ _ _ (sym c.judge_cover.ensures ∙ c.in_ok-judge_cover.was)).work_room
 
 pub slice_bounds-cover_strings-end-4 : goal.slice_bounds-cover_strings-end-4
 slice_bounds-cover_strings-end-4 c = sym (work_fits (cover_good _ _ _ (sym c.judge_cover.ensures ∙ c.in_ok-judge_cover.was)) c.if-m-eq0.false).size

@@ -6,5 +6,5 @@ use Rattle.cover.proofs.judge_cover.Goals as goal
 
 pub overflow_mul-m : goal.overflow_mul-m
 overflow_mul-m c =
-    let j = collection_good _ (sym c.judge_collection.ensures ∙ c.in_ok-judge_collection.was) in
+    let j = collection_good _ (sym c.judge.ensures ∙ c.in_ok-judge.was) in
     omega (arith, j.shape.m_high)

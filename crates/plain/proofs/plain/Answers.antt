@@ -6,6 +6,6 @@ use Rattle.plain.proofs.plain.Goals as goal
 
 pub found-requires : goal.found-requires
 found-requires c = record {
-  ready = judged_ready (collection_good _ (sym c.judge_collection.ensures ∙ c.in_ok-judge_collection.was));
+  ready = judged_ready (collection_good _ (sym c.judge.ensures ∙ c.in_ok-judge.was));
   word_len = word_good _ _ (sym c.judge_word.ensures ∙ c.in_ok-judge_word.was);
 }

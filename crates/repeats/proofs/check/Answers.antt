@@ -9,22 +9,9 @@ use Rattle.lists.proofs.Zeroed.{only_fill}
 use Rattle.collection.specs.declared.refusal.Refusal.TheVariants.{Repeated}
 use Rattle.collection.specs.Verdict.{at_place, settle}
 use Rattle.collection.proofs.Verdicts.{settled}
-use Rattle.repeats.specs.Check.{check_of, outcome}
+use Rattle.repeats.specs.Check.{check_of, first_repeat, outcome}
 use Rattle.repeats.proofs.Checked.{check_started}
 use Rattle.repeats.proofs.check.Goals as goal
-
-pub first_repeat-repeat-requires : goal.first_repeat-repeat-requires
-first_repeat-repeat-requires c =
-    let s = check_started _ _ (sym c.judge_check.ensures ∙ c.in_ok-judge_check.was) in
-    record { ready = s.ready; n_value = (s.each, omega (arith, s.enough, s.counted)) }
-
-pub overflow_mul-n : goal.overflow_mul-n
-overflow_mul-n c = let s = check_started _ _ (sym c.judge_check.ensures ∙ c.in_ok-judge_check.was) in omega (arith, s.enough, s.counted)
-
-pub zero_first-requires : goal.zero_first-requires
-zero_first-requires c =
-    let s = check_started _ _ (sym c.judge_check.ensures ∙ c.in_ok-judge_check.was) in
-    omega (arith, s.enough, s.counted, c.first_repeat-repeat.ensures.1.size)
 
 pub returns : goal.returns
 unfolding check_of
@@ -32,10 +19,11 @@ returns c =
     let good = sym c.judge_check.ensures ∙ c.in_ok-judge_check.was in
     let s = check_started _ _ good in
     let a = c.args in
-    let n = length a.weights.now in
+    let n = length a.given.weights.now in
     let f = c.first_repeat-repeat in
     settled _
-    (ap₂ outcome (c.answer.ensures ∙ ap₂ (λ (p m : ℕ). settle (at_place Repeated p) Err (Ok m)) f.ensures.0 s.counted)
+    (ap₂ outcome
+    (c.answer.ensures ∙ ap₂ (λ (p m : ℕ). settle (at_place Repeated p) Err (Ok m)) (f.ensures.0 ∙ ap first_repeat c.spelling.ensures) s.counted)
     (c.zero_first.ensures
     ∙ (only_fill (4 * n) (replicate (4 * n) 0) a.work.now f.new.work (length-replicate (4 * n) 0)
     (omega (arith, s.enough, s.counted)) f.ensures.1

@@ -6,10 +6,10 @@ use Rattle.repeats.proofs.judge_check.Goals as goal
 
 pub kmer_count-n-requires : goal.kmer_count-n-requires
 kmer_count-n-requires c =
-    let s = (collection_good _ (sym c.judge_collection.ensures ∙ c.in_ok-judge_collection.was)).shape in
+    let s = (collection_good _ (sym c.judge.ensures ∙ c.in_ok-judge.was)).shape in
     record { k_bound = s.room; le_k = omega (arith, s.k_low) }
 
 pub overflow_mul-n : goal.overflow_mul-n
 overflow_mul-n c =
-    let s = (collection_good _ (sym c.judge_collection.ensures ∙ c.in_ok-judge_collection.was)).shape in
+    let s = (collection_good _ (sym c.judge.ensures ∙ c.in_ok-judge.was)).shape in
     omega (arith, c.kmer_count-n.ensures, s.letters_high)

@@ -7,7 +7,7 @@ use Rattle.runs.proofs.runs.Goals as goal
 
 pub fill_runs-requires : goal.fill_runs-requires
 fill_runs-requires c =
-    let g = collection_good _ (sym c.judge_collection.ensures ∙ c.in_ok-judge_collection.was) in
+    let g = collection_good _ (sym c.judge.ensures ∙ c.in_ok-judge.was) in
     let weights_room = room_good _ _ (sym c.judge_room.ensures ∙ c.in_ok-judge_room.was) in
     let firsts_room = room_good _ _ (sym c.judge_room-2.ensures ∙ c.in_ok-judge_room-2.was) in
     record {

@@ -3,4 +3,4 @@ use mathlib.Core.Path.{sym, ◌∙◌}
 use Rattle.sheet_write.proofs.judge_write.Goals as goal
 
 pub sheet_length-n-requires : goal.sheet_length-n-requires
-sheet_length-n-requires c = sym c.judge_collection.ensures ∙ c.in_ok-judge_collection.was
+sheet_length-n-requires c = sym c.judge.ensures ∙ c.in_ok-judge.was

@@ -6,5 +6,5 @@ use Rattle.access.proofs.locating.judge_access.Goals as goal
 
 pub kmer_count-n-requires : goal.kmer_count-n-requires
 kmer_count-n-requires c =
-    let s = shape_good _ (sym c.judge_shape.ensures ∙ c.in_ok-judge_shape.was) in
+    let s = shape_good _ (sym c.judge.ensures ∙ c.in_ok-judge.was) in
     record { k_bound = s.room; le_k = omega (arith, s.k_low) }

@@ -8,10 +8,10 @@ use Rattle.apply_strings.proofs.inner.place_strings.Goals as goal
 use Rattle.apply_strings.proofs.inner.place_strings.Goals.{After-part_of-start}
 
 -- the part lies inside the tables
-letters-here : (c : After-part_of-start) → let r = c.part_of-start.result in (r.start ≤ r.end) × (r.end ≤ length c.args.letters.now)
+letters-here : (c : After-part_of-start) → let r = c.part_of-start.result in (r.start ≤ r.end) × (r.end ≤ length c.args.given.letters.now)
 letters-here c = letters_inside c.requires.placeable _ c.loop-j-test.true c.part_of-start.result c.part_of-start.ensures
 
-weights-here : (c : After-part_of-start) → let r = c.part_of-start.result in (r.first ≤ r.last) × (r.last ≤ length c.args.weights.now)
+weights-here : (c : After-part_of-start) → let r = c.part_of-start.result in (r.first ≤ r.last) × (r.last ≤ length c.args.given.weights.now)
 weights-here c = weights_inside c.requires.placeable _ c.loop-j-test.true c.part_of-start.result c.part_of-start.ensures
 
 pub loop-j-init : goal.loop-j-init
@@ -40,8 +40,8 @@ write_letters-requires c =
     let o = c.part_of-start.ensures in
     (letters_room p c.loop-j.invariant l r o, letters-asked p _ l r o)
 
-pub offset_bounds-weights-first : goal.offset_bounds-weights-first
-offset_bounds-weights-first c = omega (arith, weights-here (goal.at.offset_bounds-weights-first c).After-part_of-start, few_weights c.requires.placeable)
+pub offset_bounds-given-first : goal.offset_bounds-given-first
+offset_bounds-given-first c = omega (arith, weights-here (goal.at.offset_bounds-given-first c).After-part_of-start, few_weights c.requires.placeable)
 
 pub slice_bounds-write_column-end : goal.slice_bounds-write_column-end
 slice_bounds-write_column-end c = omega (arith, weights-here (goal.at.slice_bounds-write_column-end c).After-part_of-start)

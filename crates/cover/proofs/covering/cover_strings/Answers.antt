@@ -16,9 +16,8 @@ overflow_add-result c =
 
 pub returns : goal.returns
 returns c =
-    let s = c.before in
-    let p = s.requires in
+    let p = c.requires in
     let l = c.lay_out.ensures in
-    covering l.begun.ready.between.graph c.walk_all-tour.ensures s.args.places.now p.2 l.renamed _
+    covering l.begun.ready.between.graph c.walk_all-tour.ensures c.args.places.now p.2 l.renamed _
     c.write_places.ensures c.zero_first.ensures
     (omega (arith, p.1.size))

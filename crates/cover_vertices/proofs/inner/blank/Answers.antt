@@ -1,13 +1,11 @@
--- `blank` meets its contract: two ladders and two parts that are filled (proofs/Blanks).
-use Prim.Native.Nat.{◌*◌}
-use native.Mathlib.Omega.{arith}
-use Rattle.cover_vertices.proofs.Blanks.{blanked}
-use Rattle.cover_vertices.proofs.Ladder.{filled_put}
+-- `blank` meets its contract: equal numbers are a ladder of steps of 0.
+use mathlib.Core.Path.{sym, ap, ◌∙◌}
+use lib.ListN.{replicate}
+use Rattle.cover_vertices.proofs.Ladder.{ladder_same}
 use Rattle.cover_vertices.proofs.inner.blank.Goals as goal
 
-pub returns : goal.returns
-returns c =
-    let m = c.args.m in
-    let flags = filled_put (2 * m) _ m 0 _ (c.fill.ensures.after (λ y e. e)) (omega arith) (omega (arith, c.requires.size)) in
-    let spokes = filled_put (3 * m) _ (2 * m) 1 _ (c.fill-2.ensures.after (λ y e. e)) (omega arith) (omega (arith, c.requires.size)) in
-    blanked c.requires c.write_ladder.ensures c.write_ladder-2.ensures flags spokes (omega arith) (omega arith) (omega arith)
+pub returns-clause-strings : goal.returns-clause-strings
+returns-clause-strings c = c.fill.ensures.after (λ y e. e) ∙ sym (ladder_same 0 _)
+
+pub returns-clause-spokes : goal.returns-clause-spokes
+returns-clause-spokes c = c.fill-2.ensures.after (λ y e. e) ∙ (ap (λ n. replicate n 1) c.requires.sizes.0 ∙ sym (ladder_same 1 _))

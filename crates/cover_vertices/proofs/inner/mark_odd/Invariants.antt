@@ -2,5 +2,5 @@
 use Rattle.cover_vertices.proofs.Marking.{Marking}
 use Rattle.cover_vertices.proofs.inner.mark_odd.Given as goal
 
-abbrev pub invariant-loop-c : goal.invariant-loop-c
-invariant-loop-c l = Marking l.m l.initial.work l.work l.c
+abbrev pub invariant-loop-vert : goal.invariant-loop-vert
+invariant-loop-vert l = Marking l.verts l.spokes l.vert-index

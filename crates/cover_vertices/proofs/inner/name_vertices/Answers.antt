@@ -1,26 +1,22 @@
 -- `name_vertices` meets its contract: each turn names one end (proofs/Naming).
-use mathlib.Core.Path.{refl}
 use native.Mathlib.Omega.{arith}
-use Rattle.cover_vertices.proofs.Naming.{naming_start, order_low, named_low, naming_on, naming_end}
+use Rattle.cover_vertices.proofs.Naming.{naming_start, named_low, naming_on}
 use Rattle.cover_vertices.proofs.inner.name_vertices.Goals as goal
 
 pub loop-q-init : goal.loop-q-init
-loop-q-init c = naming_start _ _
+loop-q-init c = naming_start _ _ _
 
-pub bounds-work-m-in-loop-q : goal.bounds-work-m-in-loop-q
-bounds-work-m-in-loop-q c =
-    let p = c.requires in omega (arith, order_low p.fits p.rising c.loop-q.invariant c.loop-q-test.true, p.fits.size)
+pub bounds-keys-c : goal.bounds-keys-c
+bounds-keys-c c = omega (arith, c.requires.rising.low c.loop-q.q (omega arith))
 
-pub overflow_cast-work : goal.overflow_cast-work
-overflow_cast-work c =
-    let p = c.requires in
-    omega (arith, named_low p.fits p.rising c.loop-q.invariant c.loop-q-test.true _ refl _ c.vertex_of-v.ensures, p.fits.few)
+pub overflow_cast-verts : goal.overflow_cast-verts
+overflow_cast-verts c = omega (arith, named_low c.requires.rising c.loop-q.invariant (omega arith) c.vertex_of-v.ensures)
 
-pub bounds-work-c : goal.bounds-work-c
-bounds-work-c c = let p = c.requires in omega (arith, order_low p.fits p.rising c.loop-q.invariant c.loop-q-test.true, p.fits.size)
+pub bounds-verts-c : goal.bounds-verts-c
+bounds-verts-c c = omega (arith, c.requires.rising.low c.loop-q.q (omega arith))
 
 pub loop-q-preserved : goal.loop-q-preserved
-loop-q-preserved c = let p = c.requires in naming_on p.fits p.rising c.loop-q.invariant c.loop-q-test.true _ refl _ c.vertex_of-v.ensures
+loop-q-preserved c = naming_on c.requires.rising c.loop-q.invariant (omega arith) c.vertex_of-v.ensures (omega arith)
 
 pub returns : goal.returns
-returns c = naming_end c.loop-q.invariant c.loop-q-test.false
+returns c = λ q l. c.loop-q.invariant.done q (omega arith)

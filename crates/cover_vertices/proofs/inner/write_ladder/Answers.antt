@@ -1,21 +1,17 @@
--- `write_ladder` meets its contract. The loop's invariant: storing the rest of the ladder completes the part that is written.
-use Prim.Native.Nat.{◌+◌, ◌-◌}
+-- `write_ladder` meets its contract: the next number is stored at each turn.
+use mathlib.Core.Path.{refl}
 use native.Mathlib.Omega.{arith}
-use lib.ListN.{drop, length-take, length-drop}
-use Rattle.cover_vertices.proofs.Ladder.{climb_start, climb_fits, climb_on, climb_end, ladder_put}
+use Rattle.cover_vertices.proofs.Ladder.{climb_start, climb_fits, climb_on, climb_end}
 use Rattle.cover_vertices.proofs.inner.write_ladder.Goals as goal
 
 pub loop-entry-init : goal.loop-entry-init
-loop-entry-init c =
-    let a = c.args in
-    climb_start _ _ _ _ (omega (arith, length-take (a.at + a.n - a.at) (drop a.at a.work.now), length-drop a.at a.work.now)) c.requires.1
+loop-entry-init c = climb_start _ _ _ _ refl c.requires
 
 pub overflow_add-x : goal.overflow_add-x
-overflow_add-x c = omega (arith, climb_fits c.loop-entry.invariant c.loop-entry-test.true)
+overflow_add-x c = omega (arith, climb_fits c.loop-entry.invariant (omega arith))
 
 pub loop-entry-preserved : goal.loop-entry-preserved
-loop-entry-preserved c = climb_on c.loop-entry.invariant c.loop-entry-test.true
+loop-entry-preserved c = climb_on c.loop-entry.invariant (omega arith)
 
 pub returns : goal.returns
-returns c =
-    let a = c.args in ladder_put a.at _ a.n a.first a.step a.work.now (climb_end c.loop-entry.invariant c.loop-entry-test.false) (omega arith)
+returns c = climb_end c.loop-entry.invariant (omega arith)

@@ -1,5 +1,4 @@
--- `write_weights` meets its contract. The loop's invariant: storing the end weights of the strings that are left, from entry at + 2i on, gives the promised
--- table.
+-- `write_weights` meets its contract: each turn stores the two end weights of one string (proofs/EndWeights).
 use mathlib.Core.Path.{refl}
 use Prim.Native.Nat.{◌+◌, ◌≤◌}
 use native.Mathlib.Omega.{arith}
@@ -20,7 +19,7 @@ inside : (c : In-loop-i) → c.loop-i.passed + within c.args.k c.loop-i.before (
 inside c = weights_inside c.loop-i.invariant.walk c.loop-i-test.true refl
 
 pub loop-i-init : goal.loop-i-init
-loop-i-init c = writing_start _ _ _ _ _ c.requires.0 c.requires.1
+loop-i-init c = writing_start _ _ _ _ c.requires.0 c.requires.1
 
 pub overflow_add-n-in-loop-i : goal.overflow_add-n-in-loop-i
 overflow_add-n-in-loop-i c = omega (arith, next (goal.at.overflow_add-n-in-loop-i c).In-loop-i, c.requires.0.few_letters)
@@ -32,8 +31,8 @@ pub bounds-weights-passed : goal.bounds-weights-passed
 bounds-weights-passed c =
     let t = (goal.at.bounds-weights-passed c).In-loop-i in omega (arith, next t, inside t)
 
-pub overflow_sub-work : goal.overflow_sub-work
-overflow_sub-work c = omega (arith, next (goal.at.overflow_sub-work c).In-loop-i)
+pub overflow_sub-keys : goal.overflow_sub-keys
+overflow_sub-keys c = omega (arith, next (goal.at.overflow_sub-keys c).In-loop-i)
 
 pub bounds-weights-passed-in-loop-i : goal.bounds-weights-passed-in-loop-i
 bounds-weights-passed-in-loop-i c =

@@ -5,4 +5,4 @@ use Rattle.index_cutting.proofs.Counting.{Tallied}
 use Rattle.index_cutting.proofs.inner.count_all.Given as goal
 
 abbrev pub invariant-loop-end : goal.invariant-loop-end
-invariant-loop-end l = Tallied (minimizer_at l.k l.p l.letters) l.k (length l.letters) l.ends l.end-index l.at l.count
+invariant-loop-end l = Tallied (minimizer_at l.given.k l.p l.given.letters.now) l.given.k (length l.given.letters.now) l.given.ends.now l.end-index l.at l.count

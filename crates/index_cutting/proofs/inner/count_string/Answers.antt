@@ -4,7 +4,7 @@ use Rattle.std.proofs.Common.{◌≡◌, ℕ, ◌+◌, refl, sym, ◌∙◌, ari
 use Rattle.lists.proofs.Every.{every-all}
 use Rattle.alphabet.specs.Letter.{is_letter}
 use Rattle.index_minimizers.specs.Minimizer.{minimizer_at}
-use Rattle.index_cutting.proofs.Carried.{Carried, roll_fits, slide_fits, carried_begin, carried_on}
+use Rattle.index_cutting.proofs.Carried.{Carried, carried_begin, carried_on}
 use Rattle.index_cutting.proofs.Counting.{counting_begin, counting_on, counting_cut, counting_end}
 use Rattle.index_cutting.proofs.inner.count_string.Goals as goal
 use Rattle.index_cutting.proofs.inner.count_string.Goals.{then-q-v, else-q-v}
@@ -16,14 +16,6 @@ loop-i-init c =
     let e = carried_begin a.k a.p a.letters.now r.1 (every-all is_letter _ c.requires.letters_value) (omega arith) r.2 a.a _ _ (omega arith)
     c.word_code-c.ensures c.find-v.ensures in
     (e.1, counting_begin (minimizer_at a.k a.p a.letters.now) a.a a.n _ r.3 e.0)
-
-pub roll-d-requires : goal.roll-d-requires
-roll-d-requires c = roll_fits _ _ _ _ _ c.loop-i.invariant.0 c.requires.le_p.2 c.letter_code-x.ensures
-
-pub slide-q-requires : goal.slide-q-requires
-slide-q-requires c =
-    let r = c.requires.le_p in
-    slide_fits _ _ _ _ _ c.loop-i.invariant.0 r.2 c.letter_code-x.ensures _ r.1 c.roll-d.ensures
 
 pub loop-i-preserved : goal.loop-i-preserved
 loop-i-preserved c =

@@ -6,5 +6,5 @@ use Rattle.index_cutting.proofs.inner.cut_all.Given as goal
 
 abbrev pub invariant-loop-end : goal.invariant-loop-end
 invariant-loop-end l =
-    Passed (minimizer_at l.k l.p l.letters) l.k (length l.letters) l.ends l.initial.firsts l.firsts l.initial.positions l.positions l.initial.numbers
-    l.numbers l.initial.keys l.keys l.at l.h l.o l.end-index
+    Passed (minimizer_at l.given.k l.p l.given.letters.now) l.given.k (length l.given.letters.now) l.given.ends.now
+    l.initial.firsts l.firsts l.initial.positions l.positions l.initial.numbers l.numbers l.initial.keys l.keys l.at l.h l.o l.end-index

@@ -4,7 +4,7 @@ use Rattle.std.proofs.Common.{◌≡◌, ℕ, ◌+◌, refl, sym, ◌∙◌, ari
 use Rattle.lists.proofs.Every.{every-all}
 use Rattle.alphabet.specs.Letter.{is_letter}
 use Rattle.index_minimizers.specs.Minimizer.{minimizer_at}
-use Rattle.index_cutting.proofs.Carried.{Carried, roll_fits, slide_fits, carried_begin, carried_on, carried_small}
+use Rattle.index_cutting.proofs.Carried.{Carried, carried_begin, carried_on, carried_small}
 use Rattle.index_cutting.proofs.Cutting.{cutting_begin, cutting_on, cutting_ended, cutting_cut, cutting_last}
 use Rattle.index_cutting.proofs.Filling.{filling_inside, filling_store, filling_end}
 use Rattle.index_cutting.proofs.inner.cut_string.Goals as goal
@@ -17,14 +17,6 @@ loop-i-init c =
     let e = carried_begin a.k a.p a.letters.now r.2 (every-all is_letter _ c.requires.letters_value) (omega arith) r.3 a.a _ _ (omega arith)
     c.word_code-c.ensures c.find-v.ensures in
     (e.1, cutting_begin r.4 e.0 c.requires.room4)
-
-pub roll-d-requires : goal.roll-d-requires
-roll-d-requires c = roll_fits _ _ _ _ _ c.loop-i.invariant.0 c.requires.le_p.3 c.letter_code-x.ensures
-
-pub slide-q-requires : goal.slide-q-requires
-slide-q-requires c =
-    let r = c.requires.le_p in
-    slide_fits _ _ _ _ _ c.loop-i.invariant.0 r.3 c.letter_code-x.ensures _ r.2 c.roll-d.ensures
 
 pub store-requires : goal.store-requires
 store-requires c =

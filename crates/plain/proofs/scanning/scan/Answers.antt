@@ -37,7 +37,7 @@ pub returns-in_default : goal.returns-in_default
 returns-in_default c =
     let a = c.args in
     sym (c.loop-end.invariant.1
-    ∙ (ap (pass a.k a.letters.now a.asked a.turned c.loop-end.passed c.loop-end.first) (kmers_next _ _ _ _ c.loop-end-test.true)
+    ∙ (ap (pass a.given.k a.given.letters.now a.asked a.turned c.loop-end.passed c.loop-end.first) (kmers_next _ _ _ _ c.loop-end-test.true)
     ∙ (scan_found _ _ _ _ _ _ _ (sym c.scan_string-s.ensures ∙ c.in_default.is) ∙ sym c.in_default.is)))
 
 pub loop-end-preserved : goal.loop-end-preserved
@@ -45,7 +45,7 @@ loop-end-preserved c =
     let a = c.args in (
       strings_on c.loop-end.invariant.0 c.loop-end-test.true c.requires.ends_long.k_low _ refl,
       c.loop-end.invariant.1
-          ∙ (ap (pass a.k a.letters.now a.asked a.turned c.loop-end.passed c.loop-end.first) (kmers_next _ _ _ _ c.loop-end-test.true)
+          ∙ (ap (pass a.given.k a.given.letters.now a.asked a.turned c.loop-end.passed c.loop-end.first) (kmers_next _ _ _ _ c.loop-end-test.true)
           ∙ scan_row_on _ _ _ _ _ _ _ _ (sym c.scan_string-s.ensures ∙ c.in-NotAsked.is)),
     )
 
@@ -53,4 +53,5 @@ pub returns : goal.returns
 returns c =
     let a = c.args in
     sym (c.loop-end.invariant.1
-    ∙ (ap (pass a.k a.letters.now a.asked a.turned c.loop-end.passed c.loop-end.first) (kmers_end _ _ _ _ c.loop-end-test.false) ∙ scan_none _ _ _ _))
+    ∙ (ap (pass a.given.k a.given.letters.now a.asked a.turned c.loop-end.passed c.loop-end.first) (kmers_end _ _ _ _ c.loop-end-test.false)
+    ∙ scan_none _ _ _ _))

@@ -2,7 +2,7 @@
 use mathlib.Core.Path.{sym, ◌∙◌}
 use native.Mathlib.Omega.{arith}
 use lib.ListN.{length}
-use Rattle.index_stretches.specs.Index.{tables}
+use Rattle.index_stretches.specs.Lent.{index_in}
 use Rattle.quick_walks.proofs.RowWalks.{walking_begins, walking_room, walking_met, walking_on, walking_ends}
 use Rattle.quick_walks.proofs.inner.row_by_key.Goals as goal
 
@@ -10,7 +10,7 @@ pub loop-i-init : goal.loop-i-init
 loop-i-init c =
     let a = c.args in
     let p = c.requires in
-    walking_begins _ a.k (length a.letters.now) (tables a.firsts.now a.positions.now a.numbers.now a.before.now) a.v a.compared p.le_k.4 p.row.fits
+    walking_begins _ a.k (length a.letters.now) (index_in a.index) a.v a.compared p.le_k.4 p.row.fits
 
 pub stretch_by_key-met-requires-clause-k_in_bounds :
     goal.stretch_by_key-met-requires-clause-k_in_bounds

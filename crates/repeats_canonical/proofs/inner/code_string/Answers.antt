@@ -3,7 +3,7 @@ use Rattle.std.proofs.Common.{◌+◌, ◌-◌, ◌*◌, ◌≤◌, ℕ, min, ge
 use Rattle.lists.proofs.Every.{every-all}
 use Rattle.alphabet.specs.Letter.{is_letter}
 use Rattle.alphabet.proofs.Letters.{bits_lt}
-use Rattle.repeats_canonical.proofs.Coded.{coded_begin, coded_next}
+use Rattle.repeats_canonical.proofs.Halves.{halved_begin, halved_next}
 use Rattle.repeats_canonical.proofs.Turns.{first_fits, turns_begin, code_here, turned_here, turns_on}
 use Rattle.repeats_canonical.proofs.inner.code_string.Goals as goal
 
@@ -23,7 +23,7 @@ loop-i-init c =
     let r = c.requires.le_k in (
       turns_begin a.k a.letters.now r.0 r.1 (every-all is_letter _ c.requires.letters_value) a.at _ (omega arith) c.word_code-c.ensures _
           (ap (λ (x : ℕ). x * 4) c.turned_code-t.ensures),
-      coded_begin _ _ _ _ _ _,
+      halved_begin a.k a.letters.now a.at a.hi.now a.lo.now,
     )
 
 pub roll-c-requires : goal.roll-c-requires
@@ -53,6 +53,6 @@ loop-i-preserved c =
     let asked = c.roll-c.ensures ∙ code_here a.k a.letters.now r.0 r.1 g a.at s.i _ _ _ f s.invariant.0 c.letter_code-x.ensures in
     let turned = c.roll_turned-t.ensures ∙ turned_here a.k a.letters.now r.0 r.1 g a.at s.i _ _ _ f s.invariant.0 c.letter_code-x.ensures in (
       turns_on a.k a.letters.now r.0 r.1 g a.at s.i _ _ f asked turned,
-      coded_next a.k a.letters.now a.n a.at a.passed s.i _ _ _ _ s.work (omega arith) (omega arith)
-          (c.min-least.ensures ∙ ap₂ min asked turned) c.upper.ensures c.lower.ensures s.invariant.1,
+      halved_next a.k a.letters.now a.at s.i _ _ _ s.hi s.lo (omega arith) (omega arith) (c.min-least.ensures ∙ ap₂ min asked turned) c.upper.ensures
+          c.lower.ensures s.invariant.1,
     )

@@ -1,60 +1,44 @@
 -- `sieve` meets its contract: each sieve leaves, of ids of one code, none or all. Assumes nothing.
-use Prim.Native.Nat.{ℕ, ◌+◌, ◌/◌, ◌<◌, ◌≤◌, ◌^◌}
-use native.Mathlib.Omega.{arith}
-use lib.ListN.{get_or}
-use Rattle.repeats_sieving.specs.Slots.{Sifting, Left}
-use Rattle.repeats_sieving.proofs.Sifting.{left-all, left_next}
+use Rattle.std.proofs.Common.{◌≡◌, ◌+◌, ◌/◌, ◌^◌, ◌<◌, List, ℕ, length, take, ap, ◌∙◌, arith}
+use Rattle.std.proofs.lemmas.List.{length-take-le, take-append-le}
+use Rattle.lists.specs.Every.{All}
+use Rattle.lists.proofs.Count.{length_count}
+use Rattle.sorting.specs.Keys.{code_at}
+use Rattle.repeats_sieving.specs.Kept.{Sieved}
+use Rattle.repeats_sieving.specs.Slots.{Sifting}
+use Rattle.repeats_sieving.proofs.Sifting.{kept_few, sieved_next}
+use Rattle.repeats_sieving.proofs.Kept.{sieved_all}
 use Rattle.repeats_sieving.proofs.inner.sieve.Goals as goal
-use Rattle.repeats_sieving.proofs.inner.sieve.Lts as lts
-use Rattle.repeats_sieving.proofs.inner.sieve.Tie as tie
-use Rattle.repeats_sieving.proofs.inner.sieve.Reads as reads
+use Rattle.repeats_sieving.proofs.inner.sieve.Goals.{After-sift-m}
 
-abbrev Place-After-slice_known : Type 0
-Place-After-slice_known = lts.After-slice_known tie.the-claims reads.Pre reads.Post tie.handed_clauses
-
-abbrev Place-After-sift : Type 0
-Place-After-sift = lts.After-sift tie.the-claims reads.Pre reads.Post tie.handed_clauses
-
--- the table holds numbers of 32 bits
-fits : (c : Place-After-slice_known) (i : ℕ) → get_or c.args.work.now i 0 < 2 ^ 32
-fits c i = (c.slice_known-1.given i).fits
+-- counters for so many ids, and constants
+sifting : {hi lo ids : List ℕ} {entries : ℕ} (a c : ℕ) → length hi < 2 ^ 24 → length lo ≡ length hi → All (λ x. x < length hi) ids → a < 2 ^ 31 → c < 2 ^ 31
+    → entries ≡ (length hi + 3) / 4 → Sifting hi lo ids entries a c
+sifting a c few halves inside la lc e =
+    record { halves = halves; inside = inside; some = λ p. omega arith; few = omega arith; a_low = la; c_low = lc }
 
 -- what the first sieve leaves
-first : (z : Place-After-sift) → let a = z.args in Left a.n a.work.now z.sift-m.new.work z.sift-m.result
-first z =
-    let k = z in
-    let s = k in
-    left_next 0x5e3779b1 0x45ebca77 (fits k.before.before) s.requires.n_bound.1 (omega arith) (left-all s.args.n s.args.work.now s.requires.work_value)
-    z.sift-m.ensures
-
--- a sieve's regions and constants
-sifting : (size n m a c : ℕ) → n < 2 ^ 24 → n + n + n + n ≤ size → m ≤ n → a < 2 ^ 31 → c < 2 ^ 31 → Sifting size n m ((n + 3) / 4) a c
-sifting size n m a c h room l la lc = record { few = h; room = room; ids = l; some = λ p. omega arith; counters = omega arith; a_low = la; c_low = lc }
+first : (c : After-sift-m) → Sieved (code_at c.args.hi.now c.args.lo.now) (length c.args.hi.now) (take c.sift-m.result c.sift-m.new.ids)
+first c = sieved_next c.args.hi.now c.args.lo.now _ _ _ (λ i. omega (arith, c.type_inv.lo i)) (rw c.requires.numbered (sieved_all _ _)) c.sift-m.ensures
 
 pub sift-m-requires : goal.sift-m-requires
 sift-m-requires c =
-    let s = c in record {
-      sifting = sifting _ s.args.n _ _ _ s.requires.n_bound.0 s.requires.n_bound.1 (omega arith) (omega arith) (omega arith);
-      all = (left-all s.args.n s.args.work.now s.requires.work_value).sieved.inside;
-    }
+    let all = (sieved_all (code_at c.args.hi.now c.args.lo.now) (length c.args.hi.now)).inside in
+    sifting _ _ c.requires.sizes.0 c.requires.sizes.1 (rw c.requires.numbered all) (omega arith) (omega arith) (length-take-le _ c.args.buf.now (omega arith))
 
-pub returns-then-m-n : goal.returns-then-m-n
-returns-then-m-n c = first c.before.before.before.before
+pub returns-then-m-n-clause-few : goal.returns-then-m-n-clause-few
+returns-then-m-n-clause-few c = omega (arith, kept_few c.sift-m.ensures, ap length c.requires.numbered, length_count)
+
+pub returns-then-m-n-clause-sieved : goal.returns-then-m-n-clause-sieved
+returns-then-m-n-clause-sieved c = first (goal.at.returns-then-m-n-clause-sieved c).After-sift-m
 
 pub sift-requires : goal.sift-requires
 sift-requires c =
-    let z = c in
-    let s = z in record {
-      sifting = sifting _ s.args.n _ _ _ s.requires.n_bound.0
-          (omega (arith, s.requires.n_bound.1, (first z.before.before.before.before).rest.size)) (first z.before.before.before.before).few (omega arith)
-          (omega arith);
-      all = (first z.before.before.before.before).sieved.inside;
-    }
+    let all = (first (goal.at.sift-requires c).After-sift-m).inside in
+    sifting _ _ c.requires.sizes.0 c.requires.sizes.1 all (omega arith) (omega arith) (c.sift-m.auto.table ∙ length-take-le _ c.args.buf.now (omega arith))
 
-pub returns : goal.returns
-returns c =
-    let t = c.before in
-    let z = t in
-    let k = z in
-    left_next 0x42b2ae3d 0x27d4eb2f (fits k.before.before.before.before.before.before.before.before.before) k.requires.n_bound.1 (omega arith)
-    (first z.before.before.before.before.before.before.before) t.sift.ensures
+pub returns-clause-sieved : goal.returns-clause-sieved
+returns-clause-sieved c =
+    let few = kept_few c.sift.ensures in
+    rw take-append-le
+    (sieved_next c.args.hi.now c.args.lo.now _ _ _ (λ i. omega (arith, c.type_inv.lo i)) (first (goal.at.returns-clause-sieved c).After-sift-m) c.sift.ensures)

@@ -8,7 +8,9 @@ pub loop-end-init : goal.loop-end-init
 loop-end-init c = lining (collection_good _ c.requires.passes) _ _ c.requires.weights_in_bounds
 
 pub overflow_add-n-in-loop-end : goal.overflow_add-n-in-loop-end
-overflow_add-n-in-loop-end c = omega (arith, (next_line c.loop-end.invariant c.loop-end-test.true).long, c.type_inv.ends c.loop-end.end-index)
+overflow_add-n-in-loop-end c =
+    let n = next_line c.loop-end.invariant c.loop-end-test.true in
+    omega (arith, n.long, n.inside, (collection_good _ c.requires.passes).shape.letters_high)
 
 pub overflow_sub-n : goal.overflow_sub-n
 overflow_sub-n c = omega (arith, (next_line c.loop-end.invariant c.loop-end-test.true).long)

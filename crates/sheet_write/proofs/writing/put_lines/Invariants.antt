@@ -2,7 +2,7 @@
 use Prim.Native.Nat.{◌+◌}
 use lib.ListN.{length}
 use Rattle.lists.specs.Fill.{put}
-use Rattle.collection.specs.Collection.{collection}
+use Rattle.collection.specs.Lent.{collection_in}
 use Rattle.collection.specs.Strings.{strings}
 use Rattle.sheet.specs.Text.{lines_text}
 use Rattle.sheet_write.proofs.Lines.{Lining}
@@ -10,5 +10,5 @@ use Rattle.sheet_write.proofs.writing.put_lines.Given as goal
 
 abbrev pub invariant-loop-end : goal.invariant-loop-end
 invariant-loop-end l =
-    Lining (collection l.k l.letters l.ends l.weights) (length l.initial.out) (l.at + length (lines_text (strings (collection l.k l.letters l.ends l.weights))))
-    (put l.at (lines_text (strings (collection l.k l.letters l.ends l.weights))) l.initial.out) l.out l.before l.w l.p l.end-index
+    Lining (collection_in l.given) (length l.initial.out) (l.at + length (lines_text (strings (collection_in l.given))))
+    (put l.at (lines_text (strings (collection_in l.given))) l.initial.out) l.out l.before l.w l.p l.end-index

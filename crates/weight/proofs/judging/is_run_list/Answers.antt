@@ -9,17 +9,17 @@ use Rattle.std.specs.declared.iter.Zip.{Zip}
 use Rattle.weight.proofs.Followed.{list_uneven, list_none, judge_first, judge_next, judge_end}
 use Rattle.weight.proofs.judging.is_run_list.Goals as goal
 
-pub returns-then-run_weights-run_firsts : goal.returns-then-run_weights-run_firsts
-returns-then-run_weights-run_firsts c = sym (list_uneven _ _ _ c.if-run_weights-run_firsts.true)
+pub returns-then-list : goal.returns-then-list
+returns-then-list c = sym (list_uneven _ _ _ c.if-list.true)
 
-pub returns-then-run_weights-eq0 : goal.returns-then-run_weights-eq0
-returns-then-run_weights-eq0 c = sym (list_none _ _ _ c.if-run_weights-run_firsts.false c.if-run_weights-eq0.true)
+pub returns-then-list-eq0 : goal.returns-then-list-eq0
+returns-then-list-eq0 c = sym (list_none _ _ _ c.if-list.false c.if-list-eq0.true)
 
 pub loop-v-init : goal.loop-v-init
 loop-v-init c =
     let it = c.into_iter-v-iterator in
     let z = c.zip-v-items in
-    judge_first _ _ _ _ _ c.if-run_weights-run_firsts.false c.if-run_weights-eq0.false _ c.may_begin-good.ensures
+    judge_first _ _ _ _ _ c.if-list.false c.if-list-eq0.false _ c.may_begin-good.ensures
     (ap (λ (x : Zip (Iter ℕ) (Iter ℕ)). iter_rest (zip_first x)) it.ensures.into_iter_gives ∙ (ap iter_rest z.ensures.first ∙ c.iter.ensures.rest))
     (ap (λ (x : Zip (Iter ℕ) (Iter ℕ)). iter_rest (zip_second x)) it.ensures.into_iter_gives ∙ (ap iter_rest z.ensures.second ∙ c.iter-2.ensures.rest))
 

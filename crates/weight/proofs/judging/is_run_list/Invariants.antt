@@ -7,4 +7,4 @@ use Rattle.weight.proofs.judging.is_run_list.Given as goal
 
 abbrev pub invariant-loop-v : goal.invariant-loop-v
 invariant-loop-v l =
-    Judging l.n (is_run_list l.n l.run_weights l.run_firsts) l.good l.w l.f (iter_rest (zip_first l.v-iterator)) (iter_rest (zip_second l.v-iterator))
+    Judging l.n (is_run_list l.n l.list.weights.now l.list.firsts.now) l.good l.w l.f (iter_rest (zip_first l.v-iterator)) (iter_rest (zip_second l.v-iterator))

@@ -1,0 +1,11 @@
+-- The collection that lent tables hold.
+-- Specification: 3.1.
+use Rattle.collection.specs.Collection as meant
+use Rattle.collection.specs.declared.tables.Spelling.{Spelling}
+use Rattle.collection.specs.declared.tables.Collection.{Collection}
+
+abbrev pub spelling_in : Spelling → meant.Spelling
+spelling_in s = meant.spelling s.k s.letters.now s.ends.now
+
+abbrev pub collection_in : Collection → meant.Collection
+collection_in c = meant.collection c.k c.letters.now c.ends.now c.weights.now
