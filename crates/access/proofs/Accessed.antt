@@ -13,7 +13,8 @@ use Rattle.access.specs.Access.{access_verdict, access_part}
 use Rattle.collection.specs.Judge.{shape_verdict, kmers_in}
 use Rattle.collection.specs.Kmers.{kmers, word_of}
 use Rattle.collection.specs.Verdict.{settle, Verdict, good}
-use Rattle.collection.proofs.Judged.{Shape, shape_good, handle_good}
+use Rattle.collection.specs.Ready.{Long}
+use Rattle.collection.proofs.Judged.{Shape, shape_good, shape_long, handle_good}
 use Rattle.collection.proofs.Kmers.{kmers-counted}
 use Rattle.collection.proofs.Verdicts.{both_good, settled}
 
@@ -31,6 +32,10 @@ access_good t handle h =
     let s = shape_good t a.0 in
     let b = handle_good (kmers_in t) handle a.1 in
     record { shape = s; low = b.0; high = omega (arith, kmers-counted s) }
+
+-- and what the search for its position asks for
+pub access_inside : (t : Spelling) (handle : ℕ) → access_verdict t handle ≡ good → Long t.k t.ends × ((1 ≤ handle) × (handle ≤ length (kmers t.k t.ends)))
+access_inside t handle h = let a = access_good t handle h in (shape_long a.shape, (a.low, a.high))
 
 -- each handle's ACCESS is its word
 pub access_word : (t : Spelling) (handle : ℕ) → access_verdict t handle ≡ good → spell (access_part t handle) ≡ word_of t handle

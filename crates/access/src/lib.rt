@@ -11,7 +11,7 @@ ghost use Rattle.access.specs.Access.{access_verdict, access_part, access_start,
 use collection::{Refusal, Spelling, Told};
 
 // ACCESS: the k letters of a handle as a part of the lent letters, not a copy; refused, the empty part at their start.
-pub fn access<'a>(given: Spelling<'a>, handle: usize) -> &'a [u8]
+pub fn access<'a>(given: Spelling<'a, '_>, handle: usize) -> &'a [u8]
     ensures { (result.now ≡ access_part (spelling_in given.entry) handle) × (result.ref_ptr.0 ≡ given.entry.letters.ref_ptr.0)
         × (result.ref_ptr.1 ≡ given.entry.letters.ref_ptr.1 + access_start (spelling_in given.entry) handle) }
 {
@@ -40,7 +40,7 @@ pub fn access_told(given: Spelling, handle: usize) -> Told
 }
 
 // ACCESS for a caller that has no use for a part: where it starts in the lent letters, or the refusal.
-#[tactic(auto, unfolding(crate::specs::Access::access_at, collection::specs::Verdict::settle))]
+#[tactic(auto, unfolding(crate::specs::Access::access_at, collection::specs::Verdict::settle), using(crate::proofs::Accessed::access_inside))]
 pub fn access_at(given: Spelling, handle: usize) -> Result<usize, Refusal>
     ensures { result ≡ access_at (spelling_in given.entry) handle }
 {

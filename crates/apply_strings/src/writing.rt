@@ -33,7 +33,7 @@ pub(crate) fn write_letters(turned: bool, from: &[u8], to: &mut [u8], at: usize)
     if turned {
         turn_letters(from, &mut to[at..]);
     } else {
-        to[at..at + from.len()].copy_from_slice(from);
+        lists::inner::copy_first(from, &mut to[at..]);
     }
 }
 
@@ -45,6 +45,6 @@ pub(crate) fn write_column(turned: bool, from: &[u32], to: &mut [u32], at: usize
     if turned {
         turn_column(from, &mut to[at..]);
     } else {
-        to[at..at + from.len()].copy_from_slice(from);
+        lists::inner::copy_first(from, &mut to[at..]);
     }
 }

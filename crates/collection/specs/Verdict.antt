@@ -1,6 +1,6 @@
 -- Verdicts: a call finds nothing to refuse, or refuses with a number and a place.
 -- Specification: 8.1, 8.3, 8.4.
-use Rattle.std.specs.Prelude.{ℕ, zero, suc, ltb, Result, Ok, Err}
+use Rattle.std.specs.Prelude.{List, ℕ, zero, suc, ◌++◌, ltb, codes, decimal, Result, Ok, Err}
 use Rattle.lists.specs.Choose.{choose}
 use Rattle.collection.specs.declared.refusal.Told.{Told}
 use Rattle.collection.specs.declared.refusal.Refusal.{Refusal}
@@ -49,10 +49,15 @@ place_of Index = 0
 place_of (Line place) = place
 place_of RunList = 0
 
+-- how a refusal is printed: `refused`, its number and its place, parted by tabs
+abbrev pub refusal_text : Refusal → List ℕ
+refusal_text r = codes "refused\t" ++ decimal (number_of r) ++ codes "\t" ++ decimal (place_of r)
+
 -- nothing to refuse, or the first refusal
 abbrev pub Verdict : Type 0
 Verdict = Result (Unit {0}) Refusal
 
+-- nothing is refused
 abbrev pub good : Verdict
 good = Ok tt
 

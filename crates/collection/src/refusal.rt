@@ -1,6 +1,6 @@
 // Why a call refuses.
-ghost use Rattle.std.specs.Prelude.{◌≡◌};
-ghost use Rattle.collection.specs.Verdict.{number_of, place_of};
+ghost use Rattle.std.specs.Prelude.{◌≡◌, Err};
+ghost use Rattle.collection.specs.Verdict.{number_of, place_of, told};
 
 use std::error::Error;
 use std::fmt;
@@ -57,9 +57,26 @@ impl Refusal {
             _ => 0,
         }
     }
+
+    // Both, for those that are told numbers.
+    #[tactic(auto, unfolding(crate::specs::Verdict::told))]
+    pub fn told(self) -> Told
+        ensures { result ≡ told (Err self) }
+    {
+        Told {
+            number: self.number(),
+            place: self.place(),
+        }
+    }
 }
 
+// What `{}` writes of a refusal: the line that a report has of it, without its line feed (10.2).
 impl fmt::Display for Refusal {
+    ghost use Rattle.std.specs.Prelude.{Some};
+    ghost use Rattle.collection.specs.Verdict.{refusal_text};
+
+    ghost output = { λ r. Some (refusal_text r) };
+
     fn fmt<W: fmt::Write>(&self, f: &mut fmt::Formatter<W>) -> fmt::Result {
         write!(f, "refused\t{}\t{}", self.number(), self.place())
     }

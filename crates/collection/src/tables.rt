@@ -6,12 +6,13 @@ ghost use Rattle.collection.specs.Judge.{shape_verdict, collection_verdict};
 
 use crate::{Refusal, inner, judge_k, judge_size, judging};
 
-// What calls read that need no weights: k, the letters of all strings end to end, and where each string ends.
+// What calls read that need no weights: k, the letters of all strings end to end, and where each string ends. The two tables may be lent for different times,
+// since ACCESS hands back a part of the letters alone.
 #[derive(Clone, Copy)]
-pub struct Spelling<'a> {
+pub struct Spelling<'a, 'b> {
     pub k: usize,
     pub letters: &'a [u8],
-    pub ends: &'a [u32],
+    pub ends: &'b [u32],
 }
 
 // The same with the weights of all k-mers.
@@ -23,7 +24,7 @@ pub struct Collection<'a> {
     pub weights: &'a [u32],
 }
 
-impl<'a> Spelling<'a> {
+impl<'a, 'b> Spelling<'a, 'b> {
     // 2, 3, 4: the strings have their places.
     #[tactic(auto, unfolding(crate::specs::Judge::shape_verdict, crate::specs::Verdict::and_then), using(crate::proofs::Judged::k_good))]
     pub fn judge(self) -> Result<(), Refusal>
@@ -37,7 +38,7 @@ impl<'a> Spelling<'a> {
 
 impl<'a> Collection<'a> {
     // Without its weights.
-    pub fn spelling(self) -> Spelling<'a>
+    pub fn spelling(self) -> Spelling<'a, 'a>
         ensures { spelling_in result ≡ spelling_of (collection_in self.entry) }
     {
         Spelling {

@@ -104,6 +104,7 @@ fn blank(strings: &mut [u32], spokes: &mut [u32], hub: &mut [u32], cursors: &mut
 }
 
 // Turns the flag of a vertex's spoke for each end at it, so that the spokes to odd vertices are unused.
+#[tactic(auto, using(crate::proofs::Marking::marking_start, crate::proofs::Marking::marking_on, crate::proofs::Marking::marking_end, lists::proofs::Every::all_at))]
 fn mark_odd(verts: &[u32], spokes: &mut [u32])
     requires all { All (λ x. x < length spokes.old) verts.now }
     requires used { spokes.old ≡ ladder 1 0 (length spokes.old) }

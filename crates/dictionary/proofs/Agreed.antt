@@ -108,17 +108,24 @@ module _ (c : Collection) (p : ℕ) (passes : Passes c) (sizes : sizes_verdict c
         ∙ settled Err (ap Ok (quick_plain (minimizer p) (4 ^ p) c.k c.letters c.ends (spell word) asked_below turned_below))
         (then_good (word_verdict c.k word) passes fits)
 
-    -- it finds exactly the words that stand in the collection, as asked or turned, with their lowest handles
-    pub quick_finds : (answer : QuickAnswer) → quick_of c.k p word c.letters index ≡ Ok answer → Says (spelling_of c) (spell word) (unnumbered answer)
-    quick_finds answer e =
-        subst (λ (a : QuickAnswer). Says (spelling_of c) (spell word) (unnumbered a)) (quick_same (sym quick_answers ∙ e))
-        (quick_says (minimizer p) (4 ^ p) c.k c.letters c.ends (spell word) asked_below turned_below)
+    -- it is answered, and what it finds are exactly the words that stand in the collection, as asked or turned, with their lowest handles
+    pub quick_finds : (answer : QuickAnswer) × (quick_of c.k p word c.letters index ≡ Ok answer) × Says (spelling_of c) (spell word) (unnumbered answer)
+    quick_finds = (
+      quick_found (minimizer p) c.k c.letters index (spell word),
+      quick_answers,
+      quick_says (minimizer p) (4 ^ p) c.k c.letters c.ends (spell word) asked_below turned_below,
+    )
+
+    -- the same of the answer that it gave
+    pub answer_says : (answer : QuickAnswer) → quick_of c.k p word c.letters index ≡ Ok answer → Says (spelling_of c) (spell word) (unnumbered answer)
+    answer_says answer e =
+        let f = quick_finds in subst (λ (a : QuickAnswer). Says (spelling_of c) (spell word) (unnumbered a)) (quick_same (sym f.1 ∙ e)) f.2
 
     -- found, the asked word stands at the handle, on the side that is told
     pub found_stands : (handle : ℕ) (side : Side) (compared : ℕ) → quick_of c.k p word c.letters index ≡ Ok (Found handle side compared)
         → Stands (spelling_of c) (sided side (spell word)) handle
     unfolding unnumbered
-    found_stands handle side compared e = go (quick_finds (Found handle side compared) e) refl
+    found_stands handle side compared e = go (answer_says (Found handle side compared) e) refl
       where
         at : (h : ℕ) (s : Side) → Stands (spelling_of c) (sided s (spell word)) h → (h ≡ handle) × (s ≡ side)
             → Stands (spelling_of c) (sided side (spell word)) handle
@@ -136,7 +143,7 @@ module _ (c : Collection) (p : ℕ) (passes : Passes c) (sizes : sizes_verdict c
     pub absent_nowhere : (compared : ℕ) → quick_of c.k p word c.letters index ≡ Ok (Absent compared)
         → Nowhere (spelling_of c) (spell word) × Nowhere (spelling_of c) (turn (spell word))
     unfolding unnumbered
-    absent_nowhere compared e = go (quick_finds (Absent compared) e) refl
+    absent_nowhere compared e = go (answer_says (Absent compared) e) refl
       where
         go : {answer : Option Standing} → Says (spelling_of c) (spell word) answer → answer ≡ None
             → Nowhere (spelling_of c) (spell word) × Nowhere (spelling_of c) (turn (spell word))

@@ -2,8 +2,7 @@
 -- Specification: 11.
 use Rattle.std.specs.Prelude.{List, [], ◌∷◌, ℕ, Result, Ok, Err}
 use Rattle.lists.specs.Fill.{fill}
-use Rattle.collection.specs.declared.refusal.Refusal.{Refusal}
-use Rattle.collection.specs.Verdict.{number_of, place_of}
+use Rattle.collection.specs.declared.refusal.Told as refusal
 use Rattle.exports_replies.specs.declared.Reply.{Reply}
 use Rattle.exports_replies.specs.declared.Reply.TheVariants.{One, Two, Three, Four}
 
@@ -22,7 +21,8 @@ pub record Told : Type 0 where
 abbrev pub told : ℕ → List ℕ → Told
 told number answer = record { number = number; answer = answer }
 
--- A reply told through the table `old`: 0 and its values in the first entries. A refusal: its number, and its place alone. The rest of the table is as it was.
-unfoldable pub told_of : Result Reply Refusal → List ℕ → Told
+-- A reply told through the table `old`: 0 and its values in the first entries. A refusal, of any number and place: its number, and its place alone. The rest
+-- of the table is as it was.
+unfoldable pub told_of : Result Reply refusal.Told → List ℕ → Told
 told_of (Ok reply) old = told 0 (fill (values_of reply) old)
-told_of (Err r) old = told (number_of r) (fill (place_of r ∷ []) old)
+told_of (Err t) old = told t.number (fill (t.place ∷ []) old)

@@ -17,7 +17,7 @@ ghost use Rattle.exports_replies.specs.Replies.{
 };
 
 use crate::Reply;
-use collection::{Refusal, Side};
+use collection::{Refusal, Side, Told};
 use cover::Covered;
 use index::Indexed;
 use plain::Standing;
@@ -34,10 +34,10 @@ fn side_of(side: Side) -> u64
 }
 
 // READ: k, and how many letters, ends and weights were filled.
-pub fn read_reply(answer: Result<sheet::Filled, Refusal>) -> Result<Reply, Refusal>
+pub fn read_reply(answer: Result<sheet::Filled, Refusal>) -> Result<Reply, Told>
     ensures { result ≡ read_reply answer }
 {
-    let filled = answer?;
+    let filled = answer.map_err(Refusal::told)?;
     Ok(Reply::Four(
         filled.k as u64,
         filled.letters as u64,
@@ -47,26 +47,26 @@ pub fn read_reply(answer: Result<sheet::Filled, Refusal>) -> Result<Reply, Refus
 }
 
 // WRITE, CHECK and RUNS: how many bytes were written, k-mers were looked at, or runs were filled in each table.
-pub fn count_reply(answer: Result<usize, Refusal>) -> Result<Reply, Refusal>
+pub fn count_reply(answer: Result<usize, Refusal>) -> Result<Reply, Told>
     ensures { result ≡ count_reply answer }
 {
-    let count = answer?;
+    let count = answer.map_err(Refusal::told)?;
     Ok(Reply::One(count as u64))
 }
 
 // COVER: the paths, and how many places were filled.
-pub fn cover_reply(answer: Result<Covered, Refusal>) -> Result<Reply, Refusal>
+pub fn cover_reply(answer: Result<Covered, Refusal>) -> Result<Reply, Told>
     ensures { result ≡ cover_reply answer }
 {
-    let covered = answer?;
+    let covered = answer.map_err(Refusal::told)?;
     Ok(Reply::Two(covered.paths as u64, covered.places as u64))
 }
 
 // APPLY: how many letters, ends and weights were filled.
-pub fn apply_reply(answer: Result<apply::Filled, Refusal>) -> Result<Reply, Refusal>
+pub fn apply_reply(answer: Result<apply::Filled, Refusal>) -> Result<Reply, Told>
     ensures { result ≡ apply_reply answer }
 {
-    let filled = answer?;
+    let filled = answer.map_err(Refusal::told)?;
     Ok(Reply::Three(
         filled.letters as u64,
         filled.ends as u64,
@@ -75,44 +75,44 @@ pub fn apply_reply(answer: Result<apply::Filled, Refusal>) -> Result<Reply, Refu
 }
 
 // WEIGHT: the weight.
-pub fn weight_reply(answer: Result<u32, Refusal>) -> Result<Reply, Refusal>
+pub fn weight_reply(answer: Result<u32, Refusal>) -> Result<Reply, Told>
     ensures { result ≡ weight_reply answer }
 {
-    let weight = answer?;
+    let weight = answer.map_err(Refusal::told)?;
     Ok(Reply::One(weight as u64))
 }
 
 // ACCESS: the position of the first of the k letters, and k.
-pub fn access_reply(k: usize, answer: Result<usize, Refusal>) -> Result<Reply, Refusal>
+pub fn access_reply(k: usize, answer: Result<usize, Refusal>) -> Result<Reply, Told>
     ensures { result ≡ access_reply k answer }
 {
-    let position = answer?;
+    let position = answer.map_err(Refusal::told)?;
     Ok(Reply::Two(position as u64, k as u64))
 }
 
 // PLAIN: the handle and the side; an absent word has handle 0.
-pub fn plain_reply(answer: Result<Option<Standing>, Refusal>) -> Result<Reply, Refusal>
+pub fn plain_reply(answer: Result<Option<Standing>, Refusal>) -> Result<Reply, Told>
     ensures { result ≡ plain_reply answer }
 {
-    match answer? {
+    match answer.map_err(Refusal::told)? {
         Some(standing) => Ok(Reply::Two(standing.handle as u64, side_of(standing.side))),
         None => Ok(Reply::Two(0, 0)),
     }
 }
 
 // INDEX: how many stretches were filled in each of three tables, and how many entries in the fourth.
-pub fn index_reply(answer: Result<Indexed, Refusal>) -> Result<Reply, Refusal>
+pub fn index_reply(answer: Result<Indexed, Refusal>) -> Result<Reply, Told>
     ensures { result ≡ index_reply answer }
 {
-    let indexed = answer?;
+    let indexed = answer.map_err(Refusal::told)?;
     Ok(Reply::Two(indexed.stretches as u64, indexed.starts as u64))
 }
 
 // QUICK: the handle, the side and the number compared; an absent word has handle 0.
-pub fn quick_reply(answer: Result<QuickAnswer, Refusal>) -> Result<Reply, Refusal>
+pub fn quick_reply(answer: Result<QuickAnswer, Refusal>) -> Result<Reply, Told>
     ensures { result ≡ quick_reply answer }
 {
-    match answer? {
+    match answer.map_err(Refusal::told)? {
         QuickAnswer::Found {
             handle,
             side,
@@ -123,10 +123,10 @@ pub fn quick_reply(answer: Result<QuickAnswer, Refusal>) -> Result<Reply, Refusa
 }
 
 // The weight of a word: 1 and the weight; an absent word has 0 and 0.
-pub fn weigh_reply(answer: Result<Option<u32>, Refusal>) -> Result<Reply, Refusal>
+pub fn weigh_reply(answer: Result<Option<u32>, Refusal>) -> Result<Reply, Told>
     ensures { result ≡ weigh_reply answer }
 {
-    let Some(weight) = answer? else {
+    let Some(weight) = answer.map_err(Refusal::told)? else {
         return Ok(Reply::Two(0, 0));
     };
     Ok(Reply::Two(1, weight as u64))
@@ -161,7 +161,7 @@ fn put_values(answer: &mut [u64], reply: Reply)
 
 // Stores the values of a reply, or the place of a refusal, in the first entries, and returns the refusal's number, 0 where there is none.
 #[tactic(auto, unfolding(crate::specs::Told::told_of))]
-pub fn tell(answer: &mut [u64], reply: Result<Reply, Refusal>) -> u32
+pub fn tell(answer: &mut [u64], reply: Result<Reply, Told>) -> u32
     requires { 4 ≤ length answer.old }
     ensures { told result answer.new ≡ told_of reply answer.old }
 {
@@ -170,9 +170,9 @@ pub fn tell(answer: &mut [u64], reply: Result<Reply, Refusal>) -> u32
             put_values(answer, values);
             0
         }
-        Err(refusal) => {
-            answer[0] = refusal.place() as u64;
-            refusal.number()
+        Err(told) => {
+            answer[0] = told.place as u64;
+            told.number
         }
     }
 }

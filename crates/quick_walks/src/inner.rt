@@ -151,11 +151,12 @@ pub fn may_stand(
     requires { (at + count ≤ most_letters + 1) × (n ≤ most_letters) × (length letters.now ≤ most_letters) × Within n places.now }
     ensures { Finds places.now key.now letters.now at count result }
 {
-    for i in (0..count).step_by(16) {
-        if letters.len() < at + i + (15 + n) {
+    for block in 0..(count + 15) / 16 {
+        let a = at + 16 * block;
+        if letters.len() < a + (15 + n) {
             return true;
         }
-        if any_meets(letters, at + i, places, key) {
+        if any_meets(letters, a, places, key) {
             return true;
         }
     }

@@ -4,12 +4,13 @@ use mathlib.Core.List.{List}
 use Prim.Native.Nat.{ℕ, ◌+◌, ◌-◌, ◌*◌, ◌≤◌}
 use native.Mathlib.Omega.{arith}
 use lib.IntN.{ℤ}
-use lib.ListN.{length}
+use lib.ListN.{length, replicate}
 use Rattle.cover.specs.declared.Covered.{Covered}
 use Rattle.std.specs.Prelude.{Ok, Err, Result}
 use Rattle.collection.specs.declared.refusal.Refusal.TheVariants.{Repeated}
 use Rattle.collection.specs.declared.refusal.Refusal.{Refusal}
 use Rattle.lists.specs.Count.{sum}
+use Rattle.lists.specs.Fill.{fill}
 use Rattle.lists.proofs.Refuted.{refuted}
 use Rattle.collection.specs.Collection.{Collection, spelling_of}
 use Rattle.collection.specs.Judge.{Passes, kmers_in}
@@ -17,7 +18,7 @@ use Rattle.collection.specs.Verdict.{at_place, settle, Verdict, good}
 use Rattle.collection.proofs.Judged.{Judged, collection_good}
 use Rattle.collection.proofs.Verdicts.{then_good, settled}
 use Rattle.collection.proofs.Verdicts.{good_room}
-use Rattle.repeats.specs.Check.{first_repeat, check_verdict, check_of, Outcome, outcome}
+use Rattle.repeats.specs.Check.{first_repeat, check_verdict, check_of, outcome}
 use Rattle.cover_trails.specs.Groups.{least}
 use Rattle.collection.specs.Ready.{Strung}
 use Rattle.collection.specs.EndWeights.{end_weights}
@@ -81,32 +82,28 @@ module _ (c : Collection) (passes : Passes c) where
   pub weighed : Weighed c.weights
   weighed = record { few = omega (arith, judged.counted, judged.shape.letters_high); within_range = judged.all_weights }
 
-  module _ (work : List ℕ) (room : 4 * length c.weights ≤ length work) {a : Result ℕ Refusal} {work' : List ℕ} (e : outcome a work' ≡ check_of c work) where
+  module _ (work : List ℕ) (room : 4 * length c.weights ≤ length work) where
     check_good : check_verdict c (length work) ≡ good
     unfolding check_verdict
     check_good = then_good _ passes (good_room (subst (λ (n : ℕ). 4 * n ≤ length work) judged.counted room))
 
-    check_answers : a ≡ settle (at_place Repeated (first_repeat (spelling_of c))) Err (Ok (kmers_in (spelling_of c)))
+    -- CHECK, with room: 7 at the first repeated word is all that it can refuse by
+    pub words_checked : check_of c work ≡ outcome (settle (at_place Repeated (first_repeat (spelling_of c))) Err (Ok (kmers_in (spelling_of c))))
+        (fill (replicate (4 * kmers_in (spelling_of c)) 0) work)
     unfolding check_of
-    check_answers = ap (λ (o : Outcome). o.answer) (e ∙ sym (settled _ refl check_good))
+    words_checked = sym (settled _ refl check_good)
 
+  -- v is what CHECK says
+  module _ {v : Verdict} (e : v ≡ at_place Repeated (first_repeat (spelling_of c))) where
     -- a refusal of CHECK is one of `tally`
-    pub check_refused : {r : Refusal} → a ≡ Err r → Err r ≡ checked_of c
+    pub check_refused : {r : Refusal} → v ≡ Err r → Err r ≡ checked_of c
     unfolding checked_of settle
-    check_refused {r} q = go (at_place Repeated (first_repeat (spelling_of c))) (sym check_answers ∙ q)
-      where
-        go : (v : Verdict) → settle v Err (Ok (kmers_in (spelling_of c))) ≡ Err r → Err r ≡ settle v Err (Ok (numbers_of c))
-        go (Ok u) h = refuted (cc)
-        go (Err x) h = let p : r ≡ x = cc in ap (λ (y : Refusal). Err y) p
+    check_refused {r} q = rw (sym e ∙ q) refl
 
     -- else the numbers count
-    pub check_passed : {n : ℕ} → a ≡ Ok n → {s : Result Numbers Refusal} → s ≡ Ok (numbers_of c) → s ≡ checked_of c
+    pub check_passed : {u : Unit {0}} → v ≡ Ok u → {s : Result Numbers Refusal} → s ≡ Ok (numbers_of c) → s ≡ checked_of c
     unfolding checked_of settle
-    check_passed {n} q {s} r = go (at_place Repeated (first_repeat (spelling_of c))) (sym check_answers ∙ q)
-      where
-        go : (v : Verdict) → settle v Err (Ok (kmers_in (spelling_of c))) ≡ Ok n → s ≡ settle v Err (Ok (numbers_of c))
-        go (Ok u) h = r
-        go (Err x) h = refuted (cc)
+    check_passed {u} q {s} r = rw (sym e ∙ q) r
 
   -- and of the ends
   pub strung : Strung c.k c.ends c.weights

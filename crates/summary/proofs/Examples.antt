@@ -2,7 +2,8 @@
 use mathlib.Core.Path.{◌≡◌, refl, ap}
 use mathlib.Core.List.{List, [], ◌∷◌, ◌++◌}
 use Prim.Native.Nat.{ℕ}
-use Rattle.std.specs.Prelude.{Ok}
+use Rattle.std.specs.Prelude.{Ok, Result}
+use Rattle.collection.specs.declared.refusal.Refusal.{Refusal}
 use Rattle.lists.specs.Count.{count_from, sum, agree}
 use Rattle.lists.specs.Every.{every, same}
 use Rattle.lists.specs.First.{first_from}
@@ -20,9 +21,10 @@ use Rattle.repeats.specs.Check.{any_that, alike, repeated, first_repeat}
 use Rattle.cover_trails.specs.Groups.{least}
 use Rattle.runs.specs.Runs.{later_runs, runs, inner_runs}
 use Rattle.summary_counts.specs.Counts.{is_in, fresh, distinct, largest, bits_from, bits_for, bits_of}
+use Rattle.summary_text.specs.declared.Numbers.{Numbers}
 use Rattle.summary_text.specs.Text.{entry, line, lines, counted_text, text_for}
 use Rattle.summary.specs.Summary.{numbers_of, checked_of, long_verdict, lines_verdict, summary_of}
-use Rattle.summary.specs.Report.{text_of}
+use Rattle.summary.specs.Report.{as_told, text_of}
 
 -- the sheet, line by line
 abbrev pub sheet : List ℕ
@@ -58,5 +60,5 @@ text =
 
 -- the sheet gives them
 pub sheet_text_lem : text_of sheet ≡ text
-unfolding text_of text_for counted_text lines line entry digits digits_in
-sheet_text_lem = ap text_for sheet_summary
+unfolding text_of as_told text_for counted_text lines line entry digits digits_in
+sheet_text_lem = ap (λ (s : Result Numbers Refusal). text_for (as_told s)) sheet_summary

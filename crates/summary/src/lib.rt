@@ -6,9 +6,18 @@ mod telling;
 
 ghost use Rattle.std.specs.Prelude.{◌≡◌, ◌≤◌, length};
 ghost use Rattle.summary_text.specs.Written.{outcome};
-ghost use Rattle.summary.specs.Report.{text_of, report_of};
+ghost use Rattle.summary.specs.Report.{as_told, text_of, report_of};
 
-use collection::Refusal;
+use collection::{Refusal, Told};
+use summary_text::Numbers;
+
+// A summary as it is told: the numbers, or the number and the place of the refusal.
+#[tactic(auto, unfolding(crate::specs::Report::as_told))]
+fn as_told(summary: Result<Numbers, Refusal>) -> Result<Numbers, Told>
+    ensures { result ≡ as_told summary }
+{
+    summary.map_err(Refusal::told)
+}
 
 // Writes what there is to say of a sheet; answers how many bytes it wrote. The tables that READ, CHECK and COVER need stand on the stack; a sheet of at most
 // 8,192 bytes fits them. 247 bytes are room for every report.
@@ -29,5 +38,5 @@ pub fn report(sheet: &[u8], text: &mut [u8]) -> Result<usize, Refusal>
         &mut places,
         &mut work,
     );
-    summary_text::write_summary(s, text)
+    summary_text::write_summary(as_told(s), text)
 }

@@ -1,7 +1,6 @@
 -- The lines that `tally` writes: one of a refusal, or nine of numbers.
 -- Specification: 10.2.
-use Rattle.collection.specs.Verdict.{number_of, place_of}
-use Rattle.collection.specs.declared.refusal.Refusal.{Refusal}
+use Rattle.collection.specs.declared.refusal.Told.{Told}
 use Rattle.std.specs.Prelude.{List, [], ◌∷◌, ◌++◌, ℕ, Ok, Err, Result}
 use Rattle.text.specs.Numbers.{digits}
 use Rattle.text.specs.Parts.{tab, feed}
@@ -84,7 +83,7 @@ counted_text n =
 unfoldable pub refused_text : ℕ → ℕ → List ℕ
 refused_text number place = entry refused_label number ++ line [] place
 
--- what is written of a summary
-unfoldable pub text_for : Result Numbers Refusal → List ℕ
+-- what is written of a summary: its numbers, or the number and the place that are told of a refusal, whichever they are
+unfoldable pub text_for : Result Numbers Told → List ℕ
 text_for (Ok numbers) = counted_text numbers
-text_for (Err r) = refused_text (number_of r) (place_of r)
+text_for (Err t) = refused_text t.number t.place

@@ -9,7 +9,7 @@ ghost use Rattle.text.specs.Numbers.{digits};
 ghost use Rattle.summary_text.specs.Text.{counted_text, refused_text, text_for};
 ghost use Rattle.summary_text.specs.Written.{outcome, written_of};
 
-use collection::Refusal;
+use collection::{Refusal, Told};
 
 // The nine numbers of a collection.
 #[derive(Clone, Copy, Debug, PartialEq, Eq)]
@@ -90,12 +90,12 @@ fn write_refused(number: usize, place: usize, text: &mut [u8]) -> Result<usize, 
 // Writes what there is to say of a sheet, the numbers of its collection or why it is refused, where it has room (else 1); answers how many bytes it wrote. 247
 // bytes are room for every summary.
 #[tactic(auto, unfolding(crate::specs::Text::text_for))]
-pub fn write_summary(summary: Result<Numbers, Refusal>, text: &mut [u8]) -> Result<usize, Refusal>
+pub fn write_summary(summary: Result<Numbers, Told>, text: &mut [u8]) -> Result<usize, Refusal>
     ensures text_after { outcome result text.new ≡ written_of (text_for summary) text.old }
     ensures summary_len_bound { length (text_for summary) ≤ 247 }
 {
     match summary {
         Ok(numbers) => write_counted(numbers, text),
-        Err(refusal) => write_refused(refusal.number() as usize, refusal.place(), text),
+        Err(told) => write_refused(told.number as usize, told.place, text),
     }
 }

@@ -231,11 +231,15 @@ module _ (sep : ℕ) where
               ∙ (step_go most v i (get_or s i 0) (field sep (drop (i + 1) s)) d (ap (in_range most) (sym e) ∙ g)
               ∙ ap (λ (x : ℕ). number_from most x (i + 1) (field sep (drop (i + 1) s))) (sym e))
 
-  -- at the end of the text, or beyond it with no digit read
-  pub walk_none : (s : List ℕ) (most v i : ℕ) → length s ≤ i → (length s < i → v ≡ 0)
-      → number_from most v i (field sep (drop i s)) ≡ ended_at most v (length s)
+  -- at the end of the text, or beyond it
+  pub walk_none : (s : List ℕ) (most v i : ℕ) → length s ≤ i → number_from most v i (field sep (drop i s)) ≡ ended_at most v i
   unfolding number_from
-  walk_none s most v i h z = ap (number_from most v i) (field-none s i h) ∙ go (lt_or_le (length s) i)
+  walk_none s most v i h = ap (number_from most v i) (field-none s i h)
+
+  -- the same by the text's length, where no digit is read beyond it
+  pub walk_over : (s : List ℕ) (most v i : ℕ) → length s ≤ i → (length s < i → v ≡ 0)
+      → number_from most v i (field sep (drop i s)) ≡ ended_at most v (length s)
+  walk_over s most v i h z = walk_none s most v i h ∙ go (lt_or_le (length s) i)
     where
       go : (length s < i) ⊎ (i ≤ length s) → ended_at most v i ≡ ended_at most v (length s)
       go (inl l) = rw (z l)

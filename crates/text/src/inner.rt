@@ -55,7 +55,7 @@ pub fn copy_bytes(s: &[u8], at: usize, e: usize, out: &mut [u8], o: usize)
     ensures { out.new ≡ put o (take (e - at) (drop at s.now)) out.old }
 {
     let part = &mut out[o..o + (e - at)];
-    part.copy_from_slice(&s[at..e]);
+    lists::inner::copy_first(&s[at..e], part);
 }
 
 // Whether a byte is a digit.

@@ -4,7 +4,7 @@ use mathlib.Core.Path.{sym, ap, refl, ◌∙◌}
 use mathlib.Core.Bool.{not}
 use native.Mathlib.Omega.{arith}
 use Rattle.text.proofs.Tests.{told_no, told_yes}
-use Rattle.text.proofs.OneNumber.{walk_field, walk_end, walk_bad, walk_next, walk_none, range_bounds}
+use Rattle.text.proofs.OneNumber.{walk_field, walk_end, walk_bad, walk_next, walk_over, range_bounds}
 use Rattle.text.proofs.inner.number_at.Goals as goal
 
 pub loop-i-init : goal.loop-i-init
@@ -33,4 +33,4 @@ loop-i-preserved c =
 pub returns : goal.returns
 returns c =
     let i = c.loop-i.invariant in
-    c.ended.ensures ∙ (sym (walk_none c.args.sep _ c.args.most _ _ c.loop-i-test.false i.unread) ∙ sym i.finds)
+    c.ended.ensures ∙ (sym (walk_over c.args.sep _ c.args.most _ _ c.loop-i-test.false i.unread) ∙ sym i.finds)
