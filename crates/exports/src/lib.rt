@@ -44,7 +44,7 @@ pub fn corrivume_read(
         return 1;
     }
     let a = sheet_read::read(sheet, letters, ends, weights);
-    let reply = exports_replies::inner::read_reply(a);
+    let reply = exports_replies::inner::read_reply(exports_replies::inner::as_told(a));
     exports_replies::inner::tell(answer, reply)
 }
 
@@ -71,7 +71,7 @@ pub fn corrivume_write(
         weights,
     };
     let a = sheet_write::write(given, sheet);
-    let reply = exports_replies::inner::count_reply(a);
+    let reply = exports_replies::inner::count_reply(exports_replies::inner::as_told(a));
     exports_replies::inner::tell(answer, reply)
 }
 
@@ -98,7 +98,7 @@ pub fn corrivume_check(
         weights,
     };
     let a = repeats::check(given, work);
-    let reply = exports_replies::inner::count_reply(a);
+    let reply = exports_replies::inner::count_reply(exports_replies::inner::as_told(a));
     exports_replies::inner::tell(answer, reply)
 }
 
@@ -125,7 +125,7 @@ pub fn corrivume_cover(
         weights,
     };
     let a = cover::cover(given, places, work);
-    let reply = exports_replies::inner::cover_reply(a);
+    let reply = exports_replies::inner::cover_reply(exports_replies::inner::as_told(a));
     exports_replies::inner::tell(answer, reply)
 }
 
@@ -159,7 +159,7 @@ pub fn corrivume_apply(
         weights,
     };
     let a = apply::apply(given, signed, new_letters, new_ends, new_weights, work);
-    let reply = exports_replies::inner::apply_reply(a);
+    let reply = exports_replies::inner::apply_reply(exports_replies::inner::as_told(a));
     exports_replies::inner::tell(answer, reply)
 }
 
@@ -187,7 +187,7 @@ pub fn corrivume_runs(
         weights,
     };
     let a = runs::runs(given, run_weights, run_firsts);
-    let reply = exports_replies::inner::count_reply(a);
+    let reply = exports_replies::inner::count_reply(exports_replies::inner::as_told(a));
     exports_replies::inner::tell(answer, reply)
 }
 
@@ -210,7 +210,7 @@ pub fn corrivume_weight(
         firsts: run_firsts,
     };
     let a = weight::weight(list, n, handle);
-    let reply = exports_replies::inner::weight_reply(a);
+    let reply = exports_replies::inner::weight_reply(exports_replies::inner::as_told(a));
     exports_replies::inner::tell(answer, reply)
 }
 
@@ -230,7 +230,7 @@ pub fn corrivume_access(
     }
     let given = Spelling { k, letters, ends };
     let a = access::access_at(given, handle);
-    let reply = exports_replies::inner::access_reply(k, a);
+    let reply = exports_replies::inner::access_reply(k, exports_replies::inner::as_told(a));
     exports_replies::inner::tell(answer, reply)
 }
 
@@ -257,7 +257,7 @@ pub fn corrivume_plain(
         weights,
     };
     let a = plain::plain(given, word);
-    let reply = exports_replies::inner::plain_reply(a);
+    let reply = exports_replies::inner::plain_reply(exports_replies::inner::as_told(a));
     exports_replies::inner::tell(answer, reply)
 }
 
@@ -291,7 +291,7 @@ pub fn corrivume_index(
         weights,
     };
     let a = index::index(given, p, firsts, positions, numbers, before, work);
-    let reply = exports_replies::inner::index_reply(a);
+    let reply = exports_replies::inner::index_reply(exports_replies::inner::as_told(a));
     exports_replies::inner::tell(answer, reply)
 }
 
@@ -322,7 +322,7 @@ pub fn corrivume_quick(
         before,
     };
     let a = quick::quick(k, p, word, letters, index);
-    let reply = exports_replies::inner::quick_reply(a);
+    let reply = exports_replies::inner::quick_reply(exports_replies::inner::as_told(a));
     exports_replies::inner::tell(answer, reply)
 }
 
@@ -362,6 +362,6 @@ pub fn corrivume_weigh(
         firsts: run_firsts,
     };
     let a = quick::weigh(k, p, word, letters, index, list, n);
-    let reply = exports_replies::inner::weigh_reply(a);
+    let reply = exports_replies::inner::weigh_reply(exports_replies::inner::as_told(a));
     exports_replies::inner::tell(answer, reply)
 }

@@ -4,16 +4,17 @@ ghost use Rattle.exports_replies.specs.Told.{told, told_of, values_of};
 ghost use Rattle.lists.specs.Fill.{fill};
 ghost use Rattle.exports_replies.specs.Replies.{
   side_of,
-  read_reply,
-  count_reply,
-  cover_reply,
-  apply_reply,
-  weight_reply,
-  access_reply,
-  plain_reply,
-  index_reply,
-  quick_reply,
-  weigh_reply,
+  as_told,
+  read_told,
+  count_told,
+  cover_told,
+  apply_told,
+  weight_told,
+  access_told,
+  plain_told,
+  index_told,
+  quick_told,
+  weigh_told,
 };
 
 use crate::Reply;
@@ -33,11 +34,19 @@ fn side_of(side: Side) -> u64
     }
 }
 
-// READ: k, and how many letters, ends and weights were filled.
-pub fn read_reply(answer: Result<sheet::Filled, Refusal>) -> Result<Reply, Told>
-    ensures { result ≡ read_reply answer }
+// An answer as it is told: a refusal by its number and its place.
+#[tactic(auto, unfolding(collection::specs::Verdict::told))]
+pub fn as_told<A: Copy>(answer: Result<A, Refusal>) -> Result<A, Told>
+    ensures { result ≡ as_told answer }
 {
-    let filled = answer.map_err(Refusal::told)?;
+    answer.map_err(Refusal::told)
+}
+
+// READ: k, and how many letters, ends and weights were filled.
+pub fn read_reply(answer: Result<sheet::Filled, Told>) -> Result<Reply, Told>
+    ensures { result ≡ read_told answer }
+{
+    let filled = answer?;
     Ok(Reply::Four(
         filled.k as u64,
         filled.letters as u64,
@@ -47,26 +56,26 @@ pub fn read_reply(answer: Result<sheet::Filled, Refusal>) -> Result<Reply, Told>
 }
 
 // WRITE, CHECK and RUNS: how many bytes were written, k-mers were looked at, or runs were filled in each table.
-pub fn count_reply(answer: Result<usize, Refusal>) -> Result<Reply, Told>
-    ensures { result ≡ count_reply answer }
+pub fn count_reply(answer: Result<usize, Told>) -> Result<Reply, Told>
+    ensures { result ≡ count_told answer }
 {
-    let count = answer.map_err(Refusal::told)?;
+    let count = answer?;
     Ok(Reply::One(count as u64))
 }
 
 // COVER: the paths, and how many places were filled.
-pub fn cover_reply(answer: Result<Covered, Refusal>) -> Result<Reply, Told>
-    ensures { result ≡ cover_reply answer }
+pub fn cover_reply(answer: Result<Covered, Told>) -> Result<Reply, Told>
+    ensures { result ≡ cover_told answer }
 {
-    let covered = answer.map_err(Refusal::told)?;
+    let covered = answer?;
     Ok(Reply::Two(covered.paths as u64, covered.places as u64))
 }
 
 // APPLY: how many letters, ends and weights were filled.
-pub fn apply_reply(answer: Result<apply::Filled, Refusal>) -> Result<Reply, Told>
-    ensures { result ≡ apply_reply answer }
+pub fn apply_reply(answer: Result<apply::Filled, Told>) -> Result<Reply, Told>
+    ensures { result ≡ apply_told answer }
 {
-    let filled = answer.map_err(Refusal::told)?;
+    let filled = answer?;
     Ok(Reply::Three(
         filled.letters as u64,
         filled.ends as u64,
@@ -75,44 +84,44 @@ pub fn apply_reply(answer: Result<apply::Filled, Refusal>) -> Result<Reply, Told
 }
 
 // WEIGHT: the weight.
-pub fn weight_reply(answer: Result<u32, Refusal>) -> Result<Reply, Told>
-    ensures { result ≡ weight_reply answer }
+pub fn weight_reply(answer: Result<u32, Told>) -> Result<Reply, Told>
+    ensures { result ≡ weight_told answer }
 {
-    let weight = answer.map_err(Refusal::told)?;
+    let weight = answer?;
     Ok(Reply::One(weight as u64))
 }
 
 // ACCESS: the position of the first of the k letters, and k.
-pub fn access_reply(k: usize, answer: Result<usize, Refusal>) -> Result<Reply, Told>
-    ensures { result ≡ access_reply k answer }
+pub fn access_reply(k: usize, answer: Result<usize, Told>) -> Result<Reply, Told>
+    ensures { result ≡ access_told k answer }
 {
-    let position = answer.map_err(Refusal::told)?;
+    let position = answer?;
     Ok(Reply::Two(position as u64, k as u64))
 }
 
 // PLAIN: the handle and the side; an absent word has handle 0.
-pub fn plain_reply(answer: Result<Option<Standing>, Refusal>) -> Result<Reply, Told>
-    ensures { result ≡ plain_reply answer }
+pub fn plain_reply(answer: Result<Option<Standing>, Told>) -> Result<Reply, Told>
+    ensures { result ≡ plain_told answer }
 {
-    match answer.map_err(Refusal::told)? {
+    match answer? {
         Some(standing) => Ok(Reply::Two(standing.handle as u64, side_of(standing.side))),
         None => Ok(Reply::Two(0, 0)),
     }
 }
 
 // INDEX: how many stretches were filled in each of three tables, and how many entries in the fourth.
-pub fn index_reply(answer: Result<Indexed, Refusal>) -> Result<Reply, Told>
-    ensures { result ≡ index_reply answer }
+pub fn index_reply(answer: Result<Indexed, Told>) -> Result<Reply, Told>
+    ensures { result ≡ index_told answer }
 {
-    let indexed = answer.map_err(Refusal::told)?;
+    let indexed = answer?;
     Ok(Reply::Two(indexed.stretches as u64, indexed.starts as u64))
 }
 
 // QUICK: the handle, the side and the number compared; an absent word has handle 0.
-pub fn quick_reply(answer: Result<QuickAnswer, Refusal>) -> Result<Reply, Told>
-    ensures { result ≡ quick_reply answer }
+pub fn quick_reply(answer: Result<QuickAnswer, Told>) -> Result<Reply, Told>
+    ensures { result ≡ quick_told answer }
 {
-    match answer.map_err(Refusal::told)? {
+    match answer? {
         QuickAnswer::Found {
             handle,
             side,
@@ -123,10 +132,10 @@ pub fn quick_reply(answer: Result<QuickAnswer, Refusal>) -> Result<Reply, Told>
 }
 
 // The weight of a word: 1 and the weight; an absent word has 0 and 0.
-pub fn weigh_reply(answer: Result<Option<u32>, Refusal>) -> Result<Reply, Told>
-    ensures { result ≡ weigh_reply answer }
+pub fn weigh_reply(answer: Result<Option<u32>, Told>) -> Result<Reply, Told>
+    ensures { result ≡ weigh_told answer }
 {
-    let Some(weight) = answer.map_err(Refusal::told)? else {
+    let Some(weight) = answer? else {
         return Ok(Reply::Two(0, 0));
     };
     Ok(Reply::Two(1, weight as u64))

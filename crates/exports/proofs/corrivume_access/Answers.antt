@@ -1,6 +1,6 @@
 -- `corrivume_access` meets its contract: the answer table is judged, then the call is made and its answer told. Assumes nothing.
 use mathlib.Core.Path.{ap, ◌∙◌}
-use Rattle.exports_replies.specs.Replies.{access_reply}
+use Rattle.exports_replies.specs.Replies.{access_told, access_reply}
 use Rattle.exports_replies.specs.Exported.{none}
 use Rattle.exports_replies.proofs.Telling.{too_short, shown}
 use Rattle.exports.proofs.corrivume_access.Goals as goal
@@ -11,4 +11,4 @@ returns-then-answer-lt-ANSWER c = too_short c.args.answer.now _ none c.if-answer
 pub returns : goal.returns
 returns c =
     shown c.args.answer.now none c.if-answer-lt-ANSWER.false
-    (c.access_reply-reply.ensures ∙ ap (access_reply _) c.access_at-a.ensures) c.tell.ensures
+    (c.access_reply-reply.ensures ∙ ap (access_told _) c.as_told.ensures ∙ ap (access_reply _) c.access_at-a.ensures) c.tell.ensures
