@@ -23,5 +23,6 @@ returns c =
     record {
       given = c.cover-a.result;
       promised = λ h. c.cover-a.ensures;
-      shown = shown a.answer.now (a.places.now, a.work.now) c.if-answer-lt-ANSWER.false (c.cover_reply-reply.ensures ∙ ap cover_told c.as_told.ensures) c.tell.ensures;
+      shown = shown a.answer.now (a.places.now, a.work.now) c.if-answer-lt-ANSWER.false
+          (c.cover_reply-reply.ensures ∙ ap cover_told c.as_told.ensures) c.tell.ensures;
     }

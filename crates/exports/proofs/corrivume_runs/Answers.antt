@@ -11,5 +11,6 @@ returns-then-answer-lt-ANSWER c = let a = c.args in too_short a.answer.now _ _ c
 pub returns : goal.returns
 returns c =
     let a = c.args in
-    shown a.answer.now (a.run_weights.now, a.run_firsts.now) c.if-answer-lt-ANSWER.false (c.count_reply-reply.ensures ∙ ap count_told c.as_told.ensures) c.tell.ensures
+    shown a.answer.now (a.run_weights.now, a.run_firsts.now) c.if-answer-lt-ANSWER.false
+    (c.count_reply-reply.ensures ∙ ap count_told c.as_told.ensures) c.tell.ensures
     ∙ ap (runs_exported a.answer.now (a.run_weights.now, a.run_firsts.now)) c.runs-a.ensures
