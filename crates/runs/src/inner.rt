@@ -37,12 +37,13 @@ pub fn fill_runs(weights: &[u32], run_weights: &mut [u32], run_firsts: &mut [u32
     run_firsts[0] = 1;
     let mut at = 1;
     // Handles count from 1, so entry i of the rest has handle i + 2.
-    for (i, v) in rest.iter().enumerate() {
-        if *v != w {
-            run_weights[at] = *v;
+    for (i, weight) in rest.iter().enumerate() {
+        let v = *weight;
+        if v != w {
+            run_weights[at] = v;
             run_firsts[at] = (i + 2) as u32;
             at += 1;
-            w = *v;
+            w = v;
         }
     }
 }

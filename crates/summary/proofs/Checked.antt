@@ -18,7 +18,7 @@ use Rattle.collection.specs.Verdict.{at_place, settle, Verdict, good}
 use Rattle.collection.proofs.Judged.{Judged, collection_good}
 use Rattle.collection.proofs.Verdicts.{then_good, settled}
 use Rattle.collection.proofs.Verdicts.{good_room}
-use Rattle.repeats.specs.Check.{first_repeat, check_verdict, check_of, outcome}
+use Rattle.repeats.specs.Check.{first_repeat, check_verdict, check_of, Outcome, outcome}
 use Rattle.cover_trails.specs.Groups.{least}
 use Rattle.collection.specs.Ready.{Strung}
 use Rattle.collection.specs.EndWeights.{end_weights}
@@ -93,17 +93,39 @@ module _ (c : Collection) (passes : Passes c) where
     unfolding check_of
     words_checked = sym (settled _ refl check_good)
 
-  -- v is what CHECK says
+    module _ {a : Result ℕ Refusal} {work' : List ℕ} (e : outcome a work' ≡ check_of c work) where
+      check_answers : a ≡ settle (at_place Repeated (first_repeat (spelling_of c))) Err (Ok (kmers_in (spelling_of c)))
+      check_answers = ap (λ (o : Outcome). o.answer) (e ∙ words_checked)
+
+      -- a refusal of CHECK is one of `tally`
+      pub check_refused : {r : Refusal} → a ≡ Err r → Err r ≡ checked_of c
+      unfolding checked_of settle
+      check_refused {r} q = go (at_place Repeated (first_repeat (spelling_of c))) (sym check_answers ∙ q)
+        where
+          go : (v : Verdict) → settle v Err (Ok (kmers_in (spelling_of c))) ≡ Err r → Err r ≡ settle v Err (Ok (numbers_of c))
+          go (Ok u) h = refuted (cc)
+          go (Err x) h = let p : r ≡ x = cc in ap (λ (y : Refusal). Err y) p
+
+      -- else the numbers count
+      pub check_passed : {n : ℕ} → a ≡ Ok n → {s : Result Numbers Refusal} → s ≡ Ok (numbers_of c) → s ≡ checked_of c
+      unfolding checked_of settle
+      check_passed {n} q {s} r = go (at_place Repeated (first_repeat (spelling_of c))) (sym check_answers ∙ q)
+        where
+          go : (v : Verdict) → settle v Err (Ok (kmers_in (spelling_of c))) ≡ Ok n → s ≡ settle v Err (Ok (numbers_of c))
+          go (Ok u) h = r
+          go (Err x) h = refuted (cc)
+
+  -- v is what there is to say of the words
   module _ {v : Verdict} (e : v ≡ at_place Repeated (first_repeat (spelling_of c))) where
-    -- a refusal of CHECK is one of `tally`
-    pub check_refused : {r : Refusal} → v ≡ Err r → Err r ≡ checked_of c
+    -- a repeated word is a refusal of `tally`
+    pub words_refused : {r : Refusal} → v ≡ Err r → Err r ≡ checked_of c
     unfolding checked_of settle
-    check_refused {r} q = rw (sym e ∙ q) refl
+    words_refused {r} q = rw (sym e ∙ q) refl
 
     -- else the numbers count
-    pub check_passed : {u : Unit {0}} → v ≡ Ok u → {s : Result Numbers Refusal} → s ≡ Ok (numbers_of c) → s ≡ checked_of c
+    pub words_passed : {u : Unit {0}} → v ≡ Ok u → {s : Result Numbers Refusal} → s ≡ Ok (numbers_of c) → s ≡ checked_of c
     unfolding checked_of settle
-    check_passed {u} q {s} r = rw (sym e ∙ q) r
+    words_passed {u} q {s} r = rw (sym e ∙ q) r
 
   -- and of the ends
   pub strung : Strung c.k c.ends c.weights

@@ -1,5 +1,6 @@
 -- `total` meets its contract: `sum` folds over the weights. Assumes nothing.
 use mathlib.Core.Path.{◌∙◌}
+use native.Mathlib.Omega.{arith}
 use borrow.Author.Tests.{tests}
 use Rattle.std.proofs.Common.{rules}
 use Rattle.std.proofs.lemmas.Iterator.{YieldsList-from_slice, YieldsList-from_map}
@@ -9,7 +10,7 @@ use Rattle.summary_counts.proofs.inner.total.Goals as goal
 
 pub returns : goal.returns
 returns c =
-    sum_by_from_yields_List (λ x. x) c.args.weights.now c.map.result _ c.sum.ensures.ran
+    let s = sum_by_from_yields_List (λ x. x) c.args.weights.now c.map.result _ c.sum.ensures.ran
     (YieldsList-from_map _ (λ x. x) (YieldsList-at c.map.ensures.source (YieldsList-from_slice c.args.weights.now c.iter.ensures.rest)) c.map.ensures.closure
-    (λ x r q k. search (rules, tests)))
-    ∙ sum_folded c.args.weights.now
+    (λ x r q k. search (rules, tests))) in
+    omega (arith, s ∙ sum_folded c.args.weights.now)
