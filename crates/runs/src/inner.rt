@@ -36,7 +36,7 @@ pub fn fill_runs(weights: &[u32], run_weights: &mut [u32], run_firsts: &mut [u32
     run_weights[0] = w;
     run_firsts[0] = 1;
     let mut at = 1;
-    // Handles count from 1, so entry i of the rest has handle i + 2.
+    // Handles count from 1, so entry i of the rest has handle i + 2. A weight is read once: named again behind the stores it would be read again.
     for (i, weight) in rest.iter().enumerate() {
         let v = *weight;
         if v != w {
